@@ -1,0 +1,88 @@
+-- How a history begins, and how it goes on by one event.
+use Rattle.std.proofs.Common.{◌≡◌, ℕ, ◌<◌, ◌≤◌, length, List, [], ◌∷◌, ◌++◌, Bool, Option, None, Some, Ok, false, refl, subst, ap, arith}
+use Rattle.std.proofs.lemmas.List.Elements.{All-push, All-nil}
+use Rattle.std.proofs.lemmas.Bool.Decides.{nat_tests}
+use Rattle.po_unit.specs.Meaning.{Meaning}
+use Rattle.po_actions.specs.declared.event.Event.{Event}
+use Rattle.po_actions.specs.ObjectState.{ObjectState, opening_state, gate_in, IsAtRest}
+use Rattle.po_actions.specs.WaitingCalls.{is_due}
+use Rattle.po_actions.specs.Tickets.{number_at, AreIssued}
+use Rattle.po_actions.specs.Step.{replay, IsLegal, Needs, step}
+use Rattle.po_actions.specs.Base.{Base, opening_base, state_with, state_at}
+use Rattle.po_actions.specs.Making.{Making}
+use Rattle.po_actions.specs.View.{IsInOnePlace, opening_view}
+use Rattle.po_index.specs.Numbering.{entry_count}
+use Rattle.po_actions.specs.Public.{NamesPublic}
+use Rattle.po_actions.specs.History.{IsHistory, IsKept}
+use Rattle.po_actions.specs.Pick.{owed, served_last}
+use Rattle.po_actions.proofs.Settling.{last-push}
+use Rattle.po_actions.proofs.Runs.{kept_on}
+use Rattle.po_actions.proofs.Ends.{ended_on, ends_stay}
+
+module _ {S V : Type 0} (m : Meaning S V) (making : Making S) where
+  placed_opening : (u : S) → IsInOnePlace {S = S} {V = V} making.first_number (opening_state u making.first_number)
+  placed_opening u = λ k. grind (arith, nat_tests)
+
+  pub history_opens : m.entries making.opening ≡ entry_count making.shape → IsHistory m making (opening_base making.opening making.first_number making.first_place) (opening_state making.opening making.first_number) []
+  history_opens shaped = record {
+    base = record {
+      shaped = shaped;
+      low = omega arith;
+      placed = placed_opening making.opening;
+      range = All-nil (λ x. x.entry < m.entries making.opening);
+      rises = tt;
+      before = All-nil (λ x. 0 < making.first_place);
+      emptied = λ _. refl;
+      ended = omega arith;
+      ran = omega arith;
+    };
+    legal = tt;
+    leads = refl;
+    public = All-nil (NamesPublic making.shape);
+  }
+
+  pub history_goes_on : (b : Base S V) (p r : ObjectState S V) (es : List (Event V)) (e : Event V) → IsHistory m making b p es → Needs m p e → NamesPublic making.shape e → r ≡ step m making.max_queue p e → IsHistory m making b r (es ++ e ∷ [])
+  history_goes_on b p r es e h need named is =
+      let limit = making.max_queue in
+      let first = making.first_number in
+      let same : state_at b p.ended ≡ state_at b r.ended = ap (state_with b) (ends_stay m limit p r e b.ended is h.base.ended) in
+      let k = kept_on m limit (state_at b p.ended) p r es e h.leads h.legal need is in record {
+        base = record {
+          shaped = h.base.shaped;
+          low = h.base.low;
+          placed = subst (IsInOnePlace first) same h.base.placed;
+          range = h.base.range;
+          rises = h.base.rises;
+          before = h.base.before;
+          emptied = h.base.emptied;
+          ended = ended_on m limit p r e b.ended is h.base.ended;
+          ran = h.base.ran;
+        };
+        legal = subst (λ q. IsLegal m limit q (es ++ e ∷ [])) same k.legal;
+        leads = subst (λ q. replay m limit q (es ++ e ∷ []) ≡ r) same k.leads;
+        public = All-push (NamesPublic making.shape) es e h.public named;
+      }
+
+  -- what an object keeps goes on by one event
+  pub kept_goes_on : (b : Base S V) (p r : ObjectState S V) (es : List (Event V)) (last : Option ℕ) (room k more j : ℕ) (e : Event V) → IsKept m making b p es last room k → Needs m p e → NamesPublic making.shape e → r ≡ step m making.max_queue p e → owed m r ≤ more → j ≤ length p.ended → IsKept m making b r (es ++ e ∷ []) (served_last last e) more j
+  kept_goes_on b p r es last room k more j e h need named is enough before = record {
+    history = history_goes_on b p r es e h.history need named is;
+    counted = enough;
+    last = last-push b.last last es e h.last;
+    shown = ended_on m making.max_queue p r e j is before;
+  }
+
+  -- what an object that was just made keeps
+  pub kept_opens : m.entries making.opening ≡ entry_count making.shape → IsKept m making (opening_base making.opening making.first_number making.first_place) (opening_state making.opening making.first_number) [] None 1 0
+  kept_opens shaped = record { history = history_opens shaped; counted = omega arith; last = refl; shown = omega arith }
+
+-- an object that was just made is at rest
+pub rest_opening : {S V : Type 0} (m : Meaning S V) (u : S) (first : ℕ) → IsAtRest {V = V} m (opening_state u first)
+rest_opening {V} m u first = record { quiet = All-nil (λ x. gate_in {V = V} m (opening_state u first) x.entry ≡ Ok false); none_due = All-nil (λ x. is_due 0 x ≡ false) }
+
+-- and has no ticket
+pub issued_opening : {S : Type 0} (V : Type 0) (making : Making S) → AreIssued {V = V} (record { object = opening_view making; tickets = [] })
+issued_opening V making = λ key n is. absurd (none key n is)
+  where
+    none : (key n : ℕ) → number_at [] key ≡ Some n → ⊥
+    none key n e = cc

@@ -1,0 +1,17 @@
+pub mod Lists
+pub mod Runs
+pub mod Sums
+pub mod Places
+pub mod Wells
+pub mod Picks
+pub mod Falls
+pub mod Settling
+pub mod Orders
+pub mod Soundness
+pub mod Ends
+pub mod Histories
+pub mod Turns
+pub mod Between
+pub mod Trails
+pub mod TicketLemmas
+pub mod Aborts

@@ -1,0 +1,43 @@
+-- The order in which calls arrived on their queues, read off the history (9.5.3, D.4).
+use Rattle.std.specs.Prelude.{ℕ, ◌+◌, ◌<◌, ◌==◌, List, [], ◌∷◌, Option, Some, None, if◌then◌else◌, find, All, option_map}
+use Rattle.po_unit.specs.Meaning.{Meaning}
+use Rattle.po_actions.specs.declared.call.Call.{Call}
+use Rattle.po_actions.specs.declared.event.Event.{Event}
+use Rattle.po_actions.specs.declared.event.Event.TheVariants.{Issue, Serve}
+use Rattle.po_actions.specs.WaitingCalls.{is_on}
+use Rattle.po_actions.specs.ObjectState.{ObjectState}
+use Rattle.po_actions.specs.Step.{step}
+use Rattle.po_actions.specs.Base.{arrived}
+use Rattle.po_actions.specs.View.{View, base_state}
+
+-- the places, with place k noted for the call in the stead of an earlier one
+abbrev pub noted : (ℕ → ℕ) → ℕ → Option ℕ → ℕ → ℕ
+noted places k None n = places n
+noted places k (Some m) n = if n == m then k else places n
+
+-- The calls stand in the order of their places, which rise strictly.
+abbrev pub Rises : {V : Type 0} → (ℕ → ℕ) → List (Call V) → Type 0
+Rises places [] = Unit {0}
+Rises places (x ∷ xs) = All (λ y. places x.number < places y.number) xs × Rises places xs
+
+module _ {S V : Type 0} where
+  -- the call that an event queues or may queue: the one that it issues, or the one that it serves, which may be requeued
+  abbrev pub call_of : ObjectState S V → Event V → Option ℕ
+  call_of s (Issue n owner e v d) = Some n
+  call_of s (Serve e) = option_map (λ x. x.number) (find (is_on e) s.waiting)
+  call_of s other = None
+
+  -- of each call the place of the last event whose call it is, where the events stand from place k on
+  abbrev pub arrivals : Meaning S V → Option ℕ → ObjectState S V → ℕ → (ℕ → ℕ) → List (Event V) → ℕ → ℕ
+  arrivals m limit s k places [] n = places n
+  arrivals m limit s k places (event ∷ events) n =
+      arrivals m limit (step m limit s event) (k + 1) (noted places k (call_of s event)) events n
+
+  -- the place in the whole history at which the call with number n arrived on its queue
+  abbrev pub arrival : Meaning S V → View S V → ℕ → ℕ
+  arrival m view n =
+      arrivals m view.making.max_queue (base_state view) view.base.place (arrived view.base) view.events n
+
+  -- The waiting calls, and so those of each queue, stand in order of arrival.
+  abbrev pub IsInOrderOfArrival : Meaning S V → View S V → Type 0
+  IsInOrderOfArrival m view = Rises (arrival m view) view.state.waiting

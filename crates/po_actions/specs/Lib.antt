@@ -1,0 +1,17 @@
+pub mod WaitingCalls
+pub mod ObjectState
+pub mod Step
+pub mod Pick
+pub mod Base
+pub mod Public
+pub mod Making
+pub mod View
+pub mod Arrival
+pub mod Progress
+pub mod ProtectedAction
+pub mod Tickets
+pub mod RefusalNumbers
+pub mod Refusals
+pub mod History
+pub mod Headline
+pub mod Room

@@ -1,0 +1,89 @@
+-- Which inner event comes next, by the service order. The orders are this project's own, within what FIFO_Queuing (D.4) leaves open.
+use Rattle.std.specs.Prelude.{ℕ, ◌≡◌, ◌+◌, List, [], ◌∷◌, ◌++◌, map, take, drop, Bool, true, false, Result, Ok, Err, Option, Some, None, find, IsSome, ◌<◌, sum_by, option_map, if◌then◌else◌}
+use Rattle.std.specs.List.{list_any}
+use Rattle.po_unit.specs.Meaning.{Meaning}
+use Rattle.po_actions.specs.declared.call.Call.{Call}
+use Rattle.po_actions.specs.declared.order.Order.{Order}
+use Rattle.po_actions.specs.declared.order.Order.TheVariants.{Textual, Oldest, Rotating}
+use Rattle.po_actions.specs.declared.event.Event.{Event}
+use Rattle.po_actions.specs.declared.event.Event.TheVariants.{Issue, Ran, Abort, Tick, Final, Serve, Break, Expire}
+use Rattle.po_actions.specs.WaitingCalls.{below, has_number, is_on, is_due}
+use Rattle.po_actions.specs.ObjectState.{ObjectState, gate_in, IsQuiet}
+use Rattle.po_actions.specs.Step.{step, IsFound}
+
+-- the first, or the second where there is no first
+abbrev pub or_else : {X : Type 0} → Option X → Option X → Option X
+or_else None other = other
+or_else (Some x) other = Some x
+
+-- what the first of the elements gives that gives something
+abbrev pub first_some : {X Y : Type 0} → (X → Option Y) → List X → Option Y
+first_some f [] = None
+first_some f (x ∷ xs) = or_else (f x) (first_some f xs)
+
+-- what there is, if the test holds
+abbrev pub if_any : {X : Type 0} → Bool → Option X → Option X
+if_any true o = o
+if_any false o = None
+
+-- the event of an entry on which a call is queued, by its barrier: an open one is served, a faulting one ends all calls (9.5.3)
+abbrev pub turn : {V : Type 0} → ℕ → Result Bool ℕ → Option (Event V)
+turn e (Ok true) = Some (Serve e)
+turn e (Ok false) = None
+turn e (Err k) = Some (Break e)
+
+-- the entries in the order in which they are examined: by rising number; by the arrival of their first calls; or from
+-- the one after the entry that was served last, and round to it
+abbrev pub examined : {V : Type 0} → Order → Option ℕ → ℕ → List (Call V) → List ℕ
+examined Textual last total calls = below total
+examined Oldest last total calls = map (λ x. x.entry) calls
+examined Rotating None total calls = below total
+examined Rotating (Some e) total calls = drop (e + 1) (below total) ++ take (e + 1) (below total)
+
+-- the entry that was served last, after one more event
+abbrev pub served_last : {V : Type 0} → Option ℕ → Event V → Option ℕ
+served_last last (Serve e) = Some e
+served_last last other = last
+
+-- the entry that was served last, after some more events
+abbrev pub last_from : {V : Type 0} → Option ℕ → List (Event V) → Option ℕ
+last_from last [] = last
+last_from last (event ∷ events) = last_from (served_last last event) events
+
+module _ {S V : Type 0} where
+  -- the event of entry e, if a call is queued on it and it isn't closed
+  abbrev pub turn_of : Meaning S V → ObjectState S V → ℕ → Option (Event V)
+  turn_of m s e = if_any (list_any (is_on e) s.waiting) (turn e (gate_in m s e))
+
+  -- the inner event that follows, if one does: that of the first examined entry that isn't closed, and else the first
+  -- call that is due expires; last is the entry that was served last
+  abbrev pub pick : Meaning S V → Order → Option ℕ → ObjectState S V → Option (Event V)
+  pick m order last s =
+      or_else (first_some (turn_of m s) (examined order last (m.entries s.unit) s.waiting))
+      (option_map (λ x. Expire x.number) (find (is_due s.clock) s.waiting))
+
+  -- Each of the events is the one that follows.
+  abbrev pub ArePicks : Meaning S V → Option ℕ → Order → Option ℕ → ObjectState S V → List (Event V) → Type 0
+  ArePicks m limit order last s [] = Unit {0}
+  ArePicks m limit order last s (event ∷ events) =
+      (pick m order last s ≡ Some event) × ArePicks m limit order (served_last last event) (step m limit s event) events
+
+  -- how many inner events may come at most: each queued call is served once more than it may be requeued
+  abbrev pub weight : Meaning S V → ObjectState S V → ℕ
+  weight m s = sum_by (λ x. m.rank x.entry x.value + 1) s.waiting
+
+  -- for how many further events there has to be room: each call is served so often, and at most one event aborts it or
+  -- lets it expire; and the object may be finalized
+  abbrev pub owed : Meaning S V → ObjectState S V → ℕ
+  owed m s = sum_by (λ x. m.rank x.entry x.value + (if x.aborted then 1 else 2)) s.waiting + (if s.finalized then 0 else 1)
+
+-- The event is an inner one, and its needs are met.
+abbrev pub Fits : {S V : Type 0} → Meaning S V → ObjectState S V → Event V → Type 0
+Fits m s (Serve e) = (e < m.entries s.unit) × IsSome (find (is_on e) s.waiting) × (gate_in m s e ≡ Ok true)
+Fits m s (Break e) = (e < m.entries s.unit) × IsSome (find (is_on e) s.waiting) × ((k : ℕ) × (gate_in m s e ≡ Err k))
+Fits m s (Expire n) = IsQuiet m s × IsFound (λ x. is_due s.clock x ≡ true) (find (has_number n) s.waiting)
+Fits m s (Issue n owner e v d) = ⊥
+Fits m s (Ran owner op v reply) = ⊥
+Fits m s (Abort n) = ⊥
+Fits m s (Tick t) = ⊥
+Fits m s Final = ⊥

@@ -1,0 +1,36 @@
+//! What the history of a protected object keeps.
+
+use crate::call::Deadline;
+
+/// One event of a history. The first five begin a protected action (9.5.1); the last three are inner events, by which the
+/// action goes on.
+#[derive(Clone, Copy, Debug, PartialEq, Eq)]
+pub enum Event<V> {
+    /// Call `n` is issued on entry `e` with value `v` (9.5.3).
+    Issue {
+        n: u64,
+        owner: u16,
+        e: u16,
+        v: V,
+        deadline: Deadline,
+    },
+    /// Procedure `op` runs with value `v`, and replies with a value or the number of an exception (9.5.1).
+    Ran {
+        owner: u16,
+        op: u16,
+        v: V,
+        reply: Result<V, u32>,
+    },
+    /// An attempt is made to cancel this call, which waits (9.5.3).
+    Abort(u64),
+    /// The clock rises to this time, if it is lower.
+    Tick(u64),
+    /// The object is finalized (9.4).
+    Final,
+    /// The first call that is queued on this entry, which is open, is selected (9.5.3).
+    Serve(u16),
+    /// The barrier of this entry faults, and all queued calls end by Program_Error (9.5.3).
+    Break(u16),
+    /// This call, which is due, is cancelled (9.7.2, 9.7.3).
+    Expire(u64),
+}

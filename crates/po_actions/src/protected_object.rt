@@ -1,0 +1,424 @@
+//! A protected object between two protected actions: its core, which carries out every operation on it.
+
+ghost use Rattle.std.specs.Prelude.{◌≡◌, ◌≢◌, ◌∷◌, ◌++◌, [], ◌↔◌, slice_index, None, Some, find, option_map, unwrap_or, Option, true, IfOk, IfErr, IfNone, OnSome, MatchResult, OnOk, OnErr};
+ghost use Rattle.po_index.specs.Numbering.{entry_count, flat_number, is_public};
+ghost use Rattle.po_actions.specs.WaitingCalls.{is_of};
+ghost use Rattle.po_actions.specs.ObjectState.{counts_in};
+ghost use Rattle.po_actions.specs.Step.{has_ended};
+ghost use Rattle.po_actions.specs.View.{next_place, ended_now, opening_view};
+ghost use Rattle.po_actions.specs.ProtectedAction.{IsProtectedAction, IsAbortOf, after_action, after_abort, abort_answer};
+ghost use Rattle.po_actions.specs.Tickets.{number_at, SetsTicket, place_of_ticket, end_of_ticket, AreIssued};
+ghost use Rattle.po_actions.specs.Refusals.{entry_of, entry_refusal, issue_refusal, run_refusal, read_refusal, abort_refusal, finalized_refusal, count_refusal};
+ghost use Rattle.po_actions.specs.Headline.{Headline};
+ghost use Rattle.po_actions.specs.declared.refusal.Refusal.{Refusal};
+
+use crate::action::Action;
+use crate::call::Deadline;
+use crate::end::{End, Ended, Place};
+use crate::event::Event;
+use crate::fault::MakeFault;
+use crate::making::Making;
+use crate::order::Order;
+use crate::refusal::{Aborted, Refusal};
+use crate::start::Start;
+use crate::ticket::Ticket;
+use po_index::{EntryRef, Shape};
+use po_unit::Unit;
+use slab::Slab;
+use std::alloc::Global;
+use std::marker::Model;
+
+/// The core of a protected object (9.4).
+///
+/// Each command is one protected action of one thread: its own event, and the servicing of the entry queues that follows
+/// it (9.5.1, 9.5.3). Between two commands the headline holds, which `headline` states.
+#[derive(Drop)]
+pub struct Core<U: Unit> {
+    action: Action<U>,
+    /// The number of each uncollected call, by the key of its ticket.
+    tickets: Slab<u64>,
+}
+
+impl<U: Unit> Model for Core<U> {
+    ghost use Rattle.po_actions.specs.ObjectState.{IsAtRest};
+    ghost use Rattle.po_actions.specs.Tickets.{CoreView, AreIssued as TicketsAreIssued};
+
+    ghost Value = { CoreView U U.Value };
+
+    ghost view = { λ c. record { object = c.action; tickets = c.tickets.slots } };
+
+    ghost invariant = { λ c. record {
+      rest : IsAtRest U.meaning c.action.state;
+      issued : TicketsAreIssued (record { object = c.action; tickets = c.tickets.slots });
+    } };
+}
+
+impl<U: Unit + Drop> Core<U> {
+    /// An object with this unit, whose calls are numbered from `first_number` and whose queues have no greatest length.
+    ///
+    /// The faults are those of `start`.
+    pub fn new(
+        alloc: Global,
+        unit: U,
+        shape: Shape,
+        order: Order,
+        first_number: u64,
+    ) -> Result<Core<U>, MakeFault>
+        ensures core { IfOk result (λ c. c ≡ record {
+            object = opening_view (record { opening = unit; shape = shape; order = order; max_queue = None; first_number = first_number; first_place = 0 });
+            tickets = [];
+        }) }
+        ensures mismatch { (result ≡ Err MakeFault.ShapeMismatch) ↔ (U.meaning.entries unit ≢ entry_count shape) }
+    {
+        Core::start(
+            alloc,
+            unit,
+            shape,
+            order,
+            Start {
+                first_number,
+                first_place: 0,
+                max_queue: None,
+            },
+        )
+    }
+
+    /// An object with this unit, from given numbers.
+    ///
+    /// It fails where the unit hasn't as many entries as the shape, or where memory is wanting.
+    pub fn start(
+        alloc: Global,
+        unit: U,
+        shape: Shape,
+        order: Order,
+        start: Start,
+    ) -> Result<Core<U>, MakeFault>
+        ensures core { IfOk result (λ c. c ≡ record {
+            object = opening_view (record { opening = unit; shape = shape; order = order; max_queue = start.max_queue; first_number = start.first_number; first_place = start.first_place });
+            tickets = [];
+        }) }
+        ensures mismatch { (result ≡ Err MakeFault.ShapeMismatch) ↔ (U.meaning.entries unit ≢ entry_count shape) }
+    {
+        if unit.entries() != shape.total() {
+            return Err(MakeFault::ShapeMismatch);
+        }
+        let action = Action::new(alloc, Making::new(unit, shape, order, start))?;
+        Ok(Core {
+            action,
+            tickets: Slab::new(alloc),
+        })
+    }
+}
+
+impl<U: Unit> Core<U> {
+    /// Issues a call on an entry (9.5.3).
+    ///
+    /// Refused 1, 2, 3, 7, 8 and 9.
+    pub fn issue(
+        &mut self,
+        owner: u16,
+        entry: EntryRef,
+        value: U::Value,
+        deadline: Deadline,
+    ) -> Result<Ticket, Refusal>
+        ensures after { OnOk result (self.new.object ≡ after_action U.meaning self.old.object (Event.Issue self.old.object.state.next owner (entry_of self.old.object.making.shape entry) value deadline)) }
+        ensures number { IfOk result (λ ticket. ticket.number ≡ self.old.object.state.next) }
+        // No uncollected call had the key of the ticket.
+        ensures key { IfOk result (λ ticket. number_at self.old.tickets ticket.key ≡ None) }
+        ensures ticket { IfOk result (λ ticket. SetsTicket self.old.tickets self.new.tickets ticket.key (Some ticket.number)) }
+        ensures action { OnOk result (IsProtectedAction U.meaning self.old.object self.new.object (Event.Issue self.old.object.state.next owner (entry_of self.old.object.making.shape entry) value deadline)) }
+        ensures allowed { OnOk result (issue_refusal self.old.object entry ≡ None) }
+        ensures refused { IfErr result (λ r. r ≡ unwrap_or (issue_refusal self.old.object entry) Refusal.OutOfMemory) }
+        ensures unchanged { OnErr result (self.new ≡ self.old) }
+    {
+        let e = self.entry_from_outside(entry)?;
+        if self.action.state().is_finalized() {
+            return Err(Refusal::Finalized);
+        }
+        self.action.is_sound();
+        let number = self.action.state().next();
+        if number == u64::MAX {
+            return Err(Refusal::NumbersSpent);
+        }
+        self.tickets.reserve(1)?;
+        self.action.issue(owner, e, value, deadline)?;
+        self.action.settle();
+        let key = self.tickets.insert_reserved(number);
+        Ok(Ticket { key, number })
+    }
+
+    /// Runs a protected procedure (9.5.1). The reply is a value, or the number of the exception that it propagates.
+    ///
+    /// Refused 4, 7, 8 and 9.
+    pub fn run(
+        &mut self,
+        owner: u16,
+        op: u16,
+        value: U::Value,
+    ) -> Result<Result<U::Value, u32>, Refusal>
+        ensures after { IfOk result (λ reply. self.new ≡ record self.old { object = after_action U.meaning self.old.object (Event.Ran owner op value reply) }) }
+        ensures reply { IfOk result (λ reply. reply ≡ (U.meaning.procedure self.old.object.state.unit op value (counts_in U.meaning self.old.object.state)).1) }
+        ensures action { IfOk result (λ reply. IsProtectedAction U.meaning self.old.object self.new.object (Event.Ran owner op value reply)) }
+        ensures allowed { OnOk result (run_refusal U.meaning self.old.object op ≡ None) }
+        ensures refused { IfErr result (λ r. r ≡ unwrap_or (run_refusal U.meaning self.old.object op) Refusal.OutOfMemory) }
+        ensures unchanged { OnErr result (self.new ≡ self.old) }
+    {
+        if op >= self.action.state().procedures() {
+            return Err(Refusal::NoSuchOperation);
+        }
+        if self.action.state().is_finalized() {
+            return Err(Refusal::Finalized);
+        }
+        if self.action.place() >= u128::from(u64::MAX) {
+            return Err(Refusal::NumbersSpent);
+        }
+        let reply = self.action.run(owner, op, value)?;
+        self.action.settle();
+        Ok(reply)
+    }
+
+    /// What a protected function replies (9.5.1). Nothing changes, and no memory is taken.
+    ///
+    /// Refused 4 and 7.
+    pub fn read(&self, op: u16, value: U::Value) -> Result<Result<U::Value, u32>, Refusal>
+        ensures reply { IfOk result (λ reply. reply ≡ U.meaning.function self.now.object.state.unit op value (counts_in U.meaning self.now.object.state)) }
+        ensures refused { MatchResult result (λ _. read_refusal U.meaning self.now.object op ≡ None) (λ r. read_refusal U.meaning self.now.object op ≡ Some r) }
+    {
+        if op >= self.action.state().functions() {
+            return Err(Refusal::NoSuchOperation);
+        }
+        if self.action.state().is_finalized() {
+            return Err(Refusal::Finalized);
+        }
+        Ok(self.action.state().read(op, value))
+    }
+
+    /// Attempts to cancel the call with number n (9.5.3, 9.5.4). No memory is taken.
+    ///
+    /// Refused 5 and 6.
+    pub fn abort(&mut self, n: u64) -> Result<Aborted, Refusal>
+        ensures after { OnOk result (self.new ≡ record self.old { object = after_abort U.meaning self.old.object n }) }
+        ensures answer { IfOk result (λ aborted. aborted ≡ abort_answer self.old.object n) }
+        ensures action { OnOk result (IsAbortOf U.meaning self.old.object self.new.object n) }
+        ensures refused { MatchResult result (λ _. abort_refusal self.old.object n ≡ None) (λ r. abort_refusal self.old.object n ≡ Some r) }
+        ensures unchanged { OnErr result (self.new ≡ self.old) }
+    {
+        if n < self.first_number() || n >= self.next() {
+            return Err(Refusal::UnknownCall);
+        }
+        let Some(call) = self.action.state().waiting_call(n) else {
+            return Err(Refusal::AlreadyEnded);
+        };
+        self.action.is_sound();
+        if !call.sealed {
+            self.action.abort(n);
+            self.action.settle();
+            return Ok(Aborted::Cancelled);
+        }
+        if call.aborted {
+            self.action.pass();
+            return Ok(Aborted::Kept);
+        }
+        self.action.abort(n);
+        Ok(Aborted::Kept)
+    }
+
+    /// Raises the clock to t, if it is lower, and answers the clock.
+    ///
+    /// Refused 7 and 9.
+    pub fn tick(&mut self, t: u64) -> Result<u64, Refusal>
+        ensures after { OnOk result (self.new ≡ record self.old { object = after_action U.meaning self.old.object (Event.Tick t) }) }
+        ensures clock { IfOk result (λ clock. clock ≡ self.new.object.state.clock) }
+        ensures action { OnOk result (IsProtectedAction U.meaning self.old.object self.new.object (Event.Tick t)) }
+        ensures allowed { OnOk result (finalized_refusal self.old.object ≡ None) }
+        ensures refused { IfErr result (λ r. r ≡ unwrap_or (finalized_refusal self.old.object) Refusal.OutOfMemory) }
+        ensures unchanged { OnErr result (self.new ≡ self.old) }
+    {
+        if self.action.state().is_finalized() {
+            return Err(Refusal::Finalized);
+        }
+        self.action.tick(t)?;
+        self.action.settle();
+        Ok(self.clock())
+    }
+
+    /// Finalizes the object: Program_Error is raised at each queued call (9.4). No memory is taken.
+    ///
+    /// Refused 7.
+    pub fn finalize(&mut self) -> Result<(), Refusal>
+        ensures after { OnOk result (self.new ≡ record self.old { object = after_action U.meaning self.old.object Event.Final }) }
+        ensures action { OnOk result (IsProtectedAction U.meaning self.old.object self.new.object Event.Final) }
+        ensures alone { OnOk result (self.new.object.events ≡ self.old.object.events ++ Event.Final ∷ []) }
+        ensures refused { MatchResult result (λ _. finalized_refusal self.old.object ≡ None) (λ r. finalized_refusal self.old.object ≡ Some r) }
+        ensures unchanged { OnErr result (self.new ≡ self.old) }
+    {
+        if self.action.state().is_finalized() {
+            return Err(Refusal::Finalized);
+        }
+        self.action.finalize();
+        Ok(())
+    }
+
+    /// Where the call of a ticket is.
+    pub fn end_of(&self, ticket: Ticket) -> Place<U::Value>
+        ensures { result ≡ place_of_ticket self.now ticket }
+    {
+        if self.tickets.get(ticket.key) == Some(&ticket.number) {
+            self.action.state().place_of(ticket.number)
+        } else {
+            Place::Unknown
+        }
+    }
+
+    /// Takes the end of the call of a ticket, if it has ended, and makes the ticket Unknown for good. Else nothing changes.
+    pub fn collect(&mut self, ticket: Ticket) -> Option<End<U::Value>>
+        ensures end { result ≡ end_of_ticket self.old ticket }
+        ensures object { self.new.object ≡ self.old.object }
+        ensures taken { OnSome result (SetsTicket self.old.tickets self.new.tickets ticket.key None) }
+        ensures left { IfNone result (self.new ≡ self.old) }
+    {
+        let Place::Ended(end) = self.end_of(ticket) else {
+            return None;
+        };
+        let _number = self.tickets.try_remove(ticket.key);
+        Some(end)
+    }
+
+    /// How many calls are queued on an entry: the attribute Count (9.9). Private entries are counted too.
+    ///
+    /// Refused 1 and 3.
+    pub fn count(&self, entry: EntryRef) -> Result<u64, Refusal>
+        ensures count { IfOk result (λ n. n ≡ slice_index (counts_in U.meaning self.now.object.state) (entry_of self.now.object.making.shape entry)) }
+        ensures refused { MatchResult result (λ _. count_refusal self.now.object entry ≡ None) (λ r. count_refusal self.now.object entry ≡ Some r) }
+    {
+        let e = self.action.making().shape().flat(entry)?;
+        self.action.is_sound();
+        Ok(self.action.state().count(e))
+    }
+
+    /// The calls that the last command that wasn't refused ended, in the order in which they ended.
+    pub fn ended_now(&self) -> &[Ended<U::Value>]
+        ensures { result.now ≡ ended_now self.now.object }
+    {
+        self.action.ended_now()
+    }
+
+    /// The history.
+    pub fn events(&self) -> &[Event<U::Value>]
+        ensures { result.now ≡ self.now.object.events }
+    {
+        self.action.events()
+    }
+
+    /// How the call with number n ended, if it has, also after it was collected.
+    pub fn outcome(&self, n: u64) -> Option<End<U::Value>>
+        ensures { result ≡ option_map (λ x. x.end) (find (has_ended n) self.now.object.state.ended) }
+    {
+        self.action.state().outcome(n)
+    }
+
+    /// The number of the owner's earliest queued call.
+    pub fn waiting_of(&self, owner: u16) -> Option<u64>
+        ensures { result ≡ option_map (λ x. x.number) (find (is_of owner) self.now.object.state.waiting) }
+    {
+        self.action.state().waiting_of(owner)
+    }
+
+    /// The number that the next call gets.
+    pub fn next(&self) -> u64
+        ensures { result ≡ self.now.object.state.next }
+    {
+        self.action.state().next()
+    }
+
+    /// The clock.
+    pub fn clock(&self) -> u64
+        ensures { result ≡ self.now.object.state.clock }
+    {
+        self.action.state().clock()
+    }
+
+    /// The unit as the object was made with it.
+    pub fn opening(&self) -> &U
+        ensures { result.now ≡ self.now.object.making.opening }
+    {
+        self.action.making().opening()
+    }
+
+    /// The unit as it is now.
+    pub fn unit(&self) -> &U
+        ensures { result.now ≡ self.now.object.state.unit }
+    {
+        self.action.state().unit()
+    }
+
+    /// The declarations of the object's entries.
+    pub fn shape(&self) -> &Shape
+        ensures { result.now ≡ self.now.object.making.shape }
+    {
+        self.action.making().shape()
+    }
+
+    /// The service order.
+    pub fn order(&self) -> Order
+        ensures { result ≡ self.now.object.making.order }
+    {
+        self.action.making().order()
+    }
+
+    /// The place of the next event in the whole history.
+    pub fn place(&self) -> u128
+        ensures { result ≡ next_place self.now.object }
+    {
+        self.action.place()
+    }
+
+    /// The place of the first event.
+    pub fn first_place(&self) -> u64
+        ensures { result ≡ self.now.object.making.first_place }
+    {
+        self.action.making().first_place()
+    }
+
+    /// The number of the first call.
+    pub fn first_number(&self) -> u64
+        ensures { result ≡ self.now.object.making.first_number }
+    {
+        self.action.making().first_number()
+    }
+
+    /// How many calls may be queued on an entry, where there is such a limit.
+    pub fn max_queue(&self) -> Option<u64>
+        ensures { result ≡ self.now.object.making.max_queue }
+    {
+        self.action.making().max_queue()
+    }
+
+    /// The headline, which holds of every core, whatever commands it has carried out or refused: no queued call has an open
+    /// barrier, each queue is in order of arrival, each accepted call is in exactly one place, and the history replays as
+    /// serial protected actions of one thread and leads to the present state. And each ticket is of an issued call.
+    pub fn headline(&self)
+        ensures headline { Headline U.meaning self.now.object }
+        ensures tickets { AreIssued self.now }
+    {
+        self.action.is_sound();
+    }
+
+    /// The flat number of a public entry, for a call from outside.
+    fn entry_from_outside(&self, entry: EntryRef) -> Result<u16, Refusal>
+        ensures number { IfOk result (λ e. flat_number self.now.object.making.shape entry ≡ Ok e) }
+        ensures public { IfOk result (λ e. is_public self.now.object.making.shape e ≡ true) }
+        ensures allowed { OnOk result ((other : Option Refusal) → entry_refusal self.now.object.making.shape entry other ≡ other) }
+        ensures refused { IfErr result (λ r. (other : Option Refusal) → entry_refusal self.now.object.making.shape entry other ≡ Some r) }
+    {
+        let shape = self.action.making().shape();
+        let Some(decl) = shape.decl(entry.entry) else {
+            return Err(Refusal::NoSuchEntry);
+        };
+        if !decl.public {
+            return Err(Refusal::PrivateEntry);
+        }
+        let number = shape.flat(entry)?;
+        Ok(number)
+    }
+}
