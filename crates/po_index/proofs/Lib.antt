@@ -1,0 +1,4 @@
+pub mod DeclLemmas
+pub mod FirstNumbersLemmas
+mod Lists
+pub mod NumberingLemmas

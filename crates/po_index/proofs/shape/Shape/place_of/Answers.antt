@@ -1,0 +1,24 @@
+-- The search among the first numbers ends just past the place.
+use Rattle.std.proofs.Common.{◌≡◌, ◌-◌, ◌≤◌, leb, rules, arith}
+use Rattle.std.proofs.lemmas.List.Sorted.{IsPartitionPoint-from_clause, IsPartitionedBy-leb}
+use Rattle.po_index.specs.FirstNumbers.{first_numbers, IsPlaceOf}
+use Rattle.po_index.proofs.FirstNumbersLemmas.{length-first_numbers, first_numbers-rise, place_from_search}
+use Rattle.po_index.proofs.shape.Shape.place_of.Goals as goal
+
+-- what the search says of the place
+found : (c : goal.After-partition_point) → (1 ≤ c.partition_point.result) × IsPlaceOf c.args.self.now c.args.number (c.partition_point.result - 1)
+found c =
+    let ds = c.args.self.now in
+    let same : c.as_slice.result.now ≡ first_numbers ds = cc in
+    let parted = IsPartitionedBy-leb (λ n. n) (first_numbers ds) c.args.number (first_numbers-rise ds) in
+    let clause = rw same at c.partition_point.ensures.partitioned in
+    let bound = rw same at c.partition_point.ensures.bound in
+    let long = length-first_numbers ds in
+    let point = IsPartitionPoint-from_clause (λ n. leb n c.args.number) (first_numbers ds) c.partition_point.result clause parted (λ a r q k. search rules) in
+    place_from_search ds c.args.number c.partition_point.result c.requires (omega arith) point
+
+pub overflow_sub-result : goal.overflow_sub-result
+overflow_sub-result c = (found c).0
+
+pub returns : goal.returns
+returns c = (found c).1
