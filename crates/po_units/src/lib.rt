@@ -1,0 +1,15 @@
+//! The units that come with the machine: a bounded buffer, a relay and a trap.
+//!
+//! Each head comment of a module shows its unit as an Ada protected type, over the one type of values
+//! `type Value is mod 2 ** 64;`.
+#![tactic(auto)]
+
+mod buffer;
+mod declarations;
+mod names;
+mod relay;
+mod trap;
+
+pub use buffer::Buffer;
+pub use relay::Relay;
+pub use trap::Trap;
