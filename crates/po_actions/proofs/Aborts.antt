@@ -1,6 +1,6 @@
 -- An attempt to cancel a sealed call: it is marked, and the object stays at rest.
-use Rattle.std.proofs.Common.{◌≡◌, ℕ, zero, suc, ◌+◌, ◌==◌, List, [], ◌∷◌, ◌++◌, map, refl, subst, ap, sym, ◌∙◌, Bool, true, false, cond, not, ◌&&◌, Option, Some, None, Result, Ok, Err, if◌then◌else◌, append_assoc, drop, length, arith}
-use Rattle.std.specs.List.{count_by, find, All}
+use Rattle.std.proofs.Common.{◌≡◌, ℕ, zero, suc, ◌==◌, List, [], ◌∷◌, ◌++◌, map, refl, subst, ap, sym, ◌∙◌, Bool, true, false, cond, Option, Some, Ok, if◌then◌else◌, append_assoc, drop, length, arith}
+use Rattle.std.specs.List.{count_by, find}
 use Rattle.std.proofs.lemmas.List.{map-append}
 use Rattle.std.proofs.lemmas.List.Elements.{All-map, All-weaker}
 use Rattle.po_unit.specs.Meaning.{Meaning}
@@ -8,12 +8,12 @@ use Rattle.po_actions.specs.declared.call.Call.{Call}
 use Rattle.po_actions.specs.declared.event.Event.{Event}
 use Rattle.po_actions.specs.declared.event.Event.TheVariants.{Abort}
 use Rattle.po_actions.specs.WaitingCalls.{below, is_on, has_number, is_due, counts_of}
-use Rattle.po_actions.specs.ObjectState.{ObjectState, gate_in, counts_in, IsAtRest}
-use Rattle.po_actions.specs.Step.{mark, step, abort, replay, IsFound}
-use Rattle.po_actions.specs.Pick.{ArePicks, weight, last_from}
-use Rattle.po_actions.specs.View.{View, last_served, ended_now, newly_ended}
+use Rattle.po_actions.specs.ObjectState.{ObjectState, gate_in, IsAtRest}
+use Rattle.po_actions.specs.Step.{mark, step, replay, IsFound}
+use Rattle.po_actions.specs.Pick.{ArePicks, weight}
+use Rattle.po_actions.specs.View.{View, last_served}
 use Rattle.po_actions.specs.Progress.{Begins, Settles, IsSameCommand}
-use Rattle.po_actions.specs.ProtectedAction.{begun, settled, after_action, after_abort, IsProtectedAction, IsAbortOfCall, IsAbortOf}
+use Rattle.po_actions.specs.ProtectedAction.{after_abort, IsProtectedAction, IsAbortOfCall, IsAbortOf}
 use Rattle.po_actions.proofs.Sums.{sum_by-mapped}
 use Rattle.po_actions.proofs.Settling.{settles_none}
 use Rattle.po_actions.proofs.Trails.{begun_by, led_by, rest_settled, aborted_as}

@@ -1,7 +1,6 @@
 -- What a command leads to is what the function says.
-use Rattle.std.proofs.Common.{ℕ, zero, suc, ◌≡◌, ◌≤◌, ◌+◌, ◌==◌, arith, List, [], ◌∷◌, ◌++◌, map, refl, ap, sym, subst, ◌∙◌, Bool, true, false, Result, Ok, Err, Option, Some, None, cond, length, get_or, ◌||◌, ◌&&◌, if◌then◌else◌, append-nil, append_assoc, MatchOption}
+use Rattle.std.proofs.Common.{ℕ, zero, suc, ◌≡◌, ◌≤◌, ◌==◌, arith, List, [], ◌∷◌, ◌++◌, refl, ap, sym, subst, ◌∙◌, Bool, true, false, Ok, Option, Some, None, cond, length, ◌||◌, ◌&&◌, if◌then◌else◌, append-nil, MatchOption}
 use Rattle.std.specs.List.{find, All, list_any}
-use Rattle.std.specs.Option.{option_map}
 use Rattle.std.proofs.lemmas.List.Elements.{All-head, All-tail}
 use Rattle.std.proofs.lemmas.Bool.Decides.{nat_tests}
 use Rattle.po_unit.specs.Meaning.{Meaning}
@@ -16,10 +15,9 @@ use Rattle.po_actions.specs.View.{View, last_served}
 use Rattle.po_actions.specs.Base.{Base}
 use Rattle.po_actions.specs.declared.refusal.Aborted.TheVariants.{Kept, Cancelled}
 use Rattle.po_actions.specs.Progress.{Settles, IsSameCommand, Happens, Begins}
-use Rattle.po_actions.specs.ProtectedAction.{followed, settling, inner_events, begun, settled, after_action, after_abort, after_abort_of, abort_answer, is_sealed, without_event}
-use Rattle.po_actions.specs.Pick.{or_else, if_any, turn, first_some, turn_of, examined, pick, ArePicks, served_last, last_from, weight}
+use Rattle.po_actions.specs.ProtectedAction.{settling, inner_events, begun, settled, after_action, after_abort, after_abort_of, abort_answer, is_sealed, without_event}
+use Rattle.po_actions.specs.Pick.{if_any, turn, first_some, turn_of, examined, pick, ArePicks, served_last, last_from, weight}
 use Rattle.po_actions.specs.declared.event.Event.TheVariants.{Abort}
-use Rattle.po_actions.proofs.Settling.{last-append}
 
 module _ {X : Type 0} (p : X → Bool) where
   none_here : (b : Bool) (x : X) (xs : List X) → p x ≡ b → b ≡ false → find p xs ≡ None → cond b (Some x) (find p xs) ≡ None

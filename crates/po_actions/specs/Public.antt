@@ -1,5 +1,5 @@
 -- Histories whose calls from outside are on public entries.
-use Rattle.std.specs.Prelude.{ℕ, ◌≡◌, List, true, All}
+use Rattle.std.specs.Prelude.{◌≡◌, List, true, All}
 use Rattle.po_index.specs.declared.decl.Decl.{Decl}
 use Rattle.po_index.specs.Numbering.{is_public}
 use Rattle.po_actions.specs.declared.event.Event.{Event}

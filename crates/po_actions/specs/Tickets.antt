@@ -1,5 +1,5 @@
 -- Tickets: what a caller holds of a call that was accepted and isn't collected (this project's own).
-use Rattle.std.specs.Prelude.{ℕ, ◌≡◌, ◌≢◌, ◌<◌, ◌≤◌, ◌==◌, List, [], Bool, false, Option, Some, None, if◌then◌else◌, find}
+use Rattle.std.specs.Prelude.{ℕ, ◌≡◌, ◌≢◌, ◌<◌, ◌≤◌, ◌==◌, List, Bool, false, Option, Some, None, if◌then◌else◌, find}
 use Rattle.std.specs.List.{slice_index_or}
 use Rattle.po_actions.specs.declared.call.Call.{Call}
 use Rattle.po_actions.specs.declared.end.End.{End}

@@ -1,5 +1,5 @@
 -- What contracts see of a protected object: what it was made with, its history since the base, and its present state.
-use Rattle.std.specs.Prelude.{ℕ, ◌≡◌, ◌+◌, List, [], ◌∷◌, ◌++◌, ◌&&◌, nat_lt, nat_le, count_by, length, drop, if◌then◌else◌, Option}
+use Rattle.std.specs.Prelude.{ℕ, ◌≡◌, ◌+◌, List, [], ◌&&◌, nat_lt, nat_le, count_by, length, drop, if◌then◌else◌, Option}
 use Rattle.po_unit.specs.Meaning.{Meaning}
 use Rattle.po_actions.specs.declared.end.Ended.{Ended}
 use Rattle.po_actions.specs.declared.event.Event.{Event}

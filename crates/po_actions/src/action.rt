@@ -145,7 +145,8 @@ impl<U: Unit> Action<U> {
             v,
             deadline,
         };
-        self.state.issue(self.making.max_queue(), owner, e, v, deadline);
+        self.state
+            .issue(self.making.max_queue(), owner, e, v, deadline);
         self.events.push_reserved(event);
         Ok(())
     }
@@ -260,4 +261,3 @@ impl<U: Unit> Action<U> {
         &self.state.ended()[self.ended_before..]
     }
 }
-

@@ -35,12 +35,12 @@ impl<U: Unit> Model for Making<U> {
 impl<U: Unit> Making<U> {
     pub(crate) fn new(opening: U, shape: Shape, order: Order, start: Start) -> Making<U>
         ensures { result ≡ record {
-            opening = opening;
-            shape = shape;
-            order = order;
-            max_queue = start.max_queue;
-            first_number = start.first_number;
-            first_place = start.first_place;
+          opening = opening;
+          shape = shape;
+          order = order;
+          max_queue = start.max_queue;
+          first_number = start.first_number;
+          first_place = start.first_place;
         } }
     {
         Making {

@@ -65,8 +65,8 @@ impl<U: Unit + Drop> Core<U> {
         first_number: u64,
     ) -> Result<Core<U>, MakeFault>
         ensures core { IfOk result (λ c. c ≡ record {
-            object = opening_view (record { opening = unit; shape = shape; order = order; max_queue = None; first_number = first_number; first_place = 0 });
-            tickets = [];
+          object = opening_view (record { opening = unit; shape = shape; order = order; max_queue = None; first_number = first_number; first_place = 0 });
+          tickets = [];
         }) }
         ensures mismatch { (result ≡ Err MakeFault.ShapeMismatch) ↔ (U.meaning.entries unit ≢ entry_count shape) }
     {
@@ -94,8 +94,8 @@ impl<U: Unit + Drop> Core<U> {
         start: Start,
     ) -> Result<Core<U>, MakeFault>
         ensures core { IfOk result (λ c. c ≡ record {
-            object = opening_view (record { opening = unit; shape = shape; order = order; max_queue = start.max_queue; first_number = start.first_number; first_place = start.first_place });
-            tickets = [];
+          object = opening_view (record { opening = unit; shape = shape; order = order; max_queue = start.max_queue; first_number = start.first_number; first_place = start.first_place });
+          tickets = [];
         }) }
         ensures mismatch { (result ≡ Err MakeFault.ShapeMismatch) ↔ (U.meaning.entries unit ≢ entry_count shape) }
     {

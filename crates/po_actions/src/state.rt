@@ -13,7 +13,9 @@ use crate::ended::{end_each, end_of};
 use crate::event::Event;
 use crate::examination::{oldest_turn, rotating_turn, turn_between};
 use crate::order::Order;
-use crate::waiting::{call_of, count_into, first_due, first_of, is_full, mark_number, take_first_on, take_number};
+use crate::waiting::{
+    call_of, count_into, first_due, first_of, is_full, mark_number, take_first_on, take_number,
+};
 use po_unit::{Outcome, Unit};
 use std::alloc::{AllocError, Global};
 use std::marker::Model;
@@ -141,7 +143,12 @@ impl<U: Unit> State<U> {
         }
     }
 
-    pub(crate) fn land(&mut self, limit: Option<u64>, call: Call<U::Value>, outcome: Outcome<U::Value>)
+    pub(crate) fn land(
+        &mut self,
+        limit: Option<u64>,
+        call: Call<U::Value>,
+        outcome: Outcome<U::Value>,
+    )
         requires { 0 < self.old.room }
         ensures state { self.new.state ≡ land limit self.old.state call outcome }
         ensures room { self.new.room + 1 ≡ self.old.room }
@@ -336,7 +343,14 @@ impl<U: Unit> State<U> {
     }
 
     /// A call is issued.
-    pub(crate) fn issue(&mut self, limit: Option<u64>, owner: u16, e: u16, v: U::Value, deadline: Deadline)
+    pub(crate) fn issue(
+        &mut self,
+        limit: Option<u64>,
+        owner: u16,
+        e: u16,
+        v: U::Value,
+        deadline: Deadline,
+    )
         requires room { 0 < self.old.room }
         requires entry { e < U.meaning.entries self.old.state.unit }
         requires number { self.old.state.next < u64.MAX }

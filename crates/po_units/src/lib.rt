@@ -5,9 +5,13 @@
 #![tactic(auto)]
 
 mod buffer;
+#[cfg(test)]
+mod core_tests;
 mod declarations;
 mod names;
 mod relay;
+#[cfg(test)]
+mod transcript;
 mod trap;
 
 pub use buffer::Buffer;

@@ -3,7 +3,6 @@ use Rattle.po_index.specs.Numbering.{is_public}
 use Rattle.po_actions.specs.declared.event.Event.TheVariants.{Issue}
 use Rattle.po_actions.specs.Base.{opening_base}
 use Rattle.po_actions.specs.Step.{MayBegin}
-use Rattle.po_actions.specs.Pick.{owed}
 use Rattle.po_actions.specs.History.{IsKept}
 use Rattle.po_actions.proofs.Histories.{kept_goes_on}
 use Rattle.po_actions.proofs.Falls.{owed_issue}

@@ -1,4 +1,4 @@
-use Rattle.std.proofs.Common.{rules, arith, refl}
+use Rattle.std.proofs.Common.{arith}
 use Rattle.po_actions.proofs.Histories.{kept_opens}
 use Rattle.po_actions.proofs.action.Action.new.Goals as goal
 

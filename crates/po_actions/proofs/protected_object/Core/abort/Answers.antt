@@ -1,4 +1,4 @@
-use Rattle.std.proofs.Common.{◌≡◌, Option, Some, sym, ap, subst, ◌∙◌}
+use Rattle.std.proofs.Common.{◌≡◌, Some, ap}
 use Rattle.std.specs.List.{find}
 use Rattle.po_actions.specs.WaitingCalls.{has_number}
 use Rattle.po_actions.specs.declared.event.Event.TheVariants.{Abort}

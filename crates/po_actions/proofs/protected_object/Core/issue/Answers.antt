@@ -1,5 +1,4 @@
 use Rattle.std.proofs.Common.{◌<◌, ◌≤◌, ◌≡◌, ◌∙◌, sym, ap, subst}
-use Rattle.po_index.specs.Numbering.{entry_count}
 use Rattle.po_index.proofs.NumberingLemmas.{flat_number-lt-entry_count}
 use Rattle.po_actions.specs.declared.event.Event.TheVariants.{Issue}
 use Rattle.po_actions.specs.Tickets.{number_at}

@@ -1,4 +1,3 @@
-use Rattle.std.proofs.Common.{rules, arith}
 use Rattle.po_actions.proofs.Histories.{rest_opening, issued_opening}
 use Rattle.po_actions.proofs.protected_object.Core.start.Goals as goal
 

@@ -1,0 +1,9 @@
+pub mod WordLemmas
+pub mod SinkLemmas
+pub mod CutLemmas
+pub mod ReadingLemmas
+pub mod StandLemmas
+pub mod ScriptLemmas
+pub mod FailLemmas
+pub mod EndLemmas
+pub mod Refused

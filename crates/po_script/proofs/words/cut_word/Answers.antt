@@ -1,0 +1,10 @@
+use Rattle.std.proofs.Common.{arith}
+use Rattle.std.proofs.lemmas.List.{take_rest}
+use Rattle.std.proofs.lemmas.Grind.{common_steps}
+use Rattle.po_script.proofs.WordLemmas.{cut_is}
+use Rattle.po_script.proofs.words.cut_word.Goals as goal
+
+pub returns : goal.returns
+returns c =
+    let l = c.args.line.now in
+    cut_is l _ _ _ c.space_count.result c.word_length.result c.space_count.ensures.value (take_rest l c.space_count.result) (grind (arith, common_steps)) c.word_length.ensures.value c.split_at.ensures.front c.split_at.ensures.back

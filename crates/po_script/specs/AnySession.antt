@@ -1,0 +1,46 @@
+-- How far a reading has come, over any session: what a command makes of a state, and what it answers there.
+use Rattle.std.specs.Prelude.{ℕ, ◌+◌, ◌≡◌, List, [], ◌∷◌, ◌++◌, length, Option, Some, None}
+use Rattle.std.specs.Io.KnownBytes.{Appends}
+use Rattle.po_script.specs.Script.{cut, whole_lines, begun_after}
+use Rattle.po_script.specs.declared.command.UnitChoice.{UnitChoice}
+use Rattle.po_script.specs.declared.command.Command.{Command}
+
+-- the state after the commands
+abbrev pub state_by : {S : Type 0} → (S → Command → S) → S → List Command → S
+state_by after s [] = s
+state_by after s (c ∷ cs) = state_by after (after s c) cs
+
+-- what the commands answer, one after another
+abbrev pub text_by : {S : Type 0} → (S → Command → S) → (S → Command → List ℕ) → S → List Command → List ℕ
+text_by after answer s [] = []
+text_by after answer s (c ∷ cs) = answer s c ++ text_by after answer (after s c) cs
+
+-- the unit that is begun after the commands
+abbrev pub begun_by : Option UnitChoice → List Command → Option UnitChoice
+begun_by begun [] = begun
+begun_by begun (c ∷ cs) = begun_by (begun_after begun c) cs
+
+-- the unit that is begun, the state, and what is answered after a line's command, if it has one
+abbrev pub begun_with : Option UnitChoice → Option Command → Option UnitChoice
+begun_with begun None = begun
+begun_with begun (Some c) = begun_after begun c
+
+abbrev pub state_with : {S : Type 0} → (S → Command → S) → S → Option Command → S
+state_with after s None = s
+state_with after s (Some c) = after s c
+
+abbrev pub text_with : {S : Type 0} → (S → Command → List ℕ) → S → Option Command → List ℕ
+text_with answer s None = []
+text_with answer s (Some c) = answer s c
+
+-- The bytes read so far are these, and all their whole lines were carried out.
+pub record StandsBy {S : Type 0} (after : S → Command → S) (answer : S → Command → List ℕ) (opening : S)
+    (line : List ℕ) (number total : ℕ) (begun : Option UnitChoice) (state : S)
+    (bytes : List ℕ) (start now : Option (List ℕ)) : Type 0 where
+  pub line_is : line ≡ (cut bytes).rest
+  pub number_is : number ≡ length (cut bytes).full + 1
+  pub total_is : total ≡ length bytes
+  pub fine : (whole_lines bytes).fault ≡ None
+  pub begun_is : begun ≡ begun_by None (whole_lines bytes).commands
+  pub state_is : state ≡ state_by after opening (whole_lines bytes).commands
+  pub told : Appends start now (text_by after answer opening (whole_lines bytes).commands)

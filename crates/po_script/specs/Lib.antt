@@ -1,0 +1,12 @@
+pub mod Words
+pub mod Names
+pub mod Commands
+pub mod Lines
+pub mod Operations
+pub mod Session
+pub mod OverStd
+pub mod Script
+pub mod AnySession
+pub mod Ends
+pub mod Interpreter
+pub mod Run

@@ -1,0 +1,15 @@
+-- What a reader or a writer of std has shown, as a source or a sink.
+use Rattle.std.specs.Prelude.{Bool}
+use Rattle.po_script.specs.declared.over_std.OverStd.{OverStd}
+
+-- the reader or the writer itself
+abbrev pub inner_of : {T : Type 0} → OverStd T → T
+inner_of s = s.inner
+
+-- one of its calls has failed
+abbrev pub has_failed : {T : Type 0} → OverStd T → Bool
+has_failed s = s.failed
+
+-- one of its calls has given or taken no byte
+abbrev pub was_empty : {T : Type 0} → OverStd T → Bool
+was_empty s = s.empty

@@ -1,0 +1,80 @@
+//! What carries out the lines of a script.
+
+ghost use Rattle.std.specs.Prelude.{◌≡◌, ◌≤◌, ◌||◌, length, OnOk, IfErr, None};
+ghost use Rattle.po_script.specs.Script.{begun_after};
+
+use crate::command::{Command, UnitChoice};
+use crate::fault::RunFault;
+use crate::parse::command_of;
+use crate::session::Session;
+use crate::sink::{Sink, write_all};
+use std::alloc::Global;
+
+/// What the lines of a script have come to.
+#[derive(Drop)]
+pub(crate) struct Interpreter {
+    /// The unit that a line began.
+    pub(crate) begun: Option<UnitChoice>,
+    /// What the commands are carried out on.
+    pub(crate) session: Session,
+    /// The lines that answered the last command.
+    reply: String,
+}
+
+/// The unit that is begun after the command.
+fn begun_after(begun: Option<UnitChoice>, command: Command) -> Option<UnitChoice>
+    ensures { result ≡ begun_after begun command }
+{
+    match command {
+        Command::Begin(unit) => Some(unit),
+        _ => begun,
+    }
+}
+
+impl Interpreter {
+    ghost use Rattle.po_script.specs.Session.{opening_state};
+    ghost use Rattle.po_script.specs.Interpreter.{CarriesOut, Fails};
+
+    /// Before the first line.
+    pub(crate) fn new(alloc: Global) -> Interpreter
+        ensures begun { result.begun ≡ None }
+        ensures session { result.session ≡ opening_state }
+    {
+        Interpreter {
+            begun: None,
+            session: Session::new(),
+            reply: String::new(alloc),
+        }
+    }
+
+    /// Carries out the line of this number, and writes what answers it.
+    pub(crate) fn carry_out<W: Sink>(
+        &mut self,
+        alloc: Global,
+        number: u64,
+        line: &[u8],
+        writer: &mut W,
+    ) -> Result<(), RunFault>
+        ensures ok { OnOk result (CarriesOut self.old self.new line.now
+            (W.taken writer.old) (W.taken writer.new)) }
+        ensures fine { OnOk result ((W.failed writer.new ≡ W.failed writer.old)
+            × (W.stuck writer.new ≡ W.stuck writer.old)) }
+        ensures err { IfErr result (λ fault. Fails fault self.old number line.now
+            (W.taken writer.old) (W.taken writer.new)
+            (W.failed writer.old || W.stuck writer.old) (W.failed writer.new || W.stuck writer.new)) }
+    {
+        let command = match command_of(self.begun, line) {
+            Err(kind) => return Err(RunFault::Script { line: number, kind }),
+            Ok(None) => return Ok(()),
+            Ok(Some(command)) => command,
+        };
+        self.begun = begun_after(self.begun, command);
+        let Ok(()) = self.session.answer(alloc, command, &mut self.reply) else {
+            return Err(RunFault::Memory);
+        };
+        match write_all(writer, self.reply.as_bytes()) {
+            Ok(()) => Ok(()),
+            Err(_) => Err(RunFault::Write),
+        }
+    }
+}

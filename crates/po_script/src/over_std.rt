@@ -1,0 +1,90 @@
+//! Readers and writers of std as sources and sinks.
+
+ghost use Rattle.std.specs.Prelude.{◌≡◌, true, false};
+
+use crate::sink::Sink;
+use crate::source::{IoFailed, Source};
+use std::io::{Read, Write};
+
+/// A reader or a writer of std, and what its calls have shown.
+#[derive(Drop)]
+pub struct OverStd<T> {
+    inner: T,
+    failed: bool,
+    empty: bool,
+}
+
+impl<T> OverStd<T> {
+    ghost use Rattle.po_script.specs.OverStd.{inner_of, has_failed, was_empty};
+
+    /// Over a reader or a writer none of whose calls has shown anything.
+    pub fn new(inner: T) -> OverStd<T>
+        ensures inner { inner_of result ≡ inner }
+        ensures fine { has_failed result ≡ false }
+        ensures fresh { was_empty result ≡ false }
+    {
+        OverStd {
+            inner,
+            failed: false,
+            empty: false,
+        }
+    }
+
+    /// The reader or the writer itself.
+    pub fn into_inner(self) -> T
+        ensures { result ≡ inner_of self }
+    {
+        let OverStd {
+            inner,
+            failed: _,
+            empty: _,
+        } = self;
+        inner
+    }
+}
+
+impl<T: Read> Source for OverStd<T> {
+    ghost left = { λ s. T.remaining s.inner };
+
+    ghost failed = { λ s. s.failed };
+
+    ghost ended = { λ s. s.empty };
+
+    fn read(&mut self, buffer: &mut [u8]) -> Result<usize, IoFailed> {
+        match self.inner.read(buffer) {
+            Ok(count) => {
+                if count == 0 {
+                    self.empty = true;
+                }
+                Ok(count)
+            }
+            Err(_) => {
+                self.failed = true;
+                Err(IoFailed)
+            }
+        }
+    }
+}
+
+impl<T: Write> Sink for OverStd<T> {
+    ghost taken = { λ s. T.contents s.inner };
+
+    ghost failed = { λ s. s.failed };
+
+    ghost stuck = { λ s. s.empty };
+
+    fn write(&mut self, bytes: &[u8]) -> Result<usize, IoFailed> {
+        match self.inner.write(bytes) {
+            Ok(count) => {
+                if count == 0 {
+                    self.empty = true;
+                }
+                Ok(count)
+            }
+            Err(_) => {
+                self.failed = true;
+                Err(IoFailed)
+            }
+        }
+    }
+}

@@ -1,0 +1,208 @@
+//! A run of a script, from the bytes to the answers.
+
+ghost use Rattle.std.specs.Prelude.{◌≡◌, ◌+◌, ◌<◌, ◌≤◌, ◌∷◌, [], ◌||◌, List, Option, ℕ, Bool, true, false, eqb, vec_len, vec_capacity, length, OnOk, IfOk, IfErr};
+ghost use Rattle.std.specs.Io.KnownBytes.{Consumes};
+ghost use Rattle.po_script.specs.Ends.{EndsWell, EndsAs};
+ghost use Rattle.po_script.specs.declared.run.TheConstants.{LINE_LIMIT, SCRIPT_LIMIT};
+
+use crate::command::FaultKind;
+use crate::fault::RunFault;
+use crate::interpreter::Interpreter;
+use crate::sink::Sink;
+use crate::source::Source;
+use std::alloc::Global;
+
+/// The most bytes of a line without its newline.
+const LINE_LIMIT: usize = 4096;
+
+/// The most bytes of a script.
+const SCRIPT_LIMIT: u64 = 67108864;
+
+/// A script as far as it has been read.
+#[derive(Drop)]
+struct Run {
+    /// What stands behind the last newline.
+    line: Vec<u8>,
+    /// The number of that line.
+    number: u64,
+    /// How many bytes were read.
+    total: u64,
+    interpreter: Interpreter,
+    ghost room: { LINE_LIMIT ≤ vec_capacity line },
+    ghost short: { vec_len line ≤ LINE_LIMIT },
+    ghost few: { total ≤ SCRIPT_LIMIT },
+    ghost numbered: { number ≤ total + 1 },
+}
+
+impl Run {
+    ghost use Rattle.po_script.specs.Run.{Stands, GoesOn, FailsAt};
+
+    /// A run that has read nothing.
+    fn new(alloc: Global) -> Result<Run, RunFault>
+        ensures ok { IfOk result (λ run. (start : Option (List ℕ)) → Stands run [] start start) }
+        ensures err { IfErr result (λ fault. fault ≡ RunFault.Memory) }
+    {
+        let Ok(line) = Vec::with_capacity(alloc, LINE_LIMIT) else {
+            return Err(RunFault::Memory);
+        };
+        Ok(Run {
+            line,
+            number: 1,
+            total: 0,
+            interpreter: Interpreter::new(alloc),
+        })
+    }
+
+    /// The fault of the line being read.
+    fn fault(&self, kind: FaultKind) -> RunFault
+        ensures { result ≡ RunFault.Script self.now.number kind }
+    {
+        RunFault::Script {
+            line: self.number,
+            kind,
+        }
+    }
+
+    /// Takes a newline.
+    fn newline<W: Sink>(&mut self, alloc: Global, writer: &mut W) -> Result<(), RunFault>
+        requires { self.old.total < SCRIPT_LIMIT }
+        ensures ok { OnOk result (GoesOn self.old self.new (10 ∷ [])
+            (W.taken writer.old) (W.taken writer.new)) }
+        ensures fine { OnOk result ((W.failed writer.new ≡ W.failed writer.old)
+            × (W.stuck writer.new ≡ W.stuck writer.old)) }
+        ensures total { OnOk result (self.new.total ≡ self.old.total + 1) }
+        ensures err { IfErr result (λ fault. FailsAt fault self.old (10 ∷ [])
+            (W.taken writer.old) (W.taken writer.new)
+            (W.failed writer.old || W.stuck writer.old) (W.failed writer.new || W.stuck writer.new)) }
+    {
+        self.interpreter
+            .carry_out(alloc, self.number, self.line.as_slice(), writer)?;
+        self.line.clear();
+        self.number += 1;
+        self.total += 1;
+        Ok(())
+    }
+
+    /// Takes a byte of a line.
+    fn letter(&mut self, byte: u8) -> Result<(), RunFault>
+        requires room { self.old.total < SCRIPT_LIMIT }
+        requires other { eqb byte 10 ≡ false }
+        ensures ok { (now : Option (List ℕ)) → OnOk result (GoesOn self.old self.new (byte ∷ []) now now) }
+        ensures total { OnOk result (self.new.total ≡ self.old.total + 1) }
+        ensures err { (now : Option (List ℕ)) (bad : Bool)
+            → IfErr result (λ fault. FailsAt fault self.old (byte ∷ []) now now bad bad) }
+    {
+        if self.line.len() == LINE_LIMIT {
+            return Err(self.fault(FaultKind::LineTooLong));
+        }
+        self.line.push_reserved(byte);
+        self.total += 1;
+        Ok(())
+    }
+
+    /// Takes the next byte.
+    fn byte<W: Sink>(&mut self, alloc: Global, byte: u8, writer: &mut W) -> Result<(), RunFault>
+        ensures ok { OnOk result (GoesOn self.old self.new (byte ∷ [])
+            (W.taken writer.old) (W.taken writer.new)) }
+        ensures fine { OnOk result ((W.failed writer.new ≡ W.failed writer.old)
+            × (W.stuck writer.new ≡ W.stuck writer.old)) }
+        ensures total { OnOk result (self.new.total ≡ self.old.total + 1) }
+        ensures err { IfErr result (λ fault. FailsAt fault self.old (byte ∷ [])
+            (W.taken writer.old) (W.taken writer.new)
+            (W.failed writer.old || W.stuck writer.old) (W.failed writer.new || W.stuck writer.new)) }
+    {
+        if self.total == SCRIPT_LIMIT {
+            return Err(self.fault(FaultKind::ScriptTooLong));
+        }
+        if byte == b'\n' {
+            return self.newline(alloc, writer);
+        }
+        self.letter(byte)
+    }
+
+    /// Takes the next bytes.
+    fn feed<W: Sink>(&mut self, alloc: Global, piece: &[u8], writer: &mut W) -> Result<(), RunFault>
+        ensures ok { OnOk result (GoesOn self.old self.new piece.now
+            (W.taken writer.old) (W.taken writer.new)) }
+        ensures fine { OnOk result ((W.failed writer.new ≡ W.failed writer.old)
+            × (W.stuck writer.new ≡ W.stuck writer.old)) }
+        ensures total { OnOk result (self.new.total ≡ self.old.total + length piece.now) }
+        ensures err { IfErr result (λ fault. FailsAt fault self.old piece.now
+            (W.taken writer.old) (W.taken writer.new)
+            (W.failed writer.old || W.stuck writer.old) (W.failed writer.new || W.stuck writer.new)) }
+    {
+        for byte in piece {
+            self.byte(alloc, *byte, writer)?;
+        }
+        Ok(())
+    }
+
+    /// Carries out what stands behind the last newline.
+    fn finish<W: Sink>(&mut self, alloc: Global, writer: &mut W) -> Result<(), RunFault>
+        ensures ok { (bytes : List ℕ) (start : Option (List ℕ))
+            → Stands self.old bytes start (W.taken writer.old)
+            → (W.failed writer.old || W.stuck writer.old) ≡ false
+            → OnOk result (EndsWell bytes start (W.taken writer.new) true false
+            (W.failed writer.new || W.stuck writer.new)) }
+        ensures err { (bytes : List ℕ) (start : Option (List ℕ))
+            → Stands self.old bytes start (W.taken writer.old)
+            → (W.failed writer.old || W.stuck writer.old) ≡ false
+            → IfErr result (λ fault. EndsAs fault bytes start (W.taken writer.new) true false
+            (W.failed writer.new || W.stuck writer.new)) }
+    {
+        self.interpreter
+            .carry_out(alloc, self.number, self.line.as_slice(), writer)?;
+        Ok(())
+    }
+
+    /// Reads the script from its beginning to its end, and carries it out.
+    fn read_on<R: Source, W: Sink>(
+        &mut self,
+        alloc: Global,
+        reader: &mut R,
+        writer: &mut W,
+    ) -> Result<(), RunFault>
+        requires fresh { Stands self.old [] (W.taken writer.old) (W.taken writer.old) }
+        requires reader { (R.failed reader.old ≡ false) × (R.ended reader.old ≡ false) }
+        requires writer { (W.failed writer.old || W.stuck writer.old) ≡ false }
+        ensures ok { OnOk result ((bytes : List ℕ) × Consumes (R.left reader.old) (R.left reader.new) bytes
+            × EndsWell bytes (W.taken writer.old) (W.taken writer.new) (R.ended reader.new) (R.failed reader.new)
+            (W.failed writer.new || W.stuck writer.new)) }
+        ensures err { IfErr result (λ fault. (bytes : List ℕ) × Consumes (R.left reader.old) (R.left reader.new) bytes
+            × EndsAs fault bytes (W.taken writer.old) (W.taken writer.new) (R.ended reader.new) (R.failed reader.new)
+            (W.failed writer.new || W.stuck writer.new)) }
+    {
+        let mut piece = [0u8; 4096];
+        loop {
+            let count = match reader.read(&mut piece) {
+                Ok(count) => count,
+                Err(_) => return Err(RunFault::Read),
+            };
+            if count == 0 {
+                return self.finish(alloc, writer);
+            }
+            self.feed(alloc, &piece[..count], writer)?;
+        }
+    }
+}
+
+/// Runs the script that the reader gives, and writes the answers.
+pub fn run_script<R: Source, W: Sink>(
+    alloc: Global,
+    reader: &mut R,
+    writer: &mut W,
+) -> Result<(), RunFault>
+    requires reader { (R.failed reader.old ≡ false) × (R.ended reader.old ≡ false) }
+    requires writer { (W.failed writer.old || W.stuck writer.old) ≡ false }
+    ensures ok { OnOk result ((bytes : List ℕ) × Consumes (R.left reader.old) (R.left reader.new) bytes
+        × EndsWell bytes (W.taken writer.old) (W.taken writer.new) (R.ended reader.new) (R.failed reader.new)
+        (W.failed writer.new || W.stuck writer.new)) }
+    ensures err { IfErr result (λ fault. (bytes : List ℕ) × Consumes (R.left reader.old) (R.left reader.new) bytes
+        × EndsAs fault bytes (W.taken writer.old) (W.taken writer.new) (R.ended reader.new) (R.failed reader.new)
+        (W.failed writer.new || W.stuck writer.new)) }
+{
+    let mut run = Run::new(alloc)?;
+    let ran = run.read_on(alloc, reader, writer);
+    drop(run);
+    ran
+}

@@ -1,0 +1,30 @@
+//! What a script is read from.
+
+ghost use Rattle.std.specs.Prelude.{◌≡◌, ℕ, ◌<◌, ◌≤◌, Bool, true, ◌||◌, ◌==◌, List, Option, length, take, IfOk, OnOk, OnErr};
+ghost use Rattle.std.specs.Io.KnownBytes.{Consumes, Keeps};
+
+/// A call of what lies under a source or a sink failed.
+#[derive(Clone, Copy, Debug, PartialEq, Eq)]
+pub struct IoFailed;
+
+/// Gives the bytes of a script.
+pub trait Source {
+    /// The bytes that it still has to give, where it tells them.
+    ghost left: { Self → Option (List ℕ) };
+    /// Whether a call has failed.
+    ghost failed: { Self → Bool };
+    /// Whether a call has given no byte.
+    ghost ended: { Self → Bool };
+
+    /// Puts the next bytes at the front of the buffer, and says how many; 0 is the end.
+    fn read(&mut self, buffer: &mut [u8]) -> Result<usize, IoFailed>
+        requires { 0 < length buffer.old }
+        ensures within { IfOk result (λ count. count ≤ length buffer.new) }
+        ensures given { IfOk result (λ count.
+            Consumes (left self.old) (left self.new) (take count buffer.new)) }
+        ensures at_end { IfOk result (λ count. ended self.new ≡ (ended self.old || (count == 0))) }
+        ensures fine { OnOk result (failed self.new ≡ failed self.old) }
+        ensures err { OnErr result ((failed self.new ≡ true)
+            × (ended self.new ≡ ended self.old)
+            × Keeps (left self.old) (left self.new)) };
+}

@@ -1,0 +1,253 @@
+//! What the commands on a core answered, as text, for tests. No clause says what a command did, so a test's proof carries
+//! none of it.
+
+use po_actions::{Aborted, Core, Deadline, End, Event, Place, Refusal, Ticket};
+use po_index::EntryRef;
+use po_unit::Unit;
+use std::alloc::Global;
+use std::fmt::Write;
+use std::process::Abort;
+use std::test::Fail;
+
+/// A command on a core, or a look at it.
+#[derive(Clone, Copy)]
+pub(crate) enum Step {
+    Call(EntryRef, u64),
+    Timed(u64, EntryRef, u64),
+    Procedure(u64),
+    Function(u64),
+    Cancel(u64),
+    Tick(u64),
+    Finalize,
+    /// Where the call of the ticket with this index is.
+    EndOf(usize),
+    /// Collects the end of the call of the ticket with this index.
+    Collect(usize),
+    Outcome(u64),
+    Count(EntryRef),
+    Place,
+}
+
+/// A core, the tickets of its calls, and what its commands answered: first the answer, then the calls that ended.
+#[derive(Drop)]
+pub(crate) struct Transcript<U: Unit<Value = u64> + Drop> {
+    core: Core<U>,
+    tickets: Vec<Ticket>,
+    text: String,
+}
+
+/// Adds the answer of a refused command.
+fn refuse(text: &mut String, refusal: Refusal) -> Result<(), Fail> {
+    let number = refusal.number();
+    write!(text, "refused {number}; ")?;
+    Ok(())
+}
+
+/// Adds how a call ended.
+fn end(text: &mut String, number: u64, end: End<u64>) -> Result<(), Fail> {
+    match end {
+        End::Completed(value) => write!(text, ", {number} done {value}")?,
+        End::Raised(exception) => write!(text, ", {number} raised {exception}")?,
+        End::Cancelled => write!(text, ", {number} cancelled")?,
+        End::ProgramError => write!(text, ", {number} program_error")?,
+    }
+    Ok(())
+}
+
+/// Adds an event.
+fn event(text: &mut String, event: &Event<u64>) -> Result<(), Fail> {
+    match event {
+        Event::Issue { .. } => write!(text, "Issue ")?,
+        Event::Ran { .. } => write!(text, "Ran ")?,
+        Event::Abort(n) => write!(text, "Abort({n}) ")?,
+        Event::Tick(t) => write!(text, "Tick({t}) ")?,
+        Event::Final => write!(text, "Final ")?,
+        Event::Serve(e) => write!(text, "Serve({e}) ")?,
+        Event::Break(e) => write!(text, "Break({e}) ")?,
+        Event::Expire(n) => write!(text, "Expire({n}) ")?,
+    }
+    Ok(())
+}
+
+/// The kinds of the events.
+fn events_of(alloc: Global, events: &[Event<u64>]) -> Result<String, Fail> {
+    let mut text = String::new(alloc);
+    for kind in events {
+        event(&mut text, kind)?;
+    }
+    Ok(text)
+}
+
+/// Carries out the steps, and compares what they answered and what the history then has.
+pub(crate) fn compare<R: Abort + AllocGlobal, U: Unit<Value = u64> + Drop>(
+    rt: &R,
+    run: Transcript<U>,
+    steps: &[Step],
+    text: &str,
+    events: &str,
+) -> Result<(), Fail> {
+    let mut run = run;
+    let compared = run.compare(rt, steps, text, events);
+    drop(run);
+    compared
+}
+
+impl<U: Unit<Value = u64> + Drop> Transcript<U> {
+    pub(crate) fn of(alloc: Global, core: Core<U>) -> Transcript<U> {
+        Transcript {
+            core,
+            tickets: Vec::new(alloc),
+            text: String::new(alloc),
+        }
+    }
+
+    fn compare<R: Abort + AllocGlobal>(
+        &mut self,
+        rt: &R,
+        steps: &[Step],
+        text: &str,
+        events: &str,
+    ) -> Result<(), Fail> {
+        for step in steps {
+            self.step(*step)?;
+        }
+        assert_eq!(rt; self.text.as_str(), text);
+        let kinds = events_of(rt.alloc(), self.core.events())?;
+        assert_eq!(rt; kinds.as_str(), events);
+        Ok(())
+    }
+
+    fn step(&mut self, step: Step) -> Result<(), Fail> {
+        match step {
+            Step::Call(entry, value) => self.issue(entry, value, Deadline::Never),
+            Step::Timed(time, entry, value) => self.issue(entry, value, Deadline::At(time)),
+            Step::Procedure(value) => self.procedure(value),
+            Step::Function(value) => self.function(value),
+            Step::Cancel(n) => self.cancel(n),
+            Step::Tick(time) => self.tick(time),
+            Step::Finalize => self.finalize(),
+            _ => self.look(step),
+        }
+    }
+
+    fn look(&mut self, step: Step) -> Result<(), Fail> {
+        match step {
+            Step::EndOf(index) => self.end_of(index),
+            Step::Collect(index) => self.collect(index),
+            Step::Outcome(n) => {
+                let outcome = self.core.outcome(n);
+                self.ending(n, outcome)
+            }
+            Step::Count(entry) => self.count(entry),
+            _ => {
+                let place = self.core.place();
+                write!(self.text, "place {place}; ")?;
+                Ok(())
+            }
+        }
+    }
+
+    /// Adds the calls that the last command ended.
+    fn ended(&mut self) -> Result<(), Fail> {
+        for call in self.core.ended_now() {
+            end(&mut self.text, call.number, call.end)?;
+        }
+        write!(self.text, "; ")?;
+        Ok(())
+    }
+
+    fn issue(&mut self, entry: EntryRef, value: u64, deadline: Deadline) -> Result<(), Fail> {
+        match self.core.issue(0, entry, value, deadline) {
+            Ok(ticket) => {
+                let number = ticket.number;
+                self.tickets.push(ticket)?;
+                write!(self.text, "#{number}")?;
+                self.ended()
+            }
+            Err(refusal) => refuse(&mut self.text, refusal),
+        }
+    }
+
+    fn procedure(&mut self, value: u64) -> Result<(), Fail> {
+        match self.core.run(0, 0, value) {
+            Ok(Ok(reply)) => write!(self.text, "done {reply}")?,
+            Ok(Err(exception)) => write!(self.text, "raised {exception}")?,
+            Err(refusal) => return refuse(&mut self.text, refusal),
+        }
+        self.ended()
+    }
+
+    fn function(&mut self, value: u64) -> Result<(), Fail> {
+        match self.core.read(0, value) {
+            Ok(Ok(reply)) => write!(self.text, "value {reply}; ")?,
+            Ok(Err(exception)) => write!(self.text, "raised {exception}; ")?,
+            Err(refusal) => refuse(&mut self.text, refusal)?,
+        }
+        Ok(())
+    }
+
+    fn cancel(&mut self, n: u64) -> Result<(), Fail> {
+        match self.core.abort(n) {
+            Ok(Aborted::Cancelled) => write!(self.text, "cancelled")?,
+            Ok(Aborted::Kept) => write!(self.text, "kept")?,
+            Err(refusal) => return refuse(&mut self.text, refusal),
+        }
+        self.ended()
+    }
+
+    fn tick(&mut self, time: u64) -> Result<(), Fail> {
+        match self.core.tick(time) {
+            Ok(clock) => write!(self.text, "clock {clock}")?,
+            Err(refusal) => return refuse(&mut self.text, refusal),
+        }
+        self.ended()
+    }
+
+    fn finalize(&mut self) -> Result<(), Fail> {
+        match self.core.finalize() {
+            Ok(()) => write!(self.text, "final")?,
+            Err(refusal) => return refuse(&mut self.text, refusal),
+        }
+        self.ended()
+    }
+
+    fn ending(&mut self, n: u64, ending: Option<End<u64>>) -> Result<(), Fail> {
+        match ending {
+            Some(how) => {
+                write!(self.text, "some")?;
+                end(&mut self.text, n, how)?;
+                write!(self.text, "; ")?;
+            }
+            None => write!(self.text, "none; ")?,
+        }
+        Ok(())
+    }
+
+    fn end_of(&mut self, index: usize) -> Result<(), Fail> {
+        let ticket = *self.tickets.get(index).ok_or("no such ticket")?;
+        match self.core.end_of(ticket) {
+            Place::Unknown => write!(self.text, "unknown; ")?,
+            Place::Waiting => write!(self.text, "waiting; ")?,
+            Place::Ended(how) => {
+                write!(self.text, "ended")?;
+                end(&mut self.text, ticket.number, how)?;
+                write!(self.text, "; ")?;
+            }
+        }
+        Ok(())
+    }
+
+    fn collect(&mut self, index: usize) -> Result<(), Fail> {
+        let ticket = *self.tickets.get(index).ok_or("no such ticket")?;
+        let ending = self.core.collect(ticket);
+        self.ending(ticket.number, ending)
+    }
+
+    fn count(&mut self, entry: EntryRef) -> Result<(), Fail> {
+        match self.core.count(entry) {
+            Ok(number) => write!(self.text, "count {number}; ")?,
+            Err(refusal) => refuse(&mut self.text, refusal)?,
+        }
+        Ok(())
+    }
+}
