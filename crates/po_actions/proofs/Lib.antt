@@ -1,4 +1,5 @@
 pub mod Lists
+pub mod Backwards
 pub mod Runs
 pub mod Sums
 pub mod Places

@@ -94,7 +94,7 @@ module _ {X : Type 0} (p : X → Bool) where
 pub eq_self : (n : ℕ) → (n == n) ≡ true
 eq_self n = grind (arith, nat_tests)
 
-bit_le : (b : Bool) (n : ℕ) → n ≡ (if b then 1 else 0) → n ≤ 1
+pub bit_le : (b : Bool) (n : ℕ) → n ≡ (if b then 1 else 0) → n ≤ 1
 bit_le true n h = omega arith
 bit_le false n h = omega arith
 

@@ -12,6 +12,7 @@ pub mod ProtectedAction
 pub mod Tickets
 pub mod RefusalNumbers
 pub mod Refusals
+pub mod Commands
 pub mod History
 pub mod Headline
 pub mod Room

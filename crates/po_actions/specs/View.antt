@@ -57,6 +57,10 @@ module _ {S V : Type 0} where
   abbrev pub newly_ended : Meaning S V → Option ℕ → ObjectState S V → List (Event V) → List (Ended V)
   newly_ended m limit s events = drop (length s.ended) (replay m limit s events).ended
 
+  -- No part of the history was cut off: it replays from the opening of the object.
+  abbrev pub IsWhole : View S V → Type 0
+  IsWhole view = view.base ≡ opening_base view.making.opening view.making.first_number view.making.first_place
+
   -- The history replays, from the base, as serial protected actions of one thread, and leads to the present state (9.5.1).
   -- Each call that it issues names a public entry.
   pub record Replays (m : Meaning S V) (view : View S V) : Type 0 where

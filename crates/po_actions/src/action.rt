@@ -6,7 +6,7 @@ ghost use Rattle.po_actions.specs.WaitingCalls.{has_number, is_of};
 ghost use Rattle.po_actions.specs.ObjectState.{IsAtRest, counts_in};
 ghost use Rattle.po_actions.specs.Step.{step, has_ended, MayBegin, IsFound};
 ghost use Rattle.po_actions.specs.Pick.{pick, served_last, weight};
-ghost use Rattle.po_actions.specs.View.{next_place, last_served, ended_now, opening_view};
+ghost use Rattle.po_actions.specs.View.{next_place, last_served, ended_now, opening_view, IsWhole};
 ghost use Rattle.po_actions.specs.Progress.{Settles, Begins, Happens, IsSameCommand};
 ghost use Rattle.po_actions.specs.ProtectedAction.{settled, without_event};
 ghost use Rattle.po_actions.specs.Tickets.{place_of};
@@ -219,9 +219,10 @@ impl<U: Unit> Action<U> {
         self.ended_before = self.state.ended().len();
     }
 
-    /// What every history keeps.
+    /// What every history keeps. It replays from the opening of the object.
     pub(crate) fn is_sound(&self)
-        ensures { IsSound U.meaning self.now }
+        ensures sound { IsSound U.meaning self.now }
+        ensures whole { IsWhole self.now }
     {
         let _ = &self.events;
     }

@@ -1,27 +1,25 @@
 //! The list of ended calls, in the order in which they ended.
 
-ghost use Rattle.std.specs.Prelude.{◌≡◌, ◌+◌, ◌≤◌, ◌++◌, position, find, map, length, vec_len, vec_capacity};
+ghost use Rattle.std.specs.Prelude.{◌≡◌, ◌+◌, ◌≤◌, ◌++◌, count_by, find, reverse, map, length, vec_len, vec_capacity};
 ghost use Rattle.po_actions.specs.Step.{ended_as, has_ended};
 
 use crate::call::Call;
 use crate::end::{End, Ended};
 
-/// The index of the end of the call with number n.
-fn index_of<V>(ended: &[Ended<V>], n: u64) -> Option<usize>
-    ensures { result ≡ position (has_ended n) ended.now }
+/// The last end of a call with number n.
+fn last_of<V: Copy>(ended: &[Ended<V>], n: u64) -> Option<Ended<V>>
+    ensures { result ≡ find (has_ended n) (reverse ended.now) }
 {
-    ended.iter().position(|x| x.number == n)
+    ended.iter().rev().copied().find(|x| x.number == n)
 }
 
-/// The end of the call with number n.
-#[tactic(auto, using(crate::proofs::Lists::places))]
+/// The end of the call with number n. It is searched for from the back, where the calls stand that ended lately.
+#[tactic(auto, using(crate::proofs::Backwards::find_reversed))]
 pub(crate) fn end_of<V: Copy>(ended: &[Ended<V>], n: u64) -> Option<Ended<V>>
+    requires once { count_by (has_ended n) ended.now ≤ 1 }
     ensures { result ≡ find (has_ended n) ended.now }
 {
-    match index_of(ended, n) {
-        Some(index) => Some(ended[index]),
-        None => None,
-    }
+    last_of(ended, n)
 }
 
 /// Ends each of the calls by Program_Error.

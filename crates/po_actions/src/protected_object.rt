@@ -5,10 +5,11 @@ ghost use Rattle.po_index.specs.Numbering.{entry_count, flat_number, is_public};
 ghost use Rattle.po_actions.specs.WaitingCalls.{is_of};
 ghost use Rattle.po_actions.specs.ObjectState.{counts_in};
 ghost use Rattle.po_actions.specs.Step.{has_ended};
-ghost use Rattle.po_actions.specs.View.{next_place, ended_now, opening_view};
+ghost use Rattle.po_actions.specs.View.{next_place, ended_now, opening_view, IsWhole};
 ghost use Rattle.po_actions.specs.ProtectedAction.{IsProtectedAction, IsAbortOf, after_action, after_abort, abort_answer};
 ghost use Rattle.po_actions.specs.Tickets.{number_at, SetsTicket, place_of_ticket, end_of_ticket, AreIssued};
 ghost use Rattle.po_actions.specs.Refusals.{entry_of, entry_refusal, issue_refusal, run_refusal, read_refusal, abort_refusal, finalized_refusal, count_refusal};
+ghost use Rattle.po_actions.specs.Commands.{issue_of, reply_of};
 ghost use Rattle.po_actions.specs.Headline.{Headline};
 ghost use Rattle.po_actions.specs.declared.refusal.Refusal.{Refusal};
 
@@ -30,8 +31,8 @@ use std::marker::Model;
 
 /// The core of a protected object (9.4).
 ///
-/// Each command is one protected action of one thread: its own event, and the servicing of the entry queues that follows
-/// it (9.5.1, 9.5.3). Between two commands the headline holds, which `headline` states.
+/// Each command is one protected action of one thread: its own event, and the servicing of the entry queues that
+/// follows it (9.5.1, 9.5.3). Between two commands the headline holds, which `headline` states.
 #[derive(Drop)]
 pub struct Core<U: Unit> {
     action: Action<U>,
@@ -65,10 +66,18 @@ impl<U: Unit + Drop> Core<U> {
         first_number: u64,
     ) -> Result<Core<U>, MakeFault>
         ensures core { IfOk result (λ c. c ≡ record {
-          object = opening_view (record { opening = unit; shape = shape; order = order; max_queue = None; first_number = first_number; first_place = 0 });
+          object = opening_view (record {
+            opening = unit;
+            shape = shape;
+            order = order;
+            max_queue = None;
+            first_number = first_number;
+            first_place = 0;
+          });
           tickets = [];
         }) }
-        ensures mismatch { (result ≡ Err MakeFault.ShapeMismatch) ↔ (U.meaning.entries unit ≢ entry_count shape) }
+        ensures mismatch { (result ≡ Err MakeFault.ShapeMismatch) ↔
+            (U.meaning.entries unit ≢ entry_count shape) }
     {
         Core::start(
             alloc,
@@ -94,10 +103,18 @@ impl<U: Unit + Drop> Core<U> {
         start: Start,
     ) -> Result<Core<U>, MakeFault>
         ensures core { IfOk result (λ c. c ≡ record {
-          object = opening_view (record { opening = unit; shape = shape; order = order; max_queue = start.max_queue; first_number = start.first_number; first_place = start.first_place });
+          object = opening_view (record {
+            opening = unit;
+            shape = shape;
+            order = order;
+            max_queue = start.max_queue;
+            first_number = start.first_number;
+            first_place = start.first_place;
+          });
           tickets = [];
         }) }
-        ensures mismatch { (result ≡ Err MakeFault.ShapeMismatch) ↔ (U.meaning.entries unit ≢ entry_count shape) }
+        ensures mismatch { (result ≡ Err MakeFault.ShapeMismatch) ↔
+            (U.meaning.entries unit ≢ entry_count shape) }
     {
         if unit.entries() != shape.total() {
             return Err(MakeFault::ShapeMismatch);
@@ -121,14 +138,18 @@ impl<U: Unit> Core<U> {
         value: U::Value,
         deadline: Deadline,
     ) -> Result<Ticket, Refusal>
-        ensures after { OnOk result (self.new.object ≡ after_action U.meaning self.old.object (Event.Issue self.old.object.state.next owner (entry_of self.old.object.making.shape entry) value deadline)) }
+        ensures after { OnOk result (self.new.object ≡
+            after_action U.meaning self.old.object (issue_of self.old.object owner entry value deadline)) }
         ensures number { IfOk result (λ ticket. ticket.number ≡ self.old.object.state.next) }
         // No uncollected call had the key of the ticket.
         ensures key { IfOk result (λ ticket. number_at self.old.tickets ticket.key ≡ None) }
-        ensures ticket { IfOk result (λ ticket. SetsTicket self.old.tickets self.new.tickets ticket.key (Some ticket.number)) }
-        ensures action { OnOk result (IsProtectedAction U.meaning self.old.object self.new.object (Event.Issue self.old.object.state.next owner (entry_of self.old.object.making.shape entry) value deadline)) }
+        ensures ticket { IfOk result (λ ticket.
+            SetsTicket self.old.tickets self.new.tickets ticket.key (Some ticket.number)) }
+        ensures action { OnOk result (IsProtectedAction U.meaning self.old.object self.new.object
+            (issue_of self.old.object owner entry value deadline)) }
         ensures allowed { OnOk result (issue_refusal self.old.object entry ≡ None) }
-        ensures refused { IfErr result (λ r. r ≡ unwrap_or (issue_refusal self.old.object entry) Refusal.OutOfMemory) }
+        ensures refused { IfErr result (λ r.
+            r ≡ unwrap_or (issue_refusal self.old.object entry) Refusal.OutOfMemory) }
         ensures unchanged { OnErr result (self.new ≡ self.old) }
     {
         let e = self.entry_from_outside(entry)?;
@@ -156,11 +177,15 @@ impl<U: Unit> Core<U> {
         op: u16,
         value: U::Value,
     ) -> Result<Result<U::Value, u32>, Refusal>
-        ensures after { IfOk result (λ reply. self.new ≡ record self.old { object = after_action U.meaning self.old.object (Event.Ran owner op value reply) }) }
-        ensures reply { IfOk result (λ reply. reply ≡ (U.meaning.procedure self.old.object.state.unit op value (counts_in U.meaning self.old.object.state)).1) }
-        ensures action { IfOk result (λ reply. IsProtectedAction U.meaning self.old.object self.new.object (Event.Ran owner op value reply)) }
+        ensures after { IfOk result (λ reply. self.new ≡ record self.old {
+          object = after_action U.meaning self.old.object (Event.Ran owner op value reply);
+        }) }
+        ensures reply { IfOk result (λ reply. reply ≡ reply_of U.meaning self.old.object op value) }
+        ensures action { IfOk result (λ reply.
+            IsProtectedAction U.meaning self.old.object self.new.object (Event.Ran owner op value reply)) }
         ensures allowed { OnOk result (run_refusal U.meaning self.old.object op ≡ None) }
-        ensures refused { IfErr result (λ r. r ≡ unwrap_or (run_refusal U.meaning self.old.object op) Refusal.OutOfMemory) }
+        ensures refused { IfErr result (λ r.
+            r ≡ unwrap_or (run_refusal U.meaning self.old.object op) Refusal.OutOfMemory) }
         ensures unchanged { OnErr result (self.new ≡ self.old) }
     {
         if op >= self.action.state().procedures() {
@@ -181,8 +206,12 @@ impl<U: Unit> Core<U> {
     ///
     /// Refused 4 and 7.
     pub fn read(&self, op: u16, value: U::Value) -> Result<Result<U::Value, u32>, Refusal>
-        ensures reply { IfOk result (λ reply. reply ≡ U.meaning.function self.now.object.state.unit op value (counts_in U.meaning self.now.object.state)) }
-        ensures refused { MatchResult result (λ _. read_refusal U.meaning self.now.object op ≡ None) (λ r. read_refusal U.meaning self.now.object op ≡ Some r) }
+        ensures reply { IfOk result (λ reply. reply ≡
+            U.meaning.function self.now.object.state.unit op value
+            (counts_in U.meaning self.now.object.state)) }
+        ensures refused { MatchResult result
+            (λ _. read_refusal U.meaning self.now.object op ≡ None)
+            (λ r. read_refusal U.meaning self.now.object op ≡ Some r) }
     {
         if op >= self.action.state().functions() {
             return Err(Refusal::NoSuchOperation);
@@ -197,10 +226,14 @@ impl<U: Unit> Core<U> {
     ///
     /// Refused 5 and 6.
     pub fn abort(&mut self, n: u64) -> Result<Aborted, Refusal>
-        ensures after { OnOk result (self.new ≡ record self.old { object = after_abort U.meaning self.old.object n }) }
+        ensures after { OnOk result (self.new ≡ record self.old {
+          object = after_abort U.meaning self.old.object n;
+        }) }
         ensures answer { IfOk result (λ aborted. aborted ≡ abort_answer self.old.object n) }
         ensures action { OnOk result (IsAbortOf U.meaning self.old.object self.new.object n) }
-        ensures refused { MatchResult result (λ _. abort_refusal self.old.object n ≡ None) (λ r. abort_refusal self.old.object n ≡ Some r) }
+        ensures refused { MatchResult result
+            (λ _. abort_refusal self.old.object n ≡ None)
+            (λ r. abort_refusal self.old.object n ≡ Some r) }
         ensures unchanged { OnErr result (self.new ≡ self.old) }
     {
         if n < self.first_number() || n >= self.next() {
@@ -227,11 +260,15 @@ impl<U: Unit> Core<U> {
     ///
     /// Refused 7 and 9.
     pub fn tick(&mut self, t: u64) -> Result<u64, Refusal>
-        ensures after { OnOk result (self.new ≡ record self.old { object = after_action U.meaning self.old.object (Event.Tick t) }) }
+        ensures after { OnOk result (self.new ≡ record self.old {
+          object = after_action U.meaning self.old.object (Event.Tick t);
+        }) }
         ensures clock { IfOk result (λ clock. clock ≡ self.new.object.state.clock) }
-        ensures action { OnOk result (IsProtectedAction U.meaning self.old.object self.new.object (Event.Tick t)) }
+        ensures action { OnOk result (
+            IsProtectedAction U.meaning self.old.object self.new.object (Event.Tick t)) }
         ensures allowed { OnOk result (finalized_refusal self.old.object ≡ None) }
-        ensures refused { IfErr result (λ r. r ≡ unwrap_or (finalized_refusal self.old.object) Refusal.OutOfMemory) }
+        ensures refused { IfErr result (λ r.
+            r ≡ unwrap_or (finalized_refusal self.old.object) Refusal.OutOfMemory) }
         ensures unchanged { OnErr result (self.new ≡ self.old) }
     {
         if self.action.state().is_finalized() {
@@ -246,10 +283,15 @@ impl<U: Unit> Core<U> {
     ///
     /// Refused 7.
     pub fn finalize(&mut self) -> Result<(), Refusal>
-        ensures after { OnOk result (self.new ≡ record self.old { object = after_action U.meaning self.old.object Event.Final }) }
-        ensures action { OnOk result (IsProtectedAction U.meaning self.old.object self.new.object Event.Final) }
+        ensures after { OnOk result (self.new ≡ record self.old {
+          object = after_action U.meaning self.old.object Event.Final;
+        }) }
+        ensures action { OnOk result (
+            IsProtectedAction U.meaning self.old.object self.new.object Event.Final) }
         ensures alone { OnOk result (self.new.object.events ≡ self.old.object.events ++ Event.Final ∷ []) }
-        ensures refused { MatchResult result (λ _. finalized_refusal self.old.object ≡ None) (λ r. finalized_refusal self.old.object ≡ Some r) }
+        ensures refused { MatchResult result
+            (λ _. finalized_refusal self.old.object ≡ None)
+            (λ r. finalized_refusal self.old.object ≡ Some r) }
         ensures unchanged { OnErr result (self.new ≡ self.old) }
     {
         if self.action.state().is_finalized() {
@@ -264,13 +306,15 @@ impl<U: Unit> Core<U> {
         ensures { result ≡ place_of_ticket self.now ticket }
     {
         if self.tickets.get(ticket.key) == Some(&ticket.number) {
+            self.action.is_sound();
             self.action.state().place_of(ticket.number)
         } else {
             Place::Unknown
         }
     }
 
-    /// Takes the end of the call of a ticket, if it has ended, and makes the ticket Unknown for good. Else nothing changes.
+    /// Takes the end of the call of a ticket, if it has ended, and makes the ticket Unknown for good. Else nothing
+    /// changes.
     pub fn collect(&mut self, ticket: Ticket) -> Option<End<U::Value>>
         ensures end { result ≡ end_of_ticket self.old ticket }
         ensures object { self.new.object ≡ self.old.object }
@@ -288,8 +332,12 @@ impl<U: Unit> Core<U> {
     ///
     /// Refused 1 and 3.
     pub fn count(&self, entry: EntryRef) -> Result<u64, Refusal>
-        ensures count { IfOk result (λ n. n ≡ slice_index (counts_in U.meaning self.now.object.state) (entry_of self.now.object.making.shape entry)) }
-        ensures refused { MatchResult result (λ _. count_refusal self.now.object entry ≡ None) (λ r. count_refusal self.now.object entry ≡ Some r) }
+        ensures count { IfOk result (λ n. n ≡
+            slice_index (counts_in U.meaning self.now.object.state)
+            (entry_of self.now.object.making.shape entry)) }
+        ensures refused { MatchResult result
+            (λ _. count_refusal self.now.object entry ≡ None)
+            (λ r. count_refusal self.now.object entry ≡ Some r) }
     {
         let e = self.action.making().shape().flat(entry)?;
         self.action.is_sound();
@@ -314,6 +362,7 @@ impl<U: Unit> Core<U> {
     pub fn outcome(&self, n: u64) -> Option<End<U::Value>>
         ensures { result ≡ option_map (λ x. x.end) (find (has_ended n) self.now.object.state.ended) }
     {
+        self.action.is_sound();
         self.action.state().outcome(n)
     }
 
@@ -394,11 +443,13 @@ impl<U: Unit> Core<U> {
         self.action.making().max_queue()
     }
 
-    /// The headline, which holds of every core, whatever commands it has carried out or refused: no queued call has an open
-    /// barrier, each queue is in order of arrival, each accepted call is in exactly one place, and the history replays as
-    /// serial protected actions of one thread and leads to the present state. And each ticket is of an issued call.
+    /// The headline, which holds of every core, whatever commands it has carried out or refused: no queued call has an
+    /// open barrier, each queue is in order of arrival, each accepted call is in exactly one place, and the history
+    /// replays as serial protected actions of one thread and leads to the present state. Nothing of the history was cut
+    /// off. And each ticket is of an issued call.
     pub fn headline(&self)
         ensures headline { Headline U.meaning self.now.object }
+        ensures whole { IsWhole self.now.object }
         ensures tickets { AreIssued self.now }
     {
         self.action.is_sound();
@@ -408,8 +459,10 @@ impl<U: Unit> Core<U> {
     fn entry_from_outside(&self, entry: EntryRef) -> Result<u16, Refusal>
         ensures number { IfOk result (λ e. flat_number self.now.object.making.shape entry ≡ Ok e) }
         ensures public { IfOk result (λ e. is_public self.now.object.making.shape e ≡ true) }
-        ensures allowed { OnOk result ((other : Option Refusal) → entry_refusal self.now.object.making.shape entry other ≡ other) }
-        ensures refused { IfErr result (λ r. (other : Option Refusal) → entry_refusal self.now.object.making.shape entry other ≡ Some r) }
+        ensures allowed { OnOk result ((other : Option Refusal) →
+            entry_refusal self.now.object.making.shape entry other ≡ other) }
+        ensures refused { IfErr result (λ r. (other : Option Refusal) →
+            entry_refusal self.now.object.making.shape entry other ≡ Some r) }
     {
         let shape = self.action.making().shape();
         let Some(decl) = shape.decl(entry.entry) else {

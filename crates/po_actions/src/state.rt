@@ -1,6 +1,6 @@
 //! The state of a protected object: its data and its calls.
 
-ghost use Rattle.std.specs.Prelude.{◌≡◌, ◌<◌, ◌+◌, slice_index, All, IfOk, OnOk, OnErr, IsSome, find, is_some, option_map, if◌then◌else◌};
+ghost use Rattle.std.specs.Prelude.{◌≡◌, ◌<◌, ◌≤◌, ◌+◌, count_by, slice_index, All, IfOk, OnOk, OnErr, IsSome, find, is_some, option_map, if◌then◌else◌};
 ghost use Rattle.po_actions.specs.WaitingCalls.{is_on, is_of, has_number};
 ghost use Rattle.po_actions.specs.ObjectState.{opening_state, counts_in, gate_in};
 ghost use Rattle.po_actions.specs.Pick.{turn_of as turn_at, examined, first_some, pick, Fits};
@@ -20,8 +20,8 @@ use po_unit::{Outcome, Unit};
 use std::alloc::{AllocError, Global};
 use std::marker::Model;
 
-/// The data of a protected object and its calls. Contracts see it as an object's state, beside the number of further calls
-/// for which there is room. Each method is one word of the definitions of a step.
+/// The data of a protected object and its calls. Contracts see it as an object's state, beside the number of further
+/// calls for which there is room. Each method is one word of the definitions of a step.
 #[derive(Drop)]
 pub struct State<U: Unit> {
     unit: U,
@@ -67,6 +67,7 @@ impl<U: Unit> Model for State<U> {
 }
 
 impl<U: Unit + Drop> State<U> {
+    /// The state of an object that was just made, whose first call gets this number.
     pub(crate) fn new(alloc: Global, unit: U, first_number: u64) -> Result<State<U>, AllocError>
         ensures { IfOk result (λ d. d.state ≡ opening_state unit first_number) }
     {
@@ -87,6 +88,7 @@ impl<U: Unit + Drop> State<U> {
 }
 
 impl<U: Unit> State<U> {
+    /// The number that the next call gets.
     pub(crate) fn next(&self) -> u64
         ensures { result ≡ self.now.state.next }
     {
@@ -143,6 +145,7 @@ impl<U: Unit> State<U> {
         }
     }
 
+    /// What comes of a call whose body has ended: it completes, raises, is requeued or is cancelled (9.5.2, 9.5.4).
     pub(crate) fn land(
         &mut self,
         limit: Option<u64>,
@@ -231,7 +234,7 @@ impl<U: Unit> State<U> {
 
     /// A queued call is cancelled.
     #[tactic(auto, using(crate::proofs::Lists::without_none))]
-    pub(crate) fn expire(&mut self, n: u64)
+    pub(crate) fn cancel(&mut self, n: u64)
         ensures state { self.new.state ≡ cancel self.old.state n (find (has_number n) self.old.state.waiting) }
         ensures room { self.new.room ≡ self.old.room }
     {
@@ -295,47 +298,54 @@ impl<U: Unit> State<U> {
         match event {
             Event::Serve(e) => self.serve(limit, e),
             Event::Break(_) => self.end_all(),
-            Event::Expire(n) => self.expire(n),
+            Event::Expire(n) => self.cancel(n),
             _ => {}
         }
     }
 
+    /// How many entries the unit has.
     pub(crate) fn entries(&self) -> u16
         ensures { result ≡ U.meaning.entries self.now.state.unit }
     {
         self.unit.entries()
     }
 
+    /// How many procedures the unit has.
     pub(crate) fn procedures(&self) -> u16
         ensures { result ≡ U.meaning.procedures self.now.state.unit }
     {
         self.unit.procedures()
     }
 
+    /// Whether the object is finalized.
     pub(crate) fn is_finalized(&self) -> bool
         ensures { result ≡ self.now.state.finalized }
     {
         self.finalized
     }
 
+    /// The clock.
     pub(crate) fn clock(&self) -> u64
         ensures { result ≡ self.now.state.clock }
     {
         self.clock
     }
 
+    /// The data of the object.
     pub(crate) fn unit(&self) -> &U
         ensures { result.now ≡ self.now.state.unit }
     {
         &self.unit
     }
 
+    /// The calls that have ended, in that order.
     pub(crate) fn ended(&self) -> &[Ended<U::Value>]
         ensures { result.now ≡ self.now.state.ended }
     {
         &self.ended
     }
 
+    /// The queued call with number n.
     pub(crate) fn waiting_call(&self, n: u64) -> Option<Call<U::Value>>
         ensures { result ≡ find (has_number n) self.now.state.waiting }
     {
@@ -393,11 +403,12 @@ impl<U: Unit> State<U> {
                 mark_number(&mut self.waiting, n);
                 count_into(&mut self.counts, self.unit.entries(), &self.waiting);
             } else {
-                self.expire(n);
+                self.cancel(n);
             }
         }
     }
 
+    /// The clock rises to t, if it is lower.
     pub(crate) fn tick(&mut self, t: u64)
         ensures state { self.new.state ≡ advance self.old.state t }
         ensures room { self.new.room ≡ self.old.room }
@@ -405,6 +416,7 @@ impl<U: Unit> State<U> {
         self.clock = self.clock.max(t);
     }
 
+    /// The object is finalized, and all queued calls end (9.4).
     pub(crate) fn finalize(&mut self)
         ensures state { self.new.state ≡ finalize self.old.state }
         ensures room { self.new.room ≡ self.old.room }
@@ -413,7 +425,9 @@ impl<U: Unit> State<U> {
         self.finalized = true;
     }
 
+    /// Where the call with number n is.
     pub(crate) fn place_of(&self, n: u64) -> Place<U::Value>
+        requires once { count_by (has_ended n) self.now.state.ended ≤ 1 }
         ensures { result ≡ place_of self.now.state n }
     {
         match end_of(&self.ended, n) {
@@ -425,7 +439,9 @@ impl<U: Unit> State<U> {
         }
     }
 
+    /// How the call with number n ended, if it has.
     pub(crate) fn outcome(&self, n: u64) -> Option<End<U::Value>>
+        requires once { count_by (has_ended n) self.now.state.ended ≤ 1 }
         ensures { result ≡ option_map (λ x. x.end) (find (has_ended n) self.now.state.ended) }
     {
         match end_of(&self.ended, n) {
@@ -449,12 +465,14 @@ impl<U: Unit> State<U> {
         self.unit.function(op, v, &self.counts)
     }
 
+    /// How many functions the unit has.
     pub(crate) fn functions(&self) -> u16
         ensures { result ≡ U.meaning.functions self.now.state.unit }
     {
         self.unit.functions()
     }
 
+    /// How many calls are queued on the entry (9.9).
     pub(crate) fn count(&self, e: u16) -> u64
         requires { e < U.meaning.entries self.now.state.unit }
         ensures { result ≡ slice_index (counts_in U.meaning self.now.state) e }

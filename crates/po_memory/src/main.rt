@@ -49,8 +49,9 @@ fn snapshot_of(core: &Core<Trap>) -> Snapshot {
 
 /// A core, or none where memory was wanting.
 fn make(alloc: Global) -> Option<Core<Trap>> {
-    let shape = Trap::shape(alloc).ok()?;
-    Core::new(alloc, Trap::new(), shape, Order::Oldest, 1).ok()
+    let unit = Trap::new();
+    let shape = unit.shape(alloc).ok()?;
+    Core::new(alloc, unit, shape, Order::Oldest, 1).ok()
 }
 
 /// A core, made once more where memory was wanting.

@@ -5,7 +5,7 @@ use Rattle.std.specs.Io.KnownBytes.{Appends}
 use Rattle.po_script.proofs.FailLemmas.{memory_ends, script_ends, write_ends, past_ends, long_ends, end_well, end_script, end_write}
 use Rattle.po_script.specs.Commands.{command_of}
 use Rattle.po_script.specs.Script.{cut}
-use Rattle.po_script.specs.Session.{answer}
+use Rattle.po_script.specs.Session.{state_of, answer}
 use Rattle.po_script.specs.AnySession.{text_with}
 use Rattle.po_script.specs.Ends.{IsLineRead, EndsAs, EndsWell}
 use Rattle.po_script.specs.Interpreter.{Fails}
@@ -63,7 +63,7 @@ module _ (run : Run) (bytes : List ℕ) (start now : Option (List ℕ)) (s : Sta
       (refl, h.1 ∙ fine, length (cut bytes).full, rw h.0 (rw append-nil at (memory_ends _ _ _ _ _ _ _ _ bytes start now s [])))
 
   -- the last line is carried out
-  pub run_end_well : (c : Option Command) (later : Option (List ℕ)) (bad : Bool) → run.total ≤ 67108864 → length run.line.items ≤ 4096 → command_of run.interpreter.begun run.line.items ≡ Ok c → Appends now later (text_with answer run.interpreter.session c) → bad ≡ false → EndsWell bytes start later true false bad
+  pub run_end_well : (c : Option Command) (later : Option (List ℕ)) (bad : Bool) → run.total ≤ 67108864 → length run.line.items ≤ 4096 → command_of run.interpreter.begun run.line.items ≡ Ok c → Appends now later (text_with answer (state_of run.interpreter.session) c) → bad ≡ false → EndsWell bytes start later true false bad
   run_end_well c later bad room short says told fine = let e = end_well _ _ _ _ _ _ _ _ bytes start now s c later room short says told in (refl, refl, fine, e.0, e.1)
 
 -- what holds of the error, and what follows from it

@@ -7,3 +7,4 @@ pub mod ScriptLemmas
 pub mod FailLemmas
 pub mod EndLemmas
 pub mod Refused
+pub mod ShowLemmas

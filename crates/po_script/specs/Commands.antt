@@ -1,20 +1,26 @@
 -- What a line says: a command, nothing, or what is wrong with it.
 use Rattle.std.specs.Prelude.{codes, ℕ, ℤ, Bool, false, ◌&&◌, nat_le, ◌≤◌, ◌==◌, List, [], ◌∷◌, Option, Some, None, Result, Ok, Err, if◌then◌else◌}
-use Rattle.std.specs.Option.{option_map}
+use Rattle.std.specs.Option.{option_map, option_and_then}
 use Rattle.std.specs.Str.{bytes_eq}
-use Rattle.po_script.specs.Words.{words, number_of, entry_parts}
+use Rattle.po_script.specs.Words.{words, number_of, is_name, entry_parts}
 use Rattle.po_units.specs.Names.{place_of_name}
-use Rattle.po_script.specs.Names.{entry_names}
+use Rattle.po_script.specs.Names.{entry_names, procedure_names, function_names}
 use Rattle.po_index.specs.declared.decl.EntryRef.{EntryRef}
+use Rattle.po_actions.specs.declared.call.Deadline.{Deadline}
+use Rattle.po_actions.specs.declared.call.Deadline.TheVariants.{Never, At}
+use Rattle.po_actions.specs.declared.order.Order.{Order}
+use Rattle.po_actions.specs.declared.order.Order.TheVariants.{Textual, Oldest, Rotating}
 use Rattle.po_script.specs.declared.command.UnitChoice.{UnitChoice}
-use Rattle.po_script.specs.declared.command.UnitChoice.TheVariants.{Buffer}
+use Rattle.po_script.specs.declared.command.UnitChoice.TheVariants.{Buffer, Signal, Broadcast, Pulse, Meeting, Allocator, Relay, Trap}
+use Rattle.po_script.specs.declared.command.Beginning.{Beginning}
 use Rattle.po_script.specs.declared.command.Command.{Command}
 use Rattle.po_script.specs.declared.command.Command.TheVariants.{Begin, Operate}
-use Rattle.po_script.specs.declared.command.Operation.TheVariants.{Call as CallOperation}
+use Rattle.po_script.specs.declared.command.Operation.{Operation}
+use Rattle.po_script.specs.declared.command.Operation.TheVariants.{Call as CallOperation, Run, Read, Abort, Tick as TickOperation, Finalize, Show as ShowOperation}
 use Rattle.po_script.specs.declared.command.FaultKind.{FaultKind}
 use Rattle.po_script.specs.declared.command.FaultKind.TheVariants.{UnknownCommand, NoUnit, SecondUnit, BadUnit, BadArgument}
 use Rattle.po_script.specs.declared.parse.Verb.{Verb}
-use Rattle.po_script.specs.declared.parse.Verb.TheVariants.{Begin as BeginVerb, Call}
+use Rattle.po_script.specs.declared.parse.Verb.TheVariants.{Begin as BeginVerb, Call, Cond, Timed, Proc, Func, Cancel, Tick, Final, Show}
 
 -- the word begins with `#`
 abbrev pub is_comment : List ℕ → Bool
@@ -26,19 +32,32 @@ abbrev pub verb_of : List ℕ → Option Verb
 verb_of word =
     if bytes_eq word (codes "unit") then Some BeginVerb
     else if bytes_eq word (codes "call") then Some Call
+    else if bytes_eq word (codes "cond") then Some Cond
+    else if bytes_eq word (codes "timed") then Some Timed
+    else if bytes_eq word (codes "proc") then Some Proc
+    else if bytes_eq word (codes "func") then Some Func
+    else if bytes_eq word (codes "cancel") then Some Cancel
+    else if bytes_eq word (codes "tick") then Some Tick
+    else if bytes_eq word (codes "final") then Some Final
+    else if bytes_eq word (codes "show") then Some Show
     else None
+
+-- ---- the words behind `unit`
 
 -- A unit's size is from 1 to 1,024.
 abbrev pub IsSize : ℕ → Type 0
 IsSize n = (1 ≤ n) × (n ≤ 1024)
 
--- The unit's size is within its limits.
+-- The unit's size, if it has one, is within its limits.
 abbrev pub HasSize : UnitChoice → Type 0
 HasSize (Buffer capacity) = IsSize capacity
+HasSize (Meeting size) = IsSize size
+HasSize (Allocator size) = IsSize size
+HasSize other = Unit {0}
 
 -- If the command begins a unit, its size is within its limits.
 abbrev pub CanBegin : Command → Type 0
-CanBegin (Begin unit) = HasSize unit
+CanBegin (Begin beginning) = HasSize beginning.unit
 CanBegin other = Unit {0}
 
 -- a number that is a size
@@ -49,20 +68,74 @@ size_within (Some n) = if nat_le 1 n && nat_le n 1024 then Some n else None
 abbrev pub size_of : List ℕ → Option ℕ
 size_of word = size_within (number_of word)
 
-abbrev pub buffer_with : Option ℕ → Result UnitChoice FaultKind
-buffer_with None = Err BadUnit
-buffer_with (Some capacity) = Ok (Buffer capacity)
+-- the unit of this name, of those that have no size
+abbrev pub plain_unit : List ℕ → Option UnitChoice
+plain_unit name =
+    if bytes_eq name (codes "signal") then Some Signal
+    else if bytes_eq name (codes "broadcast") then Some Broadcast
+    else if bytes_eq name (codes "pulse") then Some Pulse
+    else if bytes_eq name (codes "relay") then Some Relay
+    else if bytes_eq name (codes "trap") then Some Trap
+    else None
 
--- a buffer's size, and nothing else
-abbrev pub buffer_of : List (List ℕ) → Result UnitChoice FaultKind
-buffer_of [] = Err BadUnit
-buffer_of (size ∷ []) = buffer_with (size_of size)
-buffer_of (size ∷ w ∷ ws) = Err BadUnit
+-- the unit of this name and size, of those that have one
+abbrev pub sized_unit : List ℕ → ℕ → Option UnitChoice
+sized_unit name size =
+    if bytes_eq name (codes "buffer") then Some (Buffer size)
+    else if bytes_eq name (codes "meeting") then Some (Meeting size)
+    else if bytes_eq name (codes "allocator") then Some (Allocator size)
+    else None
 
--- the unit that the words behind `unit` choose: its name first
-abbrev pub unit_of : List (List ℕ) → Result UnitChoice FaultKind
-unit_of [] = Err BadUnit
-unit_of (name ∷ ws) = if bytes_eq name (codes "buffer") then buffer_of ws else Err BadUnit
+-- the unit, by whether one without a size has the name, and the words behind it
+abbrev pub unit_by : List ℕ → Option UnitChoice → List (List ℕ) → Option (UnitChoice × List (List ℕ))
+unit_by name (Some unit) ws = Some (unit, ws)
+unit_by name None [] = None
+unit_by name None (w ∷ ws) = option_map (λ unit. (unit, ws)) (option_and_then (sized_unit name) (size_of w))
+
+-- the unit that the words begin with, and the words behind it
+abbrev pub unit_of : List (List ℕ) → Option (UnitChoice × List (List ℕ))
+unit_of [] = None
+unit_of (name ∷ ws) = unit_by name (plain_unit name) ws
+
+-- the service order of this name
+abbrev pub order_of : List ℕ → Option Order
+order_of word =
+    if bytes_eq word (codes "textual") then Some Textual
+    else if bytes_eq word (codes "oldest") then Some Oldest
+    else if bytes_eq word (codes "rotating") then Some Rotating
+    else None
+
+-- the order, or the textual one in front of a word that names none
+abbrev pub order_by : Option Order → List ℕ → List (List ℕ) → Order × List (List ℕ)
+order_by (Some order) w ws = (order, ws)
+order_by None w ws = (Textual, w ∷ ws)
+
+-- the service order, textual where none is named, and the words behind it
+abbrev pub with_order : List (List ℕ) → Order × List (List ℕ)
+with_order [] = (Textual, [])
+with_order (w ∷ ws) = order_by (order_of w) w ws
+
+-- the greatest queue length that the words state, none where there are no words
+abbrev pub limit_of : List (List ℕ) → Option (Option ℕ)
+limit_of [] = Some None
+limit_of (w ∷ []) = None
+limit_of (w ∷ most ∷ []) = if bytes_eq w (codes "max") then option_map (λ n. Some n) (number_of most) else None
+limit_of (w ∷ most ∷ x ∷ xs) = None
+
+-- what begins, by the service order and the words behind it
+abbrev pub beginning_with : UnitChoice → Order × List (List ℕ) → Option Beginning
+beginning_with unit ordered =
+    option_map (λ limit. record { unit = unit; order = ordered.0; max_queue = limit }) (limit_of ordered.1)
+
+abbrev pub beginning_by : Option (UnitChoice × List (List ℕ)) → Option Beginning
+beginning_by None = None
+beginning_by (Some chosen) = beginning_with chosen.0 (with_order chosen.1)
+
+-- what begins: a unit, with its size if it has one; perhaps a service order; perhaps `max` and a number; and nothing else
+abbrev pub beginning_of : List (List ℕ) → Option Beginning
+beginning_of ws = beginning_by (unit_of ws)
+
+-- ---- the words behind the other commands
 
 -- the unit's entry of that name
 abbrev pub entry_at : UnitChoice → List ℕ × Option ℤ → EntryRef
@@ -72,31 +145,101 @@ entry_at unit parts = record { entry = place_of_name (entry_names unit) parts.0;
 abbrev pub entry_of : UnitChoice → List ℕ → Option EntryRef
 entry_of unit word = option_map (entry_at unit) (entry_parts word)
 
-abbrev pub call_with : Option EntryRef → Option ℕ → Result Command FaultKind
-call_with (Some entry) (Some value) = Ok (Operate (CallOperation entry value))
-call_with (Some entry) None = Err BadArgument
-call_with None value = Err BadArgument
+-- the place of the name among these, or how many they are where it isn't one of them
+abbrev pub operation_number : List (List ℕ) → List ℕ → Option ℕ
+operation_number names word = if is_name word then Some (place_of_name names word) else None
 
--- an entry and a value, and nothing else
-abbrev pub call_of : UnitChoice → List (List ℕ) → Result Command FaultKind
-call_of unit [] = Err BadArgument
-call_of unit (entry ∷ []) = Err BadArgument
-call_of unit (entry ∷ value ∷ []) = call_with (entry_of unit entry) (number_of value)
-call_of unit (entry ∷ value ∷ w ∷ ws) = Err BadArgument
+-- the word, where it is the only one
+abbrev pub only_of : List (List ℕ) → Option (List ℕ)
+only_of (w ∷ []) = Some w
+only_of other = None
 
-abbrev pub begin_with : Result UnitChoice FaultKind → Result Command FaultKind
-begin_with (Ok unit) = Ok (Begin unit)
-begin_with (Err kind) = Err kind
+-- the two words, where there are just two
+abbrev pub pair_of : List (List ℕ) → Option (List ℕ × List ℕ)
+pair_of (first ∷ second ∷ []) = Some (first, second)
+pair_of other = None
+
+abbrev pub call_with : Deadline → Option EntryRef → Option ℕ → Option Operation
+call_with deadline (Some entry) (Some value) = Some (CallOperation entry value deadline)
+call_with deadline (Some entry) None = None
+call_with deadline None value = None
+
+abbrev pub call_by : UnitChoice → Deadline → Option (List ℕ × List ℕ) → Option Operation
+call_by unit deadline None = None
+call_by unit deadline (Some p) = call_with deadline (entry_of unit p.0) (number_of p.1)
+
+-- a call: an entry and a value, and nothing else
+abbrev pub call_of : UnitChoice → Deadline → List (List ℕ) → Option Operation
+call_of unit deadline ws = call_by unit deadline (pair_of ws)
+
+abbrev pub timed_with : UnitChoice → Option ℕ → List (List ℕ) → Option Operation
+timed_with unit None ws = None
+timed_with unit (Some time) ws = call_of unit (At time) ws
+
+-- a timed call: a deadline, an entry and a value, and nothing else
+abbrev pub timed_of : UnitChoice → List (List ℕ) → Option Operation
+timed_of unit [] = None
+timed_of unit (time ∷ ws) = timed_with unit (number_of time) ws
+
+-- the operation of that number, with a value
+abbrev pub valued : (ℕ → ℕ → Operation) → Option ℕ → Option ℕ → Option Operation
+valued operation (Some op) (Some value) = Some (operation op value)
+valued operation (Some op) None = None
+valued operation None value = None
+
+abbrev pub valued_by : (ℕ → ℕ → Operation) → List (List ℕ) → Option (List ℕ × List ℕ) → Option Operation
+valued_by operation names None = None
+valued_by operation names (Some p) = valued operation (operation_number names p.0) (number_of p.1)
+
+-- a procedure and a value, and nothing else
+abbrev pub run_of : UnitChoice → List (List ℕ) → Option Operation
+run_of unit ws = valued_by (λ op value. Run op value) (procedure_names unit) (pair_of ws)
+
+-- a function and a value, and nothing else
+abbrev pub read_of : UnitChoice → List (List ℕ) → Option Operation
+read_of unit ws = valued_by (λ op value. Read op value) (function_names unit) (pair_of ws)
+
+-- a number, and nothing else
+abbrev pub number_alone : List (List ℕ) → Option ℕ
+number_alone ws = option_and_then number_of (only_of ws)
+
+-- the operation, where no words follow
+abbrev pub alone : Operation → List (List ℕ) → Option Operation
+alone operation [] = Some operation
+alone operation (w ∷ ws) = None
+
+-- the operation that the words ask for, where the first word of the line isn't `unit`
+abbrev pub operation_of : UnitChoice → Verb → List (List ℕ) → Option Operation
+operation_of unit BeginVerb ws = None
+operation_of unit Call ws = call_of unit Never ws
+operation_of unit Cond ws = call_of unit (At 0) ws
+operation_of unit Timed ws = timed_of unit ws
+operation_of unit Proc ws = run_of unit ws
+operation_of unit Func ws = read_of unit ws
+operation_of unit Cancel ws = option_map (λ n. Abort n) (number_alone ws)
+operation_of unit Tick ws = option_map (λ time. TickOperation time) (number_alone ws)
+operation_of unit Final ws = alone Finalize ws
+operation_of unit Show ws = alone ShowOperation ws
+
+-- ---- the command of a line
+
+abbrev pub begin_with : Option Beginning → Result Command FaultKind
+begin_with (Some beginning) = Ok (Begin beginning)
+begin_with None = Err BadUnit
+
+abbrev pub operate_with : Option Operation → Result Command FaultKind
+operate_with (Some operation) = Ok (Operate operation)
+operate_with None = Err BadArgument
 
 -- a line's command before a unit is begun
 abbrev pub first_command : Verb → List (List ℕ) → Result Command FaultKind
-first_command BeginVerb ws = begin_with (unit_of ws)
-first_command Call ws = Err NoUnit
+first_command BeginVerb ws = begin_with (beginning_of ws)
+first_command other ws = Err NoUnit
 
 -- a line's command once the unit is begun
 abbrev pub later_command : UnitChoice → Verb → List (List ℕ) → Result Command FaultKind
 later_command unit BeginVerb ws = Err SecondUnit
-later_command unit Call ws = call_of unit ws
+later_command unit verb ws = operate_with (operation_of unit verb ws)
 
 abbrev pub some_command : Result Command FaultKind → Result (Option Command) FaultKind
 some_command (Ok c) = Ok (Some c)

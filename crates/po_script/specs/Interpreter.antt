@@ -2,7 +2,7 @@
 use Rattle.std.specs.Prelude.{ℕ, ◌≡◌, Bool, true, List, take, Option, Ok, Err}
 use Rattle.std.specs.Io.KnownBytes.{Appends}
 use Rattle.po_script.specs.Commands.{command_of}
-use Rattle.po_script.specs.Session.{after, answer}
+use Rattle.po_script.specs.Session.{state_of, after, answer}
 use Rattle.po_script.specs.AnySession.{begun_with, state_with, text_with}
 use Rattle.po_script.specs.declared.command.Command.{Command}
 use Rattle.po_script.specs.declared.fault.RunFault.{RunFault}
@@ -14,8 +14,8 @@ pub record CarriesOut (old new : Interpreter) (line : List ℕ) (had has : Optio
   pub command : Option Command
   pub says : command_of old.begun line ≡ Ok command
   pub begun : new.begun ≡ begun_with old.begun command
-  pub state : new.session ≡ state_with after old.session command
-  pub told : Appends had has (text_with answer old.session command)
+  pub state : state_of new.session ≡ state_with after (state_of old.session) command
+  pub told : Appends had has (text_with answer (state_of old.session) command)
 
 -- line n wasn't carried out to its end: what the writer had and has, and whether it had and has failed or taken no byte
 abbrev pub Fails : RunFault → Interpreter → ℕ → List ℕ → Option (List ℕ) → Option (List ℕ) → Bool → Bool → Type 0
@@ -24,6 +24,6 @@ Fails (Script n kind) old number line had has before bad =
 Fails Read old number line had has before bad = ⊥
 Fails Write old number line had has before bad =
     (command : Option Command) × (command_of old.begun line ≡ Ok command)
-    × (count : ℕ) × Appends had has (take count (text_with answer old.session command))
+    × (count : ℕ) × Appends had has (take count (text_with answer (state_of old.session) command))
     × (bad ≡ true)
 Fails Memory old number line had has before bad = (has ≡ had) × (bad ≡ before)

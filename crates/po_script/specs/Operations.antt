@@ -1,16 +1,18 @@
 -- What an operation of a script does to an object, and the lines that answer it.
-use Rattle.std.specs.Prelude.{ℕ, List, ◌++◌, Bool, true, false, Option, Some, None}
+use Rattle.std.specs.Prelude.{ℕ, List, [], ◌++◌, Bool, true, false, Option, Some, None, flat_map, slice_index}
+use Rattle.po_index.specs.declared.decl.EntryRef.{EntryRef}
+use Rattle.po_index.specs.Numbering.{entry_references}
 use Rattle.po_unit.specs.Meaning.{Meaning}
-use Rattle.po_actions.specs.declared.call.Deadline.TheVariants.{Never}
-use Rattle.po_actions.specs.declared.event.Event.TheVariants.{Issue}
+use Rattle.po_actions.specs.declared.event.Event.TheVariants.{Issue, Ran, Tick as TickEvent, Final}
 use Rattle.po_actions.specs.declared.refusal.Refusal.{Refusal}
 use Rattle.po_actions.specs.declared.refusal.Refusal.TheVariants.{OutOfMemory}
+use Rattle.po_actions.specs.ObjectState.{counts_in}
 use Rattle.po_actions.specs.View.{View, ended_now}
-use Rattle.po_actions.specs.ProtectedAction.{after_action}
-use Rattle.po_actions.specs.Refusals.{entry_of, issue_refusal}
+use Rattle.po_actions.specs.ProtectedAction.{after_action, after_abort, abort_answer}
+use Rattle.po_actions.specs.Refusals.{entry_of, issue_refusal, run_refusal, read_refusal, abort_refusal, finalized_refusal}
 use Rattle.po_script.specs.declared.command.Operation.{Operation}
-use Rattle.po_script.specs.declared.command.Operation.TheVariants.{Call}
-use Rattle.po_script.specs.Lines.{ended_lines, ticket_line, refused_line}
+use Rattle.po_script.specs.declared.command.Operation.TheVariants.{Call, Run, Read, Abort, Tick, Finalize, Show}
+use Rattle.po_script.specs.Lines.{ended_lines, ticket_line, refused_line, reply_line, value_line, abort_line, clock_line, next_line, final_line, count_line}
 
 -- whether it is want of memory, which is never written
 abbrev pub is_memory : Refusal → Bool
@@ -29,24 +31,63 @@ lines_by None lines = lines
 
 module _ {S : Type 0} where
   -- the refusal that the operation meets
-  abbrev pub refusal_of : View S ℕ → Operation → Option Refusal
-  refusal_of view (Call entry value) = issue_refusal view entry
+  abbrev pub refusal_of : Meaning S ℕ → View S ℕ → Operation → Option Refusal
+  refusal_of m view (Call entry value deadline) = issue_refusal view entry
+  refusal_of m view (Run op value) = run_refusal m view op
+  refusal_of m view (Read op value) = read_refusal m view op
+  refusal_of m view (Abort n) = abort_refusal view n
+  refusal_of m view (Tick time) = finalized_refusal view
+  refusal_of m view Finalize = finalized_refusal view
+  refusal_of m view Show = None
 
-  -- the object after an operation that isn't refused; the owner of each call is 0
+  -- the object after an operation that isn't refused; the owner of each call and procedure is 0
   abbrev pub done : Meaning S ℕ → View S ℕ → Operation → View S ℕ
-  done m view (Call entry value) =
-      after_action m view (Issue view.state.next 0 (entry_of view.making.shape entry) value Never)
+  done m view (Call entry value deadline) =
+      after_action m view (Issue view.state.next 0 (entry_of view.making.shape entry) value deadline)
+  done m view (Run op value) =
+      after_action m view (Ran 0 op value (m.procedure view.state.unit op value (counts_in m view.state)).1)
+  done m view (Read op value) = view
+  done m view (Abort n) = after_abort m view n
+  done m view (Tick time) = after_action m view (TickEvent time)
+  done m view Finalize = after_action m view Final
+  done m view Show = view
 
-  -- the lines that come first
-  abbrev pub first_lines : View S ℕ → Operation → List ℕ
-  first_lines view (Call entry value) = ticket_line view.state.next
+  -- the line of the entry that a reference names: how many calls are queued on it (9.9)
+  abbrev pub entry_line : Meaning S ℕ → List (List ℕ) → View S ℕ → EntryRef → List ℕ
+  entry_line m names view reference =
+      count_line names reference (slice_index (counts_in m view.state) (entry_of view.making.shape reference))
+
+  -- a line for each entry, in the order of their numbers
+  abbrev pub entry_lines : Meaning S ℕ → List (List ℕ) → View S ℕ → List ℕ
+  entry_lines m names view = flat_map (entry_line m names view) (entry_references view.making.shape)
+
+  -- the lines that show the object
+  abbrev pub show_lines : Meaning S ℕ → List (List ℕ) → View S ℕ → List ℕ
+  show_lines m names view = entry_lines m names view ++ clock_line view.state.clock ++ next_line view.state.next
+
+  -- the lines that answer an operation that isn't refused, one for each call that it ended coming last; those of a show
+  -- are stated above
+  abbrev pub done_lines : Meaning S ℕ → View S ℕ → Operation → List ℕ
+  done_lines m view (Call entry value deadline) =
+      ticket_line view.state.next ++ ended_lines (ended_now (done m view (Call entry value deadline)))
+  done_lines m view (Run op value) =
+      reply_line (m.procedure view.state.unit op value (counts_in m view.state)).1 ++ ended_lines (ended_now (done m view (Run op value)))
+  done_lines m view (Read op value) = value_line (m.function view.state.unit op value (counts_in m view.state))
+  done_lines m view (Abort n) = abort_line (abort_answer view n) ++ ended_lines (ended_now (done m view (Abort n)))
+  done_lines m view (Tick time) =
+      clock_line (done m view (Tick time)).state.clock ++ ended_lines (ended_now (done m view (Tick time)))
+  done_lines m view Finalize = final_line ++ ended_lines (ended_now (done m view Finalize))
+  done_lines m view Show = []
 
   -- the object after an operation
   abbrev pub after_operation : Meaning S ℕ → View S ℕ → Operation → View S ℕ
-  after_operation m view operation = view_by (refusal_of view operation) view (done m view operation)
+  after_operation m view operation = view_by (refusal_of m view operation) view (done m view operation)
 
-  -- the lines that answer an operation: behind the first ones a line for each call that it ended
-  abbrev pub operation_lines : Meaning S ℕ → View S ℕ → Operation → List ℕ
-  operation_lines m view operation =
-      lines_by (refusal_of view operation)
-      (first_lines view operation ++ ended_lines (ended_now (done m view operation)))
+  -- the lines that answer an operation, or the one of its refusal
+  abbrev pub reply_lines : Meaning S ℕ → View S ℕ → Operation → List ℕ
+  reply_lines m view operation = lines_by (refusal_of m view operation) (done_lines m view operation)
+
+  -- the lines that answer any operation; the names are those of the declarations of the object's entries
+  abbrev pub operation_lines : Meaning S ℕ → List (List ℕ) → View S ℕ → Operation → List ℕ
+  operation_lines m names view Show = show_lines m names view
+  operation_lines m names view operation = reply_lines m view operation

@@ -1,6 +1,6 @@
 -- How far a run has come, and how a part of the script moves it on.
 use Rattle.std.specs.Prelude.{ℕ, ◌≡◌, Bool, false, List, ◌++◌, Option}
-use Rattle.po_script.specs.Session.{opening_state, after, answer}
+use Rattle.po_script.specs.Session.{state_of, opening_state, after, answer}
 use Rattle.po_script.specs.AnySession.{StandsBy}
 use Rattle.po_script.specs.Ends.{EndsAs}
 use Rattle.po_script.specs.declared.fault.RunFault.{RunFault}
@@ -9,7 +9,7 @@ use Rattle.po_script.specs.declared.run.Run.{Run}
 -- the run has read these bytes and carried out all their whole lines; what the writer had at the start, and has now
 abbrev pub Stands : Run → List ℕ → Option (List ℕ) → Option (List ℕ) → Type 0
 Stands run bytes start now =
-    StandsBy after answer opening_state run.line.items run.number run.total run.interpreter.begun run.interpreter.session bytes start now
+    StandsBy after answer opening_state run.line.items run.number run.total run.interpreter.begun (state_of run.interpreter.session) bytes start now
 
 -- the run has read this piece after what it had read before
 abbrev pub GoesOn : Run → Run → List ℕ → Option (List ℕ) → Option (List ℕ) → Type 0

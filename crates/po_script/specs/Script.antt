@@ -32,7 +32,7 @@ line_of begun line = if nat_lt 4096 (length line) then Err LineTooLong else comm
 
 -- the unit that is begun after the command
 abbrev pub begun_after : Option UnitChoice → Command → Option UnitChoice
-begun_after begun (Begin unit) = Some unit
+begun_after begun (Begin beginning) = Some beginning.unit
 begun_after begun c = begun
 
 -- the commands up to the first line with a fault, and that line's number and fault

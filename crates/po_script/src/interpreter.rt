@@ -26,19 +26,19 @@ fn begun_after(begun: Option<UnitChoice>, command: Command) -> Option<UnitChoice
     ensures { result ≡ begun_after begun command }
 {
     match command {
-        Command::Begin(unit) => Some(unit),
+        Command::Begin(beginning) => Some(beginning.unit),
         _ => begun,
     }
 }
 
 impl Interpreter {
-    ghost use Rattle.po_script.specs.Session.{opening_state};
+    ghost use Rattle.po_script.specs.Session.{state_of, opening_state};
     ghost use Rattle.po_script.specs.Interpreter.{CarriesOut, Fails};
 
     /// Before the first line.
     pub(crate) fn new(alloc: Global) -> Interpreter
         ensures begun { result.begun ≡ None }
-        ensures session { result.session ≡ opening_state }
+        ensures session { state_of result.session ≡ opening_state }
     {
         Interpreter {
             begun: None,

@@ -5,7 +5,10 @@ pub mod command;
 pub mod fault;
 mod interpreter;
 mod lines;
+mod names;
+mod object;
 mod operate;
+mod operation_line;
 pub mod over_std;
 pub mod parse;
 pub mod run;
@@ -14,6 +17,7 @@ pub mod sink;
 pub mod source;
 #[cfg(test)]
 mod tests;
+mod unit_line;
 pub mod words;
 
 pub use crate::command::FaultKind;

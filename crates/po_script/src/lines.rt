@@ -1,10 +1,12 @@
 //! The lines that answer commands, added to a reply.
 
 ghost use Rattle.std.specs.Prelude.{◌≡◌, ◌++◌, OnOk, string_bytes};
-ghost use Rattle.po_script.specs.Lines.{end_line, ended_lines, ticket_line, refused_line};
+ghost use Rattle.po_units.specs.Names.{texts_of};
+ghost use Rattle.po_script.specs.Lines.{end_line, ended_lines, ticket_line, refused_line, reply_line, value_line, abort_line, clock_line, next_line, final_line, name_at, index_text, count_line};
 
 use crate::session::OutOfMemory;
-use po_actions::{End, Ended, Refusal};
+use po_actions::{Aborted, End, Ended, Refusal};
+use po_index::EntryRef;
 use std::fmt::Write;
 
 /// Adds the line of a call that was accepted.
@@ -20,6 +22,98 @@ pub(crate) fn push_refused(reply: &mut String, refusal: Refusal) -> Result<(), O
 {
     let number = refusal.number();
     write!(reply, "refused {number}\n").map_err(|_| OutOfMemory)
+}
+
+/// Adds the line of a procedure's reply.
+pub(crate) fn push_reply(reply: &mut String, replied: Result<u64, u32>) -> Result<(), OutOfMemory>
+    ensures { OnOk result (string_bytes reply.new ≡ string_bytes reply.old ++ reply_line replied) }
+{
+    match replied {
+        Ok(value) => write!(reply, "done {value}\n"),
+        Err(exception) => write!(reply, "raised {exception}\n"),
+    }
+    .map_err(|_| OutOfMemory)
+}
+
+/// Adds the line of a function's reply.
+pub(crate) fn push_value(reply: &mut String, replied: Result<u64, u32>) -> Result<(), OutOfMemory>
+    ensures { OnOk result (string_bytes reply.new ≡ string_bytes reply.old ++ value_line replied) }
+{
+    match replied {
+        Ok(value) => write!(reply, "value {value}\n"),
+        Err(exception) => write!(reply, "raised {exception}\n"),
+    }
+    .map_err(|_| OutOfMemory)
+}
+
+/// Adds the line of an attempt to cancel a call, if it has one.
+pub(crate) fn push_abort(reply: &mut String, aborted: Aborted) -> Result<(), OutOfMemory>
+    ensures { OnOk result (string_bytes reply.new ≡ string_bytes reply.old ++ abort_line aborted) }
+{
+    match aborted {
+        Aborted::Kept => write!(reply, "kept\n").map_err(|_| OutOfMemory),
+        Aborted::Cancelled => Ok(()),
+    }
+}
+
+/// Adds the line of the clock.
+pub(crate) fn push_clock(reply: &mut String, clock: u64) -> Result<(), OutOfMemory>
+    ensures { OnOk result (string_bytes reply.new ≡ string_bytes reply.old ++ clock_line clock) }
+{
+    write!(reply, "clock {clock}\n").map_err(|_| OutOfMemory)
+}
+
+/// Adds the line of the number that the next call gets.
+pub(crate) fn push_next(reply: &mut String, next: u64) -> Result<(), OutOfMemory>
+    ensures { OnOk result (string_bytes reply.new ≡ string_bytes reply.old ++ next_line next) }
+{
+    write!(reply, "next {next}\n").map_err(|_| OutOfMemory)
+}
+
+/// Adds the line of a finalization.
+pub(crate) fn push_final(reply: &mut String) -> Result<(), OutOfMemory>
+    ensures { OnOk result (string_bytes reply.new ≡ string_bytes reply.old ++ final_line) }
+{
+    write!(reply, "final\n").map_err(|_| OutOfMemory)
+}
+
+/// The name of the declaration at this place, or no text where there is none.
+#[tactic(auto, using(crate::proofs::ShowLemmas::name_there, crate::proofs::ShowLemmas::name_past))]
+fn name_at<'a>(names: &[&'a str], place: u16) -> &'a str
+    ensures { result.now ≡ name_at (texts_of names.now) place }
+{
+    let place = usize::from(place);
+    if place < names.len() {
+        names[place]
+    } else {
+        ""
+    }
+}
+
+/// Adds the index of a family's member, in parentheses.
+fn push_index(reply: &mut String, index: Option<i32>) -> Result<(), OutOfMemory>
+    ensures { OnOk result (string_bytes reply.new ≡ string_bytes reply.old ++ index_text index) }
+{
+    match index {
+        Some(index) => write!(reply, "({index})").map_err(|_| OutOfMemory),
+        None => Ok(()),
+    }
+}
+
+/// Adds the line of an entry on which so many calls are queued.
+pub(crate) fn push_count(
+    reply: &mut String,
+    names: &[&str],
+    reference: EntryRef,
+    count: u64,
+) -> Result<(), OutOfMemory>
+    ensures { OnOk result (string_bytes reply.new ≡ string_bytes reply.old ++ count_line (texts_of names.now) reference count) }
+{
+    reply
+        .push_str(name_at(names, reference.entry))
+        .map_err(|_| OutOfMemory)?;
+    push_index(reply, reference.index)?;
+    write!(reply, " {count}\n").map_err(|_| OutOfMemory)
 }
 
 /// Adds the line of the call with number n, which ended in this way.

@@ -3,6 +3,7 @@
 ghost use Rattle.std.specs.Prelude.{◌≡◌, ◌∷◌, [], MatchOption, ◌≤◌, ◌+◌, ◌*◌, ◌^◌, if◌then◌else◌, nat_lt, None, length};
 ghost use Rattle.std.specs.List.{prefix_len, list_all};
 ghost use Rattle.std.specs.Char.{is_ascii_digit};
+ghost use Rattle.po_script.specs.Commands.{only_of, pair_of};
 ghost use Rattle.po_script.specs.Words.{words, is_space, is_word_byte, is_name_byte, is_before_index, number_of, digits_value, is_name, index_of, magnitude_of, positive_of, negative_of, entry_parts, bracketed};
 
 /// How many spaces stand first.
@@ -32,6 +33,31 @@ pub fn cut_word(line: &[u8]) -> Option<(&[u8], &[u8])>
         return None;
     }
     Some(line.split_at(word_length(line)))
+}
+
+/// The only word of the line, where there is just one.
+pub fn only_word(line: &[u8]) -> Option<&[u8]>
+    ensures { MatchOption result (only_of (words line.now) ≡ None)
+        (λ word. only_of (words line.now) ≡ Some word.now) }
+{
+    let (word, rest) = cut_word(line)?;
+    match cut_word(rest) {
+        Some(_) => None,
+        None => Some(word),
+    }
+}
+
+/// The two words of the line, where there are just two.
+pub fn two_words(line: &[u8]) -> Option<(&[u8], &[u8])>
+    ensures { MatchOption result (pair_of (words line.now) ≡ None)
+        (λ pair. pair_of (words line.now) ≡ Some (pair.0.now, pair.1.now)) }
+{
+    let (first, rest) = cut_word(line)?;
+    let (second, rest) = cut_word(rest)?;
+    match cut_word(rest) {
+        Some(_) => None,
+        None => Some((first, second)),
+    }
 }
 
 /// Whether each byte is a decimal digit.

@@ -13,3 +13,7 @@ private_entry = record { public = false; family = false; low = pos 0; high = pos
 -- a family in the visible part, with an entry for each index of the range
 abbrev pub public_family : ℤ → ℤ → Decl
 public_family low high = record { public = true; family = true; low = low; high = high }
+
+-- a family in the private part, with an entry for each index of the range
+abbrev pub private_family : ℤ → ℤ → Decl
+private_family low high = record { public = false; family = true; low = low; high = high }

@@ -31,9 +31,12 @@
 //! end Buffer;
 //! ```
 ghost use Rattle.std.specs.Prelude.{◌≡◌, ◌≢◌, ◌≤◌, ◌↔◌, IfOk, IsTrue};
+ghost use Rattle.po_units.specs.Buffer.{IsNewBuffer};
+ghost use Rattle.po_units.specs.BufferLaw.{BufferIsFifo};
 
 use crate::declarations::PUBLIC_ENTRY;
 use crate::names::place_of;
+use po_actions::Core;
 use po_index::{Decl, Shape, ShapeFault};
 use po_unit::{Outcome, Unit};
 use std::alloc::{AllocError, Global};
@@ -72,7 +75,7 @@ impl Model for Buffer {
 }
 
 impl Buffer {
-    ghost use Rattle.po_units.specs.Buffer.{IsNewBuffer, new_buffer, BufferState, buffer_declarations, buffer_meaning, buffer_entry_names, buffer_procedure_names, buffer_function_names};
+    ghost use Rattle.po_units.specs.Buffer.{IsNewBuffer, new_buffer, buffer_declarations, buffer_meaning, buffer_entry_names, buffer_procedure_names, buffer_function_names};
     ghost use Rattle.po_index.specs.Numbering.{entry_count};
     ghost use Rattle.po_units.specs.Names.{place_of_name, texts_of};
 
@@ -100,9 +103,9 @@ impl Buffer {
     }
 
     /// The shape that the entries' declarations make (9.5.2). Only memory can be missing.
-    pub fn shape(alloc: Global) -> Result<Shape, ShapeFault>
+    pub fn shape(&self, alloc: Global) -> Result<Shape, ShapeFault>
         ensures shape { IfOk result (λ shape. shape ≡ buffer_declarations) }
-        ensures counted { IfOk result (λ shape. (b : BufferState) → entry_count shape ≡ buffer_meaning.entries b) }
+        ensures counted { IfOk result (λ shape. entry_count shape ≡ buffer_meaning.entries self.now) }
         ensures within_limits { result ≢ Err ShapeFault.TooManyEntries }
     {
         Shape::new(alloc, &DECLARATIONS)
@@ -221,6 +224,16 @@ impl Unit for Buffer {
     ghost equality = { Prim.search rules };
 }
 
+/// The law of the buffer, first in, first out: in the history of every object of a buffer that was made as a new one, at
+/// each point, the values that Gets completed with are the first of those that Puts completed with, in their order, and
+/// at most as many more Puts than Gets have completed as the buffer has room for.
+pub fn buffer_law(core: &Core<Buffer>)
+    requires new { IsNewBuffer core.now.object.making.opening }
+    ensures law { BufferIsFifo core.now.object.making core.now.object.events }
+{
+    core.headline();
+}
+
 #[cfg(test)]
 mod tests {
     use super::*;
@@ -285,7 +298,7 @@ mod tests {
 
     #[test]
     fn both_entries_are_public(rt: HostRuntime) -> Result<(), Fail> {
-        let shape = Buffer::shape(rt.alloc())?;
+        let shape = Buffer::new(rt.alloc(), 1)?.shape(rt.alloc())?;
         assert_eq!(rt; shape.total(), 2);
         assert!(rt; shape.is_public(0) && shape.is_public(1));
         Ok(())

@@ -44,14 +44,15 @@ fn buffer(alloc: Global, capacity: u16, first_number: u64) -> Result<Transcript<
     requires at_most { capacity ≤ 1024 }
 {
     let unit = Buffer::new(alloc, capacity)?;
-    let shape = Buffer::shape(alloc)?;
+    let shape = unit.shape(alloc)?;
     let core = Core::new(alloc, unit, shape, Order::Textual, first_number)?;
     Ok(Transcript::of(alloc, core))
 }
 
 fn relay_from(alloc: Global, order: Order, start: Start) -> Result<Transcript<Relay>, Fail> {
-    let shape = Relay::shape(alloc)?;
-    let core = Core::start(alloc, Relay::new(), shape, order, start)?;
+    let unit = Relay::new();
+    let shape = unit.shape(alloc)?;
+    let core = Core::start(alloc, unit, shape, order, start)?;
     Ok(Transcript::of(alloc, core))
 }
 
@@ -65,8 +66,9 @@ fn relay(alloc: Global, order: Order, max_queue: Option<u64>) -> Result<Transcri
 }
 
 fn trap(alloc: Global, order: Order) -> Result<Transcript<Trap>, Fail> {
-    let shape = Trap::shape(alloc)?;
-    let core = Core::new(alloc, Trap::new(), shape, order, 1)?;
+    let unit = Trap::new();
+    let shape = unit.shape(alloc)?;
+    let core = Core::new(alloc, unit, shape, order, 1)?;
     Ok(Transcript::of(alloc, core))
 }
 
@@ -122,7 +124,7 @@ fn numbers_are_spent_at_their_end(rt: HostRuntime) -> Result<(), Fail> {
 
 #[test]
 fn a_mismatched_shape_is_refused(rt: HostRuntime) -> Result<(), Fail> {
-    let shape = Relay::shape(rt.alloc())?;
+    let shape = Relay::new().shape(rt.alloc())?;
     let unit = Buffer::new(rt.alloc(), 1)?;
     let made = Core::new(rt.alloc(), unit, shape, Order::Textual, 1);
     assert_eq!(rt; made.err(), Some(MakeFault::ShapeMismatch));

@@ -1,19 +1,30 @@
-//! The units that come with the machine: a bounded buffer, a relay and a trap.
+//! The units that come with the machine: a bounded buffer, a relay, a trap, a signal, a broadcast, a pulse, a meeting
+//! and an allocator.
 //!
 //! Each head comment of a module shows its unit as an Ada protected type, over the one type of values
 //! `type Value is mod 2 ** 64;`.
 #![tactic(auto)]
 
+mod allocator;
+mod broadcast;
 mod buffer;
 #[cfg(test)]
 mod core_tests;
 mod declarations;
+mod meeting;
 mod names;
+mod pulse;
 mod relay;
+mod signal;
 #[cfg(test)]
 mod transcript;
 mod trap;
 
-pub use buffer::Buffer;
+pub use allocator::{Allocator, allocator_law};
+pub use broadcast::Broadcast;
+pub use buffer::{Buffer, buffer_law};
+pub use meeting::{Meeting, meeting_law};
+pub use pulse::{Pulse, pulse_law};
 pub use relay::Relay;
+pub use signal::Signal;
 pub use trap::Trap;

@@ -79,7 +79,7 @@ impl Model for Relay {
 impl Relay {
     ghost use Rattle.po_index.specs.Numbering.{entry_count};
     ghost use Rattle.po_units.specs.Names.{place_of_name, texts_of};
-    ghost use Rattle.po_units.specs.Relay.{new_relay, RelayState, relay_declarations, relay_meaning, relay_entry_names, relay_procedure_names, relay_function_names};
+    ghost use Rattle.po_units.specs.Relay.{new_relay, relay_declarations, relay_meaning, relay_entry_names, relay_procedure_names, relay_function_names};
 
     /// A relay at the level 0.
     pub fn new() -> Relay
@@ -89,9 +89,9 @@ impl Relay {
     }
 
     /// The shape that the entries' declarations make (9.5.2). Only memory can be missing.
-    pub fn shape(alloc: Global) -> Result<Shape, ShapeFault>
+    pub fn shape(&self, alloc: Global) -> Result<Shape, ShapeFault>
         ensures shape { IfOk result (λ shape. shape ≡ relay_declarations) }
-        ensures counted { IfOk result (λ shape. (r : RelayState) → entry_count shape ≡ relay_meaning.entries r) }
+        ensures counted { IfOk result (λ shape. entry_count shape ≡ relay_meaning.entries self.now) }
         ensures within_limits { result ≢ Err ShapeFault.TooManyEntries }
     {
         Shape::new(alloc, &DECLARATIONS)
@@ -266,7 +266,7 @@ mod tests {
 
     #[test]
     fn one_entry_is_public(rt: HostRuntime) -> Result<(), Fail> {
-        let shape = Relay::shape(rt.alloc())?;
+        let shape = Relay::new().shape(rt.alloc())?;
         assert_eq!(rt; shape.total(), 3);
         assert!(rt; shape.is_public(0) && !shape.is_public(1) && !shape.is_public(2));
         Ok(())

@@ -95,7 +95,7 @@ impl Model for Trap {
 impl Trap {
     ghost use Rattle.po_index.specs.Numbering.{entry_count};
     ghost use Rattle.po_units.specs.Names.{place_of_name, texts_of};
-    ghost use Rattle.po_units.specs.Trap.{new_trap, TrapState, trap_declarations, trap_meaning, trap_entry_names, trap_procedure_names, trap_function_names};
+    ghost use Rattle.po_units.specs.Trap.{new_trap, trap_declarations, trap_meaning, trap_entry_names, trap_procedure_names, trap_function_names};
 
     /// A trap at the level 0.
     pub fn new() -> Trap
@@ -105,9 +105,9 @@ impl Trap {
     }
 
     /// The shape that the entries' declarations make (9.5.2). Only memory can be missing.
-    pub fn shape(alloc: Global) -> Result<Shape, ShapeFault>
+    pub fn shape(&self, alloc: Global) -> Result<Shape, ShapeFault>
         ensures shape { IfOk result (λ shape. shape ≡ trap_declarations) }
-        ensures counted { IfOk result (λ shape. (t : TrapState) → entry_count shape ≡ trap_meaning.entries t) }
+        ensures counted { IfOk result (λ shape. entry_count shape ≡ trap_meaning.entries self.now) }
         ensures within_limits { result ≢ Err ShapeFault.TooManyEntries }
     {
         Shape::new(alloc, &DECLARATIONS)
@@ -295,7 +295,7 @@ mod tests {
 
     #[test]
     fn a_family_comes_first(rt: HostRuntime) -> Result<(), Fail> {
-        let shape = Trap::shape(rt.alloc())?;
+        let shape = Trap::new().shape(rt.alloc())?;
         assert_eq!(rt; shape.total(), 5);
         let references = [
             (0, Some(1)),

@@ -1,0 +1,20 @@
+-- The event of a command that issues a call, and what a procedure replies.
+use Rattle.std.specs.Prelude.{ℕ, Result}
+use Rattle.po_unit.specs.Meaning.{Meaning}
+use Rattle.po_index.specs.declared.decl.EntryRef.{EntryRef}
+use Rattle.po_actions.specs.declared.call.Deadline.{Deadline}
+use Rattle.po_actions.specs.declared.event.Event.{Event}
+use Rattle.po_actions.specs.declared.event.Event.TheVariants.{Issue}
+use Rattle.po_actions.specs.ObjectState.{counts_in}
+use Rattle.po_actions.specs.View.{View}
+use Rattle.po_actions.specs.Refusals.{entry_of}
+
+module _ {S V : Type 0} where
+  -- the event of a call that this owner issues now, on the entry that the reference names (9.5.3)
+  abbrev pub issue_of : View S V → ℕ → EntryRef → V → Deadline → Event V
+  issue_of view owner entry value deadline =
+      Issue view.state.next owner (entry_of view.making.shape entry) value deadline
+
+  -- what the procedure replies now: a value, or the number of the exception that it propagates (9.5.1)
+  abbrev pub reply_of : Meaning S V → View S V → ℕ → V → Result V ℕ
+  reply_of m view op value = (m.procedure view.state.unit op value (counts_in m view.state)).1

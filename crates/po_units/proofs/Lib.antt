@@ -1,0 +1,12 @@
+pub mod AllocatorLawLemmas
+pub mod BufferLawLemmas
+pub mod GatheredLemmas
+pub mod HistoryLemmas
+pub mod MeetingLawLemmas
+pub mod MeetingPhases
+pub mod MeetingQueues
+pub mod MeetingStates
+pub mod MeetingTrails
+pub mod PulseBusyLemmas
+pub mod PulseIdleLemmas
+pub mod PulseLawLemmas
