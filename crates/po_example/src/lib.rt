@@ -1,0 +1,6 @@
+//! A unit that doesn't come with the machine, as an example of one of your own: a latch.
+#![tactic(auto)]
+
+mod latch;
+
+pub use latch::Latch;
