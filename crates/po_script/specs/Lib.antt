@@ -4,6 +4,7 @@ pub mod Commands
 pub mod Lines
 pub mod Operations
 pub mod Session
+pub mod Tickets
 pub mod OverStd
 pub mod Script
 pub mod AnySession

@@ -15,7 +15,6 @@ use Rattle.po_units.specs.Relay.{RelayState, new_relay, relay_declarations, rela
 use Rattle.po_units.specs.Trap.{TrapState, new_trap, trap_declarations, trap_meaning, trap_entry_names}
 use Rattle.po_script.specs.declared.command.UnitChoice.{UnitChoice}
 use Rattle.po_script.specs.declared.command.UnitChoice.TheVariants.{Buffer, Signal, Broadcast, Pulse, Meeting, Allocator, Relay, Trap}
-use Rattle.po_script.specs.declared.command.Beginning.{Beginning}
 use Rattle.po_script.specs.declared.command.Operation.{Operation}
 use Rattle.po_script.specs.declared.command.Command.{Command}
 use Rattle.po_script.specs.declared.command.Command.TheVariants.{Begin, Operate}

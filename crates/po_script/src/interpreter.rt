@@ -42,7 +42,7 @@ impl Interpreter {
     {
         Interpreter {
             begun: None,
-            session: Session::new(),
+            session: Session::new(alloc),
             reply: String::new(alloc),
         }
     }

@@ -17,6 +17,7 @@ pub mod sink;
 pub mod source;
 #[cfg(test)]
 mod tests;
+mod tickets;
 mod unit_line;
 pub mod words;
 

@@ -5,11 +5,13 @@ ghost use Rattle.po_index.specs.Numbering.{entry_count};
 ghost use Rattle.po_index.specs.declared.fault.ShapeFault.{ShapeFault};
 ghost use Rattle.po_actions.specs.View.{opening_view};
 ghost use Rattle.po_script.specs.Commands.{HasSize};
+ghost use Rattle.po_script.specs.Tickets.{Knows, AreCollected, tickets_of, HasCollected};
 ghost use Rattle.po_script.specs.Session.{making_of, made_of, after_on, lines_on, view_of};
 
 use crate::command::{Beginning, Operation, UnitChoice};
 use crate::operate::operate;
 use crate::session::OutOfMemory;
+use crate::tickets::Tickets;
 use po_actions::{Core, MakeFault, Start};
 use po_index::{Shape, ShapeFault};
 use po_unit::Unit;
@@ -40,6 +42,8 @@ fn make<U: Unit + Drop>(
     requires within_limits { shape ≢ Err ShapeFault.TooManyEntries }
     ensures core { IfOk result (λ core. IfOk shape (λ s. core.object ≡ opening_view (making_of unit s beginning.order beginning.max_queue))) }
     ensures shape { OnOk result (IsOk shape) }
+    ensures tickets { IfOk result (λ core. core.tickets ≡ []) }
+    ensures collected { IfOk result (λ core. AreCollected core) }
 {
     let shape = match shape {
         Ok(shape) => shape,
@@ -63,7 +67,9 @@ impl Object {
     /// The object that a `unit` line begins.
     pub(crate) fn new(alloc: Global, beginning: Beginning) -> Result<Object, OutOfMemory>
         requires { HasSize beginning.unit }
-        ensures { IfOk result (λ object. view_of object ≡ made_of beginning.unit beginning.order beginning.max_queue) }
+        ensures object { IfOk result (λ object. view_of object ≡ made_of beginning.unit beginning.order beginning.max_queue) }
+        ensures tickets { IfOk result (λ object. tickets_of object ≡ []) }
+        ensures collected { IfOk result (λ object. HasCollected object) }
     {
         match beginning.unit {
             UnitChoice::Buffer { capacity } => {
@@ -106,22 +112,45 @@ impl Object {
     /// Carries out the operation, and puts the lines that answer it into the empty reply.
     pub(crate) fn operate(
         &mut self,
+        tickets: &mut Tickets,
         operation: Operation,
         reply: &mut String,
     ) -> Result<(), OutOfMemory>
-        requires { string_bytes reply.old ≡ [] }
+        requires empty { string_bytes reply.old ≡ [] }
+        requires knows { Knows (tickets_of self.old) tickets.old }
+        requires collected { HasCollected self.old }
         ensures object { OnOk result (view_of self.new ≡ after_on (view_of self.old) operation) }
         ensures lines { OnOk result (string_bytes reply.new ≡ lines_on (view_of self.old) operation) }
+        ensures knows { Knows (tickets_of self.new) tickets.new }
+        ensures collected { HasCollected self.new }
     {
         match self {
-            Object::Buffer(core) => operate(core, operation, Buffer::entry_names(), reply),
-            Object::Signal(core) => operate(core, operation, Signal::entry_names(), reply),
-            Object::Broadcast(core) => operate(core, operation, Broadcast::entry_names(), reply),
-            Object::Pulse(core) => operate(core, operation, Pulse::entry_names(), reply),
-            Object::Meeting(core) => operate(core, operation, Meeting::entry_names(), reply),
-            Object::Allocator(core) => operate(core, operation, Allocator::entry_names(), reply),
-            Object::Relay(core) => operate(core, operation, Relay::entry_names(), reply),
-            Object::Trap(core) => operate(core, operation, Trap::entry_names(), reply),
+            Object::Buffer(core) => operate(core, tickets, operation, Buffer::entry_names(), reply),
+            Object::Signal(core) => operate(core, tickets, operation, Signal::entry_names(), reply),
+            Object::Broadcast(core) => operate(
+                core,
+                tickets,
+                operation,
+                Broadcast::entry_names(),
+                reply,
+            ),
+            Object::Pulse(core) => operate(core, tickets, operation, Pulse::entry_names(), reply),
+            Object::Meeting(core) => operate(
+                core,
+                tickets,
+                operation,
+                Meeting::entry_names(),
+                reply,
+            ),
+            Object::Allocator(core) => operate(
+                core,
+                tickets,
+                operation,
+                Allocator::entry_names(),
+                reply,
+            ),
+            Object::Relay(core) => operate(core, tickets, operation, Relay::entry_names(), reply),
+            Object::Trap(core) => operate(core, tickets, operation, Trap::entry_names(), reply),
         }
     }
 }

@@ -1,11 +1,13 @@
 //! The operations of a script, carried out on the core of any unit.
 
-ghost use Rattle.std.specs.Prelude.{◌≡◌, ◌<◌, ◌++◌, [], Some, slice_get, OnOk, string_bytes, false};
+ghost use Rattle.std.specs.Prelude.{◌≡◌, ℕ, ◌<◌, ◌++◌, [], Some, slice_get, OnOk, IsOk, string_bytes, false};
+ghost use Rattle.po_actions.specs.View.{ended_now};
 ghost use Rattle.po_index.specs.Numbering.{entry_count, entry_references};
 ghost use Rattle.po_index.specs.declared.decl.EntryRef.{EntryRef as Reference};
 ghost use Rattle.po_units.specs.Names.{texts_of};
 ghost use Rattle.po_script.specs.Operations.{after_operation, reply_lines, operation_lines, entry_line, entry_lines, show_lines, is_memory};
-ghost use Rattle.po_script.specs.Lines.{refused_line};
+ghost use Rattle.po_script.specs.Lines.{refused_line, ended_lines};
+ghost use Rattle.po_script.specs.Tickets.{Knows, IsCollected, HasEnded, AreCollected};
 
 use crate::command::Operation;
 use crate::lines::{
@@ -13,6 +15,7 @@ use crate::lines::{
     push_reply, push_ticket, push_value,
 };
 use crate::session::OutOfMemory;
+use crate::tickets::Tickets;
 use po_actions::{Core, Deadline, Refusal};
 use po_index::EntryRef;
 use po_unit::Unit;
@@ -29,23 +32,80 @@ fn refuse(reply: &mut String, refusal: Refusal) -> Result<(), OutOfMemory>
     push_refused(reply, refusal)
 }
 
+/// Collects the call with this number, which has ended, if it isn't collected.
+fn collect_one<U: Unit<Value = u64>>(core: &mut Core<U>, tickets: &mut Tickets, number: u64)
+    requires knows { Knows core.old.tickets tickets.old }
+    requires ended { HasEnded core.old.object number }
+    ensures object { core.new.object ≡ core.old.object }
+    ensures knows { Knows core.new.tickets tickets.new }
+    ensures collected { IsCollected core.new.tickets number }
+    ensures others { (n : ℕ) → IsCollected core.old.tickets n → IsCollected core.new.tickets n }
+{
+    if let Some(ticket) = tickets.take(number) {
+        core.collect(ticket);
+    }
+}
+
+/// Collects the calls that the last command ended.
+fn collect<U: Unit<Value = u64>>(core: &mut Core<U>, tickets: &mut Tickets)
+    requires { Knows core.old.tickets tickets.old }
+    ensures object { core.new.object ≡ core.old.object }
+    ensures knows { Knows core.new.tickets tickets.new }
+    ensures collected { AreCollected core.new }
+{
+    for place in 0..core.ended_now().len() {
+        let number = core.ended_now()[place].number;
+        collect_one(core, tickets, number);
+    }
+}
+
+/// Adds the lines of the calls that a command ended, where its own line was added, and collects those calls.
+fn finish<U: Unit<Value = u64>>(
+    core: &mut Core<U>,
+    tickets: &mut Tickets,
+    answered: Result<(), OutOfMemory>,
+    reply: &mut String,
+) -> Result<(), OutOfMemory>
+    requires { Knows core.old.tickets tickets.old }
+    ensures object { core.new.object ≡ core.old.object }
+    ensures answered { OnOk result (IsOk answered) }
+    ensures lines { OnOk result (string_bytes reply.new ≡ string_bytes reply.old ++ ended_lines (ended_now core.old.object)) }
+    ensures knows { Knows core.new.tickets tickets.new }
+    ensures collected { AreCollected core.new }
+{
+    let told = match answered {
+        Ok(()) => push_ended(reply, core.ended_now()),
+        Err(fault) => Err(fault),
+    };
+    collect(core, tickets);
+    told
+}
+
 /// Issues a call, and puts the lines that answer it into the empty reply.
 #[tactic(auto, using(crate::proofs::Refused::refused_or))]
 fn call<U: Unit<Value = u64>>(
     core: &mut Core<U>,
+    tickets: &mut Tickets,
     entry: EntryRef,
     value: u64,
     deadline: Deadline,
     reply: &mut String,
 ) -> Result<(), OutOfMemory>
-    requires { string_bytes reply.old ≡ [] }
+    requires empty { string_bytes reply.old ≡ [] }
+    requires knows { Knows core.old.tickets tickets.old }
+    requires collected { AreCollected core.old }
     ensures object { OnOk result (core.new.object ≡ after_operation U.meaning core.old.object (Operation.Call entry value deadline)) }
     ensures lines { OnOk result (string_bytes reply.new ≡ reply_lines U.meaning core.old.object (Operation.Call entry value deadline)) }
+    ensures knows { Knows core.new.tickets tickets.new }
+    ensures collected { AreCollected core.new }
 {
+    tickets.reserve()?;
+    core.headline();
     match core.issue(0, entry, value, deadline) {
         Ok(ticket) => {
-            push_ticket(reply, ticket.number)?;
-            push_ended(reply, core.ended_now())
+            tickets.keep(ticket);
+            let answered = push_ticket(reply, ticket.number);
+            finish(core, tickets, answered, reply)
         }
         Err(refusal) => refuse(reply, refusal),
     }
@@ -55,18 +115,23 @@ fn call<U: Unit<Value = u64>>(
 #[tactic(auto, using(crate::proofs::Refused::refused_or))]
 fn run<U: Unit<Value = u64>>(
     core: &mut Core<U>,
+    tickets: &mut Tickets,
     op: u16,
     value: u64,
     reply: &mut String,
 ) -> Result<(), OutOfMemory>
-    requires { string_bytes reply.old ≡ [] }
+    requires empty { string_bytes reply.old ≡ [] }
+    requires knows { Knows core.old.tickets tickets.old }
+    requires collected { AreCollected core.old }
     ensures object { OnOk result (core.new.object ≡ after_operation U.meaning core.old.object (Operation.Run op value)) }
     ensures lines { OnOk result (string_bytes reply.new ≡ reply_lines U.meaning core.old.object (Operation.Run op value)) }
+    ensures knows { Knows core.new.tickets tickets.new }
+    ensures collected { AreCollected core.new }
 {
     match core.run(0, op, value) {
         Ok(replied) => {
-            push_reply(reply, replied)?;
-            push_ended(reply, core.ended_now())
+            let answered = push_reply(reply, replied);
+            finish(core, tickets, answered, reply)
         }
         Err(refusal) => refuse(reply, refusal),
     }
@@ -92,17 +157,22 @@ fn read<U: Unit<Value = u64>>(
 /// Attempts to cancel a call, and puts the lines that answer it into the empty reply.
 fn abort<U: Unit<Value = u64>>(
     core: &mut Core<U>,
+    tickets: &mut Tickets,
     n: u64,
     reply: &mut String,
 ) -> Result<(), OutOfMemory>
-    requires { string_bytes reply.old ≡ [] }
+    requires empty { string_bytes reply.old ≡ [] }
+    requires knows { Knows core.old.tickets tickets.old }
+    requires collected { AreCollected core.old }
     ensures object { OnOk result (core.new.object ≡ after_operation U.meaning core.old.object (Operation.Abort n)) }
     ensures lines { OnOk result (string_bytes reply.new ≡ reply_lines U.meaning core.old.object (Operation.Abort n)) }
+    ensures knows { Knows core.new.tickets tickets.new }
+    ensures collected { AreCollected core.new }
 {
     match core.abort(n) {
         Ok(aborted) => {
-            push_abort(reply, aborted)?;
-            push_ended(reply, core.ended_now())
+            let answered = push_abort(reply, aborted);
+            finish(core, tickets, answered, reply)
         }
         Err(refusal) => refuse(reply, refusal),
     }
@@ -112,32 +182,45 @@ fn abort<U: Unit<Value = u64>>(
 #[tactic(auto, using(crate::proofs::Refused::refused_or))]
 fn tick<U: Unit<Value = u64>>(
     core: &mut Core<U>,
+    tickets: &mut Tickets,
     time: u64,
     reply: &mut String,
 ) -> Result<(), OutOfMemory>
-    requires { string_bytes reply.old ≡ [] }
+    requires empty { string_bytes reply.old ≡ [] }
+    requires knows { Knows core.old.tickets tickets.old }
+    requires collected { AreCollected core.old }
     ensures object { OnOk result (core.new.object ≡ after_operation U.meaning core.old.object (Operation.Tick time)) }
     ensures lines { OnOk result (string_bytes reply.new ≡ reply_lines U.meaning core.old.object (Operation.Tick time)) }
+    ensures knows { Knows core.new.tickets tickets.new }
+    ensures collected { AreCollected core.new }
 {
     match core.tick(time) {
         Ok(clock) => {
-            push_clock(reply, clock)?;
-            push_ended(reply, core.ended_now())
+            let answered = push_clock(reply, clock);
+            finish(core, tickets, answered, reply)
         }
         Err(refusal) => refuse(reply, refusal),
     }
 }
 
 /// Finalizes the object, and puts the lines that answer it into the empty reply.
-fn finalize<U: Unit<Value = u64>>(core: &mut Core<U>, reply: &mut String) -> Result<(), OutOfMemory>
-    requires { string_bytes reply.old ≡ [] }
+fn finalize<U: Unit<Value = u64>>(
+    core: &mut Core<U>,
+    tickets: &mut Tickets,
+    reply: &mut String,
+) -> Result<(), OutOfMemory>
+    requires empty { string_bytes reply.old ≡ [] }
+    requires knows { Knows core.old.tickets tickets.old }
+    requires collected { AreCollected core.old }
     ensures object { OnOk result (core.new.object ≡ after_operation U.meaning core.old.object Operation.Finalize) }
     ensures lines { OnOk result (string_bytes reply.new ≡ reply_lines U.meaning core.old.object Operation.Finalize) }
+    ensures knows { Knows core.new.tickets tickets.new }
+    ensures collected { AreCollected core.new }
 {
     match core.finalize() {
         Ok(()) => {
-            push_final(reply)?;
-            push_ended(reply, core.ended_now())
+            let answered = push_final(reply);
+            finish(core, tickets, answered, reply)
         }
         Err(refusal) => refuse(reply, refusal),
     }
@@ -195,25 +278,30 @@ fn show<U: Unit<Value = u64>>(
 /// declarations of the object's entries.
 pub(crate) fn operate<U: Unit<Value = u64>>(
     core: &mut Core<U>,
+    tickets: &mut Tickets,
     operation: Operation,
     names: &[&str],
     reply: &mut String,
 ) -> Result<(), OutOfMemory>
-    requires { string_bytes reply.old ≡ [] }
+    requires empty { string_bytes reply.old ≡ [] }
+    requires knows { Knows core.old.tickets tickets.old }
+    requires collected { AreCollected core.old }
     ensures object { OnOk result (core.new.object ≡ after_operation U.meaning core.old.object operation) }
     ensures lines { OnOk result (string_bytes reply.new ≡ operation_lines U.meaning (texts_of names.now) core.old.object operation) }
+    ensures knows { Knows core.new.tickets tickets.new }
+    ensures collected { AreCollected core.new }
 {
     match operation {
         Operation::Call {
             entry,
             value,
             deadline,
-        } => call(core, entry, value, deadline, reply),
-        Operation::Run { op, value } => run(core, op, value, reply),
+        } => call(core, tickets, entry, value, deadline, reply),
+        Operation::Run { op, value } => run(core, tickets, op, value, reply),
         Operation::Read { op, value } => read(core, op, value, reply),
-        Operation::Abort(n) => abort(core, n, reply),
-        Operation::Tick(time) => tick(core, time, reply),
-        Operation::Finalize => finalize(core, reply),
+        Operation::Abort(n) => abort(core, tickets, n, reply),
+        Operation::Tick(time) => tick(core, tickets, time, reply),
+        Operation::Finalize => finalize(core, tickets, reply),
         Operation::Show => show(core, names, reply),
     }
 }

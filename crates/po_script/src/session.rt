@@ -1,19 +1,25 @@
 //! What the commands of a script are carried out on.
 
 ghost use Rattle.std.specs.Prelude.{◌≡◌, OnOk, string_bytes};
+ghost use Rattle.std.specs.Option.{ForSome};
+ghost use Rattle.po_script.specs.Tickets.{Knows, tickets_of, HasCollected};
 
 use crate::command::Command;
 use crate::object::Object;
+use crate::tickets::Tickets;
 use std::alloc::Global;
 
 /// Memory ran out.
 #[derive(Clone, Copy, Debug, PartialEq, Eq)]
 pub struct OutOfMemory;
 
-/// A session: the object that a line began, if one did.
+/// A session: the object that a line began, if one did, and the tickets of its uncollected calls.
 #[derive(Drop)]
 pub struct Session {
     object: Option<Object>,
+    tickets: Tickets,
+    ghost knows: { ForSome object (λ it. Knows (tickets_of it) tickets) },
+    ghost collected: { ForSome object HasCollected },
 }
 
 #[tactic(auto, unfolding(crate::specs::Session::opening_state, crate::specs::Session::after, crate::specs::Session::answer))]
@@ -22,10 +28,13 @@ impl Session {
     ghost use Rattle.po_script.specs.Session.{state_of, opening_state, after, answer};
 
     /// A session before its first command.
-    pub fn new() -> Session
+    pub fn new(alloc: Global) -> Session
         ensures { state_of result ≡ opening_state }
     {
-        Session { object: None }
+        Session {
+            object: None,
+            tickets: Tickets::new(alloc),
+        }
     }
 
     /// Carries out the command, and puts the lines that answer it in the place of the reply's text.
@@ -43,10 +52,11 @@ impl Session {
         match command {
             Command::Begin(beginning) => {
                 self.object = Some(Object::new(alloc, beginning)?);
+                self.tickets = Tickets::new(alloc);
                 Ok(())
             }
             Command::Operate(operation) => match &mut self.object {
-                Some(object) => object.operate(operation, reply),
+                Some(object) => object.operate(&mut self.tickets, operation, reply),
                 None => Ok(()),
             },
         }

@@ -1,5 +1,5 @@
-//! The units that come with the machine: a bounded buffer, a relay, a trap, a signal, a broadcast, a pulse, a meeting
-//! and an allocator.
+//! The units that come with the machine: a bounded buffer, a signal, a broadcast, a pulse, a meeting, an allocator, a relay
+//! and a trap.
 //!
 //! Each head comment of a module shows its unit as an Ada protected type, over the one type of values
 //! `type Value is mod 2 ** 64;`.
@@ -11,6 +11,8 @@ mod buffer;
 #[cfg(test)]
 mod core_tests;
 mod declarations;
+#[cfg(test)]
+mod law_tests;
 mod meeting;
 mod names;
 mod pulse;
