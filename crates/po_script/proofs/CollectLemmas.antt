@@ -1,5 +1,6 @@
 -- The tickets that a script keeps: one more, and the ended calls collected one after another.
-use Rattle.std.proofs.Common.{◌≡◌, ◌≢◌, ℕ, zero, suc, ◌+◌, ◌<◌, Bool, true, eqb, List, [], ◌∷◌, length, drop, get_or, Option, Some, None, refl, sym, ap, subst, ◌∙◌, inl, inr, arith, length-drop}
+use Rattle.std.proofs.Common.{◌≡◌, ◌≢◌, ℕ, zero, suc, ◌+◌, ◌<◌, true, List, [], ◌∷◌, length, drop, get_or, Bool}
+use Rattle.std.proofs.Common.{Option, Some, None, refl, sym, ap, subst, ◌∙◌, inl, inr, arith, length-drop}
 use Rattle.std.specs.List.{find, slice_index_or}
 use Rattle.std.specs.Option.{IsSome}
 use Rattle.std.proofs.lemmas.Bool.{cases_Bool, cases_eq, eq-eqb}
@@ -17,7 +18,8 @@ none_some : (n : ℕ) → None ≡ Some n → ⊥
 none_some n e = cc
 
 -- an element that passes the test is found
-found : {X : Type 0} (p : X → Bool) (xs : List X) (i : ℕ) (d : X) → i < length xs → p (get_or xs i d) ≡ true → IsSome (find p xs)
+found : {X : Type 0} (p : X → Bool) (xs : List X) (i : ℕ) (d : X)
+    → i < length xs → p (get_or xs i d) ≡ true → IsSome (find p xs)
 found p [] i d h e = absurd (omega (arith, h))
 found p (x ∷ xs) zero d h e = simp e refl
 found p (x ∷ xs) (suc i) d h e = elim (cases_Bool (p x)) [
@@ -25,25 +27,42 @@ found p (x ∷ xs) (suc i) d h e = elim (cases_Bool (p x)) [
   | inr fails ↦ simp fails (found p xs i d (omega (arith, h)) e)
 ]
 
-eqb_same : (n : ℕ) → eqb n n ≡ true
-eqb_same n = eq-eqb n n refl
-
 -- a call of the last ones that ended is found among all
-pub found_ended : (xs : List (Ended ℕ)) (before i : ℕ) (d : Ended ℕ) → i < length (drop before xs) → IsSome (find (has_ended (get_or (drop before xs) i d).number) xs)
+pub found_ended : (xs : List (Ended ℕ)) (before i : ℕ) (d : Ended ℕ)
+    → i < length (drop before xs) → IsSome (find (has_ended (get_or (drop before xs) i d).number) xs)
 found_ended xs before i d h =
     let low : before + i < length xs = omega (arith, h, length-drop before xs) in
-    let same : get_or (drop before xs) i d ≡ get_or xs (before + i) d = get_or-drop before xs i d in
-    rw same (found (has_ended (get_or xs (before + i) d).number) xs (before + i) d low (eqb_same (get_or xs (before + i) d).number))
+    let n = (get_or xs (before + i) d).number in
+    rw (get_or-drop before xs i d) (found (has_ended n) xs (before + i) d low (eq-eqb n n refl))
+
+-- The first calls of xs, so many, were collected.
+abbrev pub AreCollectedTo : List (Option ℕ) → List (Ended ℕ) → ℕ → Type 0
+AreCollectedTo core xs many =
+    (k : ℕ) (d : Ended ℕ) → k < many → k < length xs → IsCollected core (slice_index_or xs k d).number
 
 -- one more call is collected
-pub collected_more : (old new : List (Option ℕ)) (xs : List (Ended ℕ)) (place : ℕ) (e : Ended ℕ) → ((k : ℕ) (d : Ended ℕ) → k < place → k < length xs → IsCollected old (slice_index_or xs k d).number) → ((n : ℕ) → IsCollected old n → IsCollected new n) → IsCollected new (slice_index_or xs place e).number → (k : ℕ) (d : Ended ℕ) → k < place + 1 → k < length xs → IsCollected new (slice_index_or xs k d).number
+pub collected_more : (old new : List (Option ℕ)) (xs : List (Ended ℕ)) (place : ℕ) (e : Ended ℕ)
+    → AreCollectedTo old xs place
+    → ((n : ℕ) → IsCollected old n → IsCollected new n)
+    → IsCollected new (slice_index_or xs place e).number
+    → AreCollectedTo new xs (place + 1)
 collected_more old new xs place e before others this = λ k d low within. elim (cases_eq k place) [
-  | inl same ↦ let there : get_or xs place e ≡ get_or xs k d = ap (λ i. get_or xs i e) (sym same) ∙ get_or_default xs k e d within in subst (λ x. IsCollected new x.number) there this
+  | inl same ↦
+      let there : get_or xs place e ≡ get_or xs k d =
+      ap (λ i. get_or xs i e) (sym same) ∙ get_or_default xs k e d within in
+      subst (λ x. IsCollected new x.number) there this
   | inr other ↦ others _ (before k d (omega (arith, low, other)) within)
 ]
 
 -- the tickets with that of a new call
-pub knows_issued : (old new : List (Option ℕ)) (t u : Tickets) (key n : ℕ) → Knows old t → ((k j : ℕ) → number_at old k ≡ Some j → j < n) → number_at old key ≡ None → SetsTicket old new key (Some n) → key_of u n ≡ Some key → ((j : ℕ) → j ≢ n → key_of u j ≡ key_of t j) → Knows new u
+pub knows_issued : (old new : List (Option ℕ)) (t u : Tickets) (key n : ℕ)
+    → Knows old t
+    → ((k j : ℕ) → number_at old k ≡ Some j → j < n)
+    → number_at old key ≡ None
+    → SetsTicket old new key (Some n)
+    → key_of u n ≡ Some key
+    → ((j : ℕ) → j ≢ n → key_of u j ≡ key_of t j)
+    → Knows new u
 knows_issued old new t u key n knows low free set kept others = record {
   kept = λ k j is. elim (cases_eq k key) [
     | inl same ↦

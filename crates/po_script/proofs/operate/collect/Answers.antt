@@ -18,7 +18,9 @@ loop-place-preserved g c =
     record {
       object = e.object ∙ i.object;
       knows = e.knows;
-      collected = collected_more c.loop-place.core.tickets c.collect_one.new.core.tickets (ended_now c.args.core.now.object) c.loop-place.place _ i.collected e.others (rw shown at e.collected);
+      collected =
+          collected_more c.loop-place.core.tickets c.collect_one.new.core.tickets (ended_now c.args.core.now.object)
+          c.loop-place.place _ i.collected e.others (rw shown at e.collected);
     }
 
 pub returns-clause-collected : goal.returns-clause-collected
