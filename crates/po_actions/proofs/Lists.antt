@@ -4,7 +4,7 @@ use Rattle.std.proofs.lemmas.List.Folds.{find_at}
 use Rattle.std.proofs.lemmas.List.{map-append, map_more, append_assoc}
 use Rattle.std.proofs.lemmas.Bool.Decides.{nat_tests}
 use Rattle.std.proofs.lemmas.Bool.{cases_eq}
-use Rattle.po_actions.specs.declared.call.Call.{Call}
+use Rattle.po_calls.specs.declared.call.Call.{Call}
 use Rattle.std.specs.List.{slice_get, count_by, find, position, position_or_len, remove}
 use Rattle.po_actions.specs.Step.{without_first}
 use Rattle.po_actions.specs.WaitingCalls.{below, counts_of, is_on}

@@ -4,7 +4,7 @@ use Rattle.std.specs.List.{find, All, list_any}
 use Rattle.std.proofs.lemmas.List.Elements.{All-head, All-tail}
 use Rattle.std.proofs.lemmas.Bool.Decides.{nat_tests}
 use Rattle.po_unit.specs.Meaning.{Meaning}
-use Rattle.po_actions.specs.declared.call.Call.{Call}
+use Rattle.po_calls.specs.declared.call.Call.{Call}
 use Rattle.po_actions.specs.declared.event.Event.{Event}
 use Rattle.po_actions.specs.declared.order.Order.{Order}
 use Rattle.po_actions.specs.ObjectState.{ObjectState, gate_in, IsQuiet, IsAtRest}

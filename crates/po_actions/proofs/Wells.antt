@@ -6,9 +6,9 @@ use Rattle.std.proofs.lemmas.Bool.Decides.{nat_tests}
 use Rattle.po_unit.specs.Meaning.{Meaning, IsLawful, LowersRank}
 use Rattle.po_unit.specs.declared.outcome.Outcome.{Outcome}
 use Rattle.po_unit.specs.declared.outcome.Outcome.TheVariants.{Complete, Raise, Requeue}
-use Rattle.po_actions.specs.declared.call.Call.{Call}
-use Rattle.po_actions.specs.declared.call.Deadline.{Deadline}
-use Rattle.po_actions.specs.declared.end.End.TheVariants.{Completed, Raised, Cancelled, ProgramError}
+use Rattle.po_calls.specs.declared.call.Call.{Call}
+use Rattle.po_calls.specs.declared.call.Deadline.{Deadline}
+use Rattle.po_calls.specs.declared.end.End.TheVariants.{Completed, Raised, Cancelled, ProgramError}
 use Rattle.po_actions.specs.declared.event.Event.{Event}
 use Rattle.po_actions.specs.declared.event.Event.TheVariants.{Issue, Ran, Abort, Tick, Final, Serve, Break, Expire}
 use Rattle.po_actions.specs.ObjectState.{ObjectState, counts_in, gate_in}
@@ -17,7 +17,7 @@ use Rattle.po_actions.specs.Step.{is_full, enter, without_first, end_call, end_a
 use Rattle.po_actions.specs.Making.{Making}
 use Rattle.po_actions.specs.View.{IsInOnePlace}
 use Rattle.po_actions.specs.Base.{Base, state_at}
-use Rattle.po_actions.specs.declared.end.Ended.{Ended}
+use Rattle.po_actions.specs.declared.ended.Ended.{Ended}
 use Rattle.po_actions.specs.History.{IsBase, IsHistory}
 use Rattle.po_index.specs.Numbering.{entry_count}
 use Rattle.po_actions.proofs.Places.{places_of, places-step}

@@ -1,7 +1,7 @@
 -- From where the present history replays: the state that all events before it led to, and what there is to know of those events.
 use Rattle.std.specs.Prelude.{ℕ, List, [], ◌∷◌, Bool, false, Option, None, take, if◌then◌else◌}
-use Rattle.po_actions.specs.declared.call.Call.{Call}
-use Rattle.po_actions.specs.declared.end.Ended.{Ended}
+use Rattle.po_calls.specs.declared.call.Call.{Call}
+use Rattle.po_actions.specs.declared.ended.Ended.{Ended}
 use Rattle.po_actions.specs.WaitingCalls.{has_number}
 use Rattle.po_actions.specs.ObjectState.{ObjectState}
 

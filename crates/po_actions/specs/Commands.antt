@@ -2,7 +2,7 @@
 use Rattle.std.specs.Prelude.{ℕ, Result}
 use Rattle.po_unit.specs.Meaning.{Meaning}
 use Rattle.po_index.specs.declared.decl.EntryRef.{EntryRef}
-use Rattle.po_actions.specs.declared.call.Deadline.{Deadline}
+use Rattle.po_calls.specs.declared.call.Deadline.{Deadline}
 use Rattle.po_actions.specs.declared.event.Event.{Event}
 use Rattle.po_actions.specs.declared.event.Event.TheVariants.{Issue}
 use Rattle.po_actions.specs.ObjectState.{counts_in}

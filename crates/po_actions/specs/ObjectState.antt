@@ -1,8 +1,8 @@
 -- The state of a protected object between two steps.
 use Rattle.std.specs.Prelude.{ℕ, ◌≡◌, List, [], Bool, false, Result, Ok, All}
 use Rattle.po_unit.specs.Meaning.{Meaning}
-use Rattle.po_actions.specs.declared.call.Call.{Call}
-use Rattle.po_actions.specs.declared.end.Ended.{Ended}
+use Rattle.po_calls.specs.declared.call.Call.{Call}
+use Rattle.po_actions.specs.declared.ended.Ended.{Ended}
 use Rattle.po_actions.specs.WaitingCalls.{counts_of, is_due}
 
 -- S are the states of the unit's data, V the values of a call's parameter (9.4, 9.5.3).

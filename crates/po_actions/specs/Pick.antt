@@ -2,7 +2,7 @@
 use Rattle.std.specs.Prelude.{ℕ, ◌≡◌, ◌+◌, List, [], ◌∷◌, ◌++◌, map, take, drop, Bool, true, false, Result, Ok, Err, Option, Some, None, find, IsSome, ◌<◌, sum_by, option_map, if◌then◌else◌}
 use Rattle.std.specs.List.{list_any}
 use Rattle.po_unit.specs.Meaning.{Meaning}
-use Rattle.po_actions.specs.declared.call.Call.{Call}
+use Rattle.po_calls.specs.declared.call.Call.{Call}
 use Rattle.po_actions.specs.declared.order.Order.{Order}
 use Rattle.po_actions.specs.declared.order.Order.TheVariants.{Textual, Oldest, Rotating}
 use Rattle.po_actions.specs.declared.event.Event.{Event}

@@ -1,7 +1,7 @@
 -- A protected action: a command's own event, and the inner events that follow it up to rest (9.5.1, 9.5.3).
 use Rattle.std.specs.Prelude.{ℕ, zero, suc, ◌≡◌, ◌≤◌, List, [], ◌∷◌, ◌++◌, length, Option, Some, None, Bool, true, false, ◌&&◌, find, if◌then◌else◌}
 use Rattle.po_unit.specs.Meaning.{Meaning}
-use Rattle.po_actions.specs.declared.call.Call.{Call}
+use Rattle.po_calls.specs.declared.call.Call.{Call}
 use Rattle.po_actions.specs.declared.event.Event.{Event}
 use Rattle.po_actions.specs.declared.event.Event.TheVariants.{Abort}
 use Rattle.po_actions.specs.declared.order.Order.{Order}

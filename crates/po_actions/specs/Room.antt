@@ -1,7 +1,7 @@
 -- Room in the lists of an object's state.
 use Rattle.std.specs.Prelude.{ℕ, ◌+◌, ◌≤◌, vec_len, vec_capacity, Vec}
-use Rattle.po_actions.specs.declared.call.Call.{Call}
-use Rattle.po_actions.specs.declared.end.Ended.{Ended}
+use Rattle.po_calls.specs.declared.call.Call.{Call}
+use Rattle.po_actions.specs.declared.ended.Ended.{Ended}
 
 -- So many calls more can be queued, and these and all queued ones can end, without memory.
 pub record HasRoom {V A : Type 0} (waiting : Vec (Call V) A) (ended : Vec (Ended V) A) (room : ℕ) : Type 0 where

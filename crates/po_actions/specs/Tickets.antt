@@ -1,12 +1,12 @@
 -- Tickets: what a caller holds of a call that was accepted and isn't collected (this project's own).
 use Rattle.std.specs.Prelude.{ℕ, ◌≡◌, ◌≢◌, ◌<◌, ◌≤◌, ◌==◌, List, Bool, false, Option, Some, None, if◌then◌else◌, find}
 use Rattle.std.specs.List.{slice_index_or}
-use Rattle.po_actions.specs.declared.call.Call.{Call}
-use Rattle.po_actions.specs.declared.end.End.{End}
-use Rattle.po_actions.specs.declared.end.Ended.{Ended}
-use Rattle.po_actions.specs.declared.end.Place.{Place}
-use Rattle.po_actions.specs.declared.end.Place.TheVariants.{Unknown, Waiting, Ended as HasEnded}
-use Rattle.po_actions.specs.declared.ticket.Ticket.{Ticket}
+use Rattle.po_calls.specs.declared.call.Call.{Call}
+use Rattle.po_calls.specs.declared.end.End.{End}
+use Rattle.po_actions.specs.declared.ended.Ended.{Ended}
+use Rattle.po_calls.specs.declared.end.Place.{Place}
+use Rattle.po_calls.specs.declared.end.Place.TheVariants.{Unknown, Waiting, Ended as HasEnded}
+use Rattle.po_calls.specs.declared.ticket.Ticket.{Ticket}
 use Rattle.po_actions.specs.WaitingCalls.{has_number}
 use Rattle.po_actions.specs.ObjectState.{ObjectState}
 use Rattle.po_actions.specs.Step.{has_ended}

@@ -1,7 +1,7 @@
 -- What contracts see of a protected object: what it was made with, its history since the base, and its present state.
 use Rattle.std.specs.Prelude.{ℕ, ◌≡◌, ◌+◌, List, [], ◌&&◌, nat_lt, nat_le, count_by, length, drop, if◌then◌else◌, Option}
 use Rattle.po_unit.specs.Meaning.{Meaning}
-use Rattle.po_actions.specs.declared.end.Ended.{Ended}
+use Rattle.po_actions.specs.declared.ended.Ended.{Ended}
 use Rattle.po_actions.specs.declared.event.Event.{Event}
 use Rattle.po_actions.specs.Making.{Making}
 use Rattle.po_actions.specs.WaitingCalls.{has_number}

@@ -1,8 +1,8 @@
 -- Waiting calls, and how many of them are queued on each entry.
 use Rattle.std.specs.Prelude.{ℕ, zero, suc, ◌==◌, nat_le, List, [], ◌∷◌, ◌++◌, map, Bool, false, not, ◌&&◌, count_by}
-use Rattle.po_actions.specs.declared.call.Call.{Call}
-use Rattle.po_actions.specs.declared.call.Deadline.{Deadline}
-use Rattle.po_actions.specs.declared.call.Deadline.TheVariants.{Never, At}
+use Rattle.po_calls.specs.declared.call.Call.{Call}
+use Rattle.po_calls.specs.declared.call.Deadline.{Deadline}
+use Rattle.po_calls.specs.declared.call.Deadline.TheVariants.{Never, At}
 
 -- the numbers below n, rising: the entries of an object that has n of them (9.5.2)
 abbrev pub below : ℕ → List ℕ

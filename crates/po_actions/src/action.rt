@@ -12,11 +12,11 @@ ghost use Rattle.po_actions.specs.ProtectedAction.{settled, without_event};
 ghost use Rattle.po_actions.specs.Tickets.{place_of};
 ghost use Rattle.po_actions.specs.Headline.{IsSound};
 
-use crate::call::Deadline;
-use crate::end::Ended;
+use crate::ended::Ended;
 use crate::event::Event;
 use crate::making::Making;
 use crate::state::State;
+use po_calls::Deadline;
 use po_unit::Unit;
 use std::alloc::{AllocError, Global};
 use std::marker::Model;

@@ -1,10 +1,20 @@
-//! The list of ended calls, in the order in which they ended.
+//! Calls that have ended, and their list, in the order in which they ended.
 
 ghost use Rattle.std.specs.Prelude.{◌≡◌, ◌+◌, ◌≤◌, ◌++◌, count_by, find, reverse, map, length, vec_len, vec_capacity};
 ghost use Rattle.po_actions.specs.Step.{ended_as, has_ended};
 
-use crate::call::Call;
-use crate::end::{End, Ended};
+use po_calls::{Call, End};
+
+/// A call that has ended.
+#[derive(Clone, Copy, Debug, PartialEq, Eq)]
+pub struct Ended<V> {
+    /// The call's number.
+    pub number: u64,
+    /// Who made it.
+    pub owner: u16,
+    /// How it ended.
+    pub end: End<V>,
+}
 
 /// The last end of a call with number n.
 fn last_of<V: Copy>(ended: &[Ended<V>], n: u64) -> Option<Ended<V>>

@@ -1,6 +1,6 @@
 //! What the history of a protected object keeps.
 
-use crate::call::Deadline;
+use po_calls::Deadline;
 
 /// One event of a history. The first five begin a protected action (9.5.1); the last three are inner events, by which the
 /// action goes on.

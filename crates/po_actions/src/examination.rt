@@ -5,10 +5,10 @@ ghost use Rattle.std.specs.List.{list_any};
 ghost use Rattle.po_actions.specs.WaitingCalls.{is_on, below};
 ghost use Rattle.po_actions.specs.Pick.{if_any, turn, examined, first_some};
 
-use crate::call::Call;
 use crate::event::Event;
 use crate::order::Order;
 use crate::waiting::is_waited;
+use po_calls::Call;
 use po_unit::Unit;
 
 /// The inner event of one entry.

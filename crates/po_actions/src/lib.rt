@@ -2,8 +2,6 @@
 #![tactic(auto)]
 
 mod action;
-mod call;
-mod end;
 mod ended;
 mod event;
 mod examination;
@@ -14,15 +12,13 @@ mod protected_object;
 mod refusal;
 mod start;
 mod state;
-mod ticket;
 mod waiting;
 
-pub use call::{Call, Deadline};
-pub use end::{End, Ended, Place};
+pub use ended::Ended;
 pub use event::Event;
 pub use fault::MakeFault;
 pub use order::Order;
+pub use po_calls::{Call, Deadline, End, Place, Ticket};
 pub use protected_object::Core;
 pub use refusal::{Aborted, Refusal};
 pub use start::Start;
-pub use ticket::Ticket;

@@ -14,15 +14,14 @@ ghost use Rattle.po_actions.specs.Headline.{Headline};
 ghost use Rattle.po_actions.specs.declared.refusal.Refusal.{Refusal};
 
 use crate::action::Action;
-use crate::call::Deadline;
-use crate::end::{End, Ended, Place};
+use crate::ended::Ended;
 use crate::event::Event;
 use crate::fault::MakeFault;
 use crate::making::Making;
 use crate::order::Order;
 use crate::refusal::{Aborted, Refusal};
 use crate::start::Start;
-use crate::ticket::Ticket;
+use po_calls::{Deadline, End, Place, Ticket};
 use po_index::{EntryRef, Shape};
 use po_unit::Unit;
 use slab::Slab;

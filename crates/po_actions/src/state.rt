@@ -7,15 +7,14 @@ ghost use Rattle.po_actions.specs.Pick.{turn_of as turn_at, examined, first_some
 ghost use Rattle.po_actions.specs.Step.{enter, cancel, abort, advance, finalize, run_procedure, end_call, end_all, queue, land, run_body, take_out, step, arrive, has_ended};
 ghost use Rattle.po_actions.specs.Tickets.{place_of};
 
-use crate::call::{Call, Deadline};
-use crate::end::{End, Ended, Place};
-use crate::ended::{end_each, end_of};
+use crate::ended::{Ended, end_each, end_of};
 use crate::event::Event;
 use crate::examination::{oldest_turn, rotating_turn, turn_between};
 use crate::order::Order;
 use crate::waiting::{
     call_of, count_into, first_due, first_of, is_full, mark_number, take_first_on, take_number,
 };
+use po_calls::{Call, Deadline, End, Place};
 use po_unit::{Outcome, Unit};
 use std::alloc::{AllocError, Global};
 use std::marker::Model;

@@ -5,7 +5,7 @@ ghost use Rattle.std.specs.List.{list_any};
 ghost use Rattle.po_actions.specs.WaitingCalls.{is_on, is_of, has_number, is_due, is_past, counts_of};
 ghost use Rattle.po_actions.specs.Step.{is_full, without_first, mark};
 
-use crate::call::{Call, Deadline};
+use po_calls::{Call, Deadline};
 
 /// Counts the calls on each entry.
 #[tactic(auto, using(crate::proofs::Lists::counts_more))]

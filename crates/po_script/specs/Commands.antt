@@ -6,8 +6,8 @@ use Rattle.po_script.specs.Words.{words, number_of, is_name, entry_parts}
 use Rattle.po_units.specs.Names.{place_of_name}
 use Rattle.po_script.specs.Names.{entry_names, procedure_names, function_names}
 use Rattle.po_index.specs.declared.decl.EntryRef.{EntryRef}
-use Rattle.po_actions.specs.declared.call.Deadline.{Deadline}
-use Rattle.po_actions.specs.declared.call.Deadline.TheVariants.{Never, At}
+use Rattle.po_calls.specs.declared.call.Deadline.{Deadline}
+use Rattle.po_calls.specs.declared.call.Deadline.TheVariants.{Never, At}
 use Rattle.po_actions.specs.declared.order.Order.{Order}
 use Rattle.po_actions.specs.declared.order.Order.TheVariants.{Textual, Oldest, Rotating}
 use Rattle.po_script.specs.declared.command.UnitChoice.{UnitChoice}

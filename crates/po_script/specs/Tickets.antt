@@ -1,8 +1,8 @@
 -- The tickets that a script keeps, and that it collects the calls that have ended.
 use Rattle.std.specs.Prelude.{ℕ, ◌≡◌, ◌≢◌, ◌<◌, nat_eq, List, All, Option, Some, IsSome, find}
 use Rattle.std.specs.HashMap.{get, spare}
-use Rattle.po_actions.specs.declared.end.Ended.{Ended}
-use Rattle.po_actions.specs.declared.ticket.Ticket.{Ticket}
+use Rattle.po_actions.specs.declared.ended.Ended.{Ended}
+use Rattle.po_calls.specs.declared.ticket.Ticket.{Ticket}
 use Rattle.po_actions.specs.Step.{has_ended}
 use Rattle.po_actions.specs.View.{View, ended_now}
 use Rattle.po_actions.specs.Tickets.{CoreView, number_at}

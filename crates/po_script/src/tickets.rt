@@ -2,7 +2,7 @@
 
 ghost use Rattle.std.specs.Prelude.{◌≡◌, ◌≢◌, ℕ, OnOk, None, Some};
 ghost use Rattle.std.specs.Option.{option_map};
-ghost use Rattle.po_actions.specs.declared.ticket.Ticket.{Ticket as Named};
+ghost use Rattle.po_calls.specs.declared.ticket.Ticket.{Ticket as Named};
 ghost use Rattle.po_script.specs.Tickets.{key_of, ticket_of, HasRoom};
 
 use crate::session::OutOfMemory;

@@ -3,8 +3,8 @@ use Rattle.std.proofs.Common.{◌≡◌, ℕ, zero, suc, List, [], ◌∷◌, �
 use Rattle.std.proofs.Common.{IsSome, find}
 use Rattle.std.proofs.Math.Seq.{drop-append_seam}
 use Rattle.po_unit.specs.Meaning.{Meaning}
-use Rattle.po_actions.specs.declared.call.Call.{Call}
-use Rattle.po_actions.specs.declared.end.Ended.{Ended}
+use Rattle.po_calls.specs.declared.call.Call.{Call}
+use Rattle.po_actions.specs.declared.ended.Ended.{Ended}
 use Rattle.po_actions.specs.declared.event.Event.{Event}
 use Rattle.po_actions.specs.declared.event.Event.TheVariants.{Issue, Ran, Abort, Tick, Final, Serve, Break, Expire}
 use Rattle.po_actions.specs.WaitingCalls.{has_number, is_on, is_due}

@@ -6,10 +6,10 @@ use Rattle.std.proofs.lemmas.Bool.Decides.{nat_tests}
 use Rattle.std.proofs.lemmas.List.{length-append, length-map}
 use Rattle.std.proofs.lemmas.List.Elements.{All-nil, All-push, All-map, All-weaker}
 use Rattle.std.proofs.Math.Seq.{drop-append_seam}
-use Rattle.po_actions.specs.declared.call.Call.{Call}
-use Rattle.po_actions.specs.declared.call.Deadline.{Deadline}
-use Rattle.po_actions.specs.declared.end.Ended.{Ended}
-use Rattle.po_actions.specs.declared.end.End.TheVariants.{Cancelled, ProgramError}
+use Rattle.po_calls.specs.declared.call.Call.{Call}
+use Rattle.po_calls.specs.declared.call.Deadline.{Deadline}
+use Rattle.po_actions.specs.declared.ended.Ended.{Ended}
+use Rattle.po_calls.specs.declared.end.End.TheVariants.{Cancelled, ProgramError}
 use Rattle.po_actions.specs.declared.event.Event.{Event}
 use Rattle.po_actions.specs.declared.event.Event.TheVariants.{Issue, Ran, Abort, Tick, Final, Serve, Break, Expire}
 use Rattle.po_actions.specs.WaitingCalls.{is_on, has_number}

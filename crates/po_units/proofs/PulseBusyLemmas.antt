@@ -5,9 +5,9 @@ use Rattle.std.proofs.Common.{◌⊎◌, inl, inr, All, find, count_by}
 use Rattle.std.proofs.lemmas.Bool.Decides.{nat_tests}
 use Rattle.std.proofs.lemmas.List.Elements.{All-nil, All-cons, All-head, All-tail, All-push, All-weaker}
 use Rattle.po_unit.specs.declared.outcome.Outcome.TheVariants.{Complete}
-use Rattle.po_actions.specs.declared.call.Call.{Call}
-use Rattle.po_actions.specs.declared.end.Ended.{Ended}
-use Rattle.po_actions.specs.declared.end.End.TheVariants.{Completed}
+use Rattle.po_calls.specs.declared.call.Call.{Call}
+use Rattle.po_actions.specs.declared.ended.Ended.{Ended}
+use Rattle.po_calls.specs.declared.end.End.TheVariants.{Completed}
 use Rattle.po_actions.specs.declared.event.Event.{Event}
 use Rattle.po_actions.specs.declared.event.Event.TheVariants.{Issue, Ran, Abort, Tick, Final, Serve, Break, Expire}
 use Rattle.po_actions.specs.WaitingCalls.{is_on}

@@ -1,9 +1,9 @@
 -- The values with which calls complete, read off a history from the opening of an object.
 use Rattle.std.specs.Prelude.{ℕ, ◌==◌, List, [], ◌∷◌, ◌++◌, Bool, false, Option, if◌then◌else◌}
 use Rattle.po_unit.specs.Meaning.{Meaning}
-use Rattle.po_actions.specs.declared.end.Ended.{Ended}
-use Rattle.po_actions.specs.declared.end.End.{End}
-use Rattle.po_actions.specs.declared.end.End.TheVariants.{Completed}
+use Rattle.po_actions.specs.declared.ended.Ended.{Ended}
+use Rattle.po_calls.specs.declared.end.End.{End}
+use Rattle.po_calls.specs.declared.end.End.TheVariants.{Completed}
 use Rattle.po_actions.specs.declared.event.Event.{Event}
 use Rattle.po_actions.specs.declared.event.Event.TheVariants.{Issue, Serve}
 use Rattle.po_actions.specs.Making.{Making}

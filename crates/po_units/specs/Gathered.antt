@@ -1,9 +1,9 @@
 -- The trails of commands whose inner events all serve: what the laws of pulse and meeting speak of.
 use Rattle.std.specs.Prelude.{ℕ, zero, suc, ◌≡◌, List, [], ◌∷◌, Bool, true, false}
-use Rattle.po_actions.specs.declared.call.Call.{Call}
-use Rattle.po_actions.specs.declared.call.Deadline.{Deadline}
-use Rattle.po_actions.specs.declared.end.Ended.{Ended}
-use Rattle.po_actions.specs.declared.end.End.TheVariants.{Completed}
+use Rattle.po_calls.specs.declared.call.Call.{Call}
+use Rattle.po_calls.specs.declared.call.Deadline.{Deadline}
+use Rattle.po_actions.specs.declared.ended.Ended.{Ended}
+use Rattle.po_calls.specs.declared.end.End.TheVariants.{Completed}
 use Rattle.po_actions.specs.declared.event.Event.{Event}
 use Rattle.po_actions.specs.declared.event.Event.TheVariants.{Serve, Break, Expire}
 use Rattle.po_actions.specs.Step.{ended_as}

@@ -1,7 +1,7 @@
 -- The law of the meeting: calls complete together, as many as its size, in order of arrival.
 use Rattle.std.specs.Prelude.{ℕ, ◌≡◌, ◌≢◌, ◌<◌, ◌+◌, List, [], ◌∷◌, ◌++◌, map, length}
-use Rattle.po_actions.specs.declared.call.Call.{Call}
-use Rattle.po_actions.specs.declared.call.Deadline.{Deadline}
+use Rattle.po_calls.specs.declared.call.Call.{Call}
+use Rattle.po_calls.specs.declared.call.Deadline.{Deadline}
 use Rattle.po_actions.specs.declared.event.Event.{Event}
 use Rattle.po_actions.specs.declared.event.Event.TheVariants.{Issue, Serve}
 use Rattle.po_actions.specs.Making.{Making}

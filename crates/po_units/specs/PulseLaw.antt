@@ -1,7 +1,7 @@
 -- The law of the pulse: a Signal lets all calls go that wait, and nothing else lets one go.
 use Rattle.std.specs.Prelude.{ℕ, ◌≡◌, ◌≢◌, List, [], ◌∷◌, ◌++◌, map, length, All}
-use Rattle.po_actions.specs.declared.call.Call.{Call}
-use Rattle.po_actions.specs.declared.call.Deadline.{Deadline}
+use Rattle.po_calls.specs.declared.call.Call.{Call}
+use Rattle.po_calls.specs.declared.call.Deadline.{Deadline}
 use Rattle.po_actions.specs.declared.event.Event.{Event}
 use Rattle.po_actions.specs.declared.event.Event.TheVariants.{Issue, Serve}
 use Rattle.po_actions.specs.Making.{Making}

@@ -1,5 +1,5 @@
 use Rattle.std.proofs.Common.{◌≡◌, ◌++◌, ◌+◌, map, take, vec_capacity, vec_len}
-use Rattle.po_actions.specs.declared.end.End.TheVariants.{ProgramError}
+use Rattle.po_calls.specs.declared.end.End.TheVariants.{ProgramError}
 use Rattle.po_actions.specs.Step.{ended_as}
 use Rattle.po_actions.proofs.ended.end_each.Given as goal
 

@@ -14,17 +14,6 @@ pub enum End<V> {
     ProgramError,
 }
 
-/// A call that has ended.
-#[derive(Clone, Copy, Debug, PartialEq, Eq)]
-pub struct Ended<V> {
-    /// The call's number.
-    pub number: u64,
-    /// Who made it.
-    pub owner: u16,
-    /// How it ended.
-    pub end: End<V>,
-}
-
 /// Where the call of a ticket is.
 #[derive(Clone, Copy, Debug, PartialEq, Eq)]
 pub enum Place<V> {

@@ -1,0 +1,206 @@
+//! The table of the calls that aren't collected.
+
+ghost use Rattle.std.specs.Prelude.{ℕ, ◌≡◌, ◌<◌, ◌≤◌, ◌+◌, Ok, None, Some, OnOk, OnSome, IfNone, option_copied, true};
+ghost use Rattle.slab.specs.Slab.{get, slab_len, HasRoomFor, Updates};
+ghost use Rattle.po_calls.specs.declared.ticket.Ticket.{Ticket};
+ghost use Rattle.po_calls.specs.declared.call.Call.{Call};
+ghost use Rattle.po_calls.specs.declared.end.Place.TheVariants.{Waiting};
+ghost use Rattle.po_calls.specs.Calls.{kept, place_of, waiting_call, end_of, Sets, KeepsRoom, IsAbove, IsSpent, KeepsSpent};
+
+use crate::call::Call;
+use crate::end::{End, Place};
+use crate::kept::Kept;
+use crate::ticket::Ticket;
+use slab::Slab;
+use std::alloc::{AllocError, Global};
+use std::marker::Model;
+
+/// The calls of an object that aren't collected, each found by its ticket.
+///
+/// A ticket whose key holds a call of another number, or none, is `Unknown`. Only `reserve_one` takes memory.
+#[derive(Drop)]
+pub struct Table<V: Copy> {
+    calls: Slab<Kept<V>>,
+    /// The greatest number of a call that was put.
+    last: Option<u64>,
+}
+
+impl<V: Copy> Model for Table<V> {
+    ghost use Rattle.po_calls.specs.Calls.{CallTable, AreReached};
+
+    ghost Value = { CallTable V };
+
+    ghost view = { λ t. record { calls = t.calls; last = t.last } };
+
+    ghost invariant = { λ t. AreReached (record { calls = t.calls; last = t.last }) };
+}
+
+impl<V: Copy> Table<V> {
+    /// A table with no call, into which a call of any number can be put.
+    pub fn new(alloc: Global) -> Table<V>
+        ensures kept { (ticket : Ticket) → kept result ticket ≡ None }
+        ensures vacant { (key : ℕ) → get result.calls key ≡ None }
+        ensures next_key { result.calls.vacant_key ≡ 0 }
+        ensures last { result.last ≡ None }
+    {
+        Table {
+            calls: Slab::new(alloc),
+            last: None,
+        }
+    }
+
+    /// Makes room for one more call. No room is lost, also where it fails.
+    pub fn reserve_one(&mut self) -> Result<(), AllocError>
+        ensures room { OnOk result (HasRoomFor self.new.calls 1) }
+        ensures grows { self.old.calls.capacity ≤ self.new.calls.capacity }
+        ensures stays { self.new ≡ record self.old {
+          calls = record self.old.calls { capacity = self.new.calls.capacity };
+        } }
+        ensures succeeds { HasRoomFor self.old.calls 1 → result ≡ Ok tt }
+        ensures had_room { HasRoomFor self.old.calls 1 → self.new ≡ self.old }
+    {
+        self.calls.reserve(1)
+    }
+
+    /// The key that a `put` would give now.
+    pub fn next_key(&self) -> usize
+        ensures exact { result ≡ self.now.calls.vacant_key }
+        ensures vacant { get self.now.calls result ≡ None }
+    {
+        self.calls.vacant_key()
+    }
+
+    /// Keeps a waiting call, whose number is above those of all calls put before, where there is room for it.
+    pub fn put(&mut self, call: Call<V>) -> Ticket
+        requires room { HasRoomFor self.old.calls 1 }
+        requires number { IsAbove self.old.last call.number }
+        ensures ticket { result ≡ record { key = self.old.calls.vacant_key; number = call.number } }
+        ensures was_vacant { get self.old.calls result.key ≡ None }
+        ensures sets { Sets self.old self.new result (Some (record { call = call; end = None })) }
+        ensures updates { Updates self.old.calls self.new.calls result.key (Some (record { call = call; end = None })) }
+        ensures len { slab_len self.new.calls ≡ slab_len self.old.calls + 1 }
+        ensures capacity { self.new.calls.capacity ≡ self.old.calls.capacity }
+        ensures key_in_range { result.key < self.new.calls.capacity }
+        ensures last { self.new.last ≡ Some call.number }
+        ensures spent { KeepsSpent self.old self.new }
+    {
+        let number = call.number;
+        let key = self.calls.insert_reserved(Kept { call, end: None });
+        self.last = Some(number);
+        Ticket { key, number }
+    }
+
+    /// The call of the ticket, where it waits.
+    pub fn get(&self, ticket: Ticket) -> Option<&Call<V>>
+        ensures { option_copied result ≡ waiting_call (kept self.now ticket) }
+    {
+        match self.calls.get(ticket.key) {
+            Some(found) if found.call.number == ticket.number && found.end.is_none() => Some(
+                &found.call,
+            ),
+            _ => None,
+        }
+    }
+
+    /// The waiting call that has this key, if one has.
+    pub fn at(&self, key: usize) -> Option<&Call<V>>
+        ensures { option_copied result ≡ waiting_call (get self.now.calls key) }
+    {
+        match self.calls.get(key) {
+            Some(found) if found.end.is_none() => Some(&found.call),
+            _ => None,
+        }
+    }
+
+    /// Where the call of the ticket is.
+    pub fn place(&self, ticket: Ticket) -> Place<V>
+        ensures { result ≡ place_of (kept self.now ticket) }
+    {
+        match self.calls.get(ticket.key) {
+            Some(found) if found.call.number == ticket.number => match found.end {
+                None => Place::Waiting,
+                Some(end) => Place::Ended(end),
+            },
+            _ => Place::Unknown,
+        }
+    }
+
+    /// Ends a waiting call in this way.
+    pub fn finish(&mut self, ticket: Ticket, end: End<V>)
+        requires { place_of (kept self.old ticket) ≡ Waiting }
+        ensures sets { (call : Call V) → waiting_call (kept self.old ticket) ≡ Some call
+            → Sets self.old self.new ticket (Some (record { call = call; end = Some end })) }
+        ensures updates { (call : Call V) → waiting_call (kept self.old ticket) ≡ Some call
+            → Updates self.old.calls self.new.calls ticket.key (Some (record { call = call; end = Some end })) }
+        ensures room { KeepsRoom self.old self.new }
+        ensures spent { KeepsSpent self.old self.new }
+    {
+        if let Some(ended) = self.calls.get_mut(ticket.key) {
+            ended.end = Some(end);
+        }
+    }
+
+    /// Takes out the call of the ticket and gives its end, where it has ended. The ticket is then `Unknown` for good.
+    pub fn collect(&mut self, ticket: Ticket) -> Option<End<V>>
+        ensures exact { result ≡ end_of (kept self.old ticket) }
+        ensures otherwise { IfNone result (self.new ≡ self.old) }
+        ensures sets { OnSome result (Sets self.old self.new ticket None) }
+        ensures updates { OnSome result (Updates self.old.calls self.new.calls ticket.key None) }
+        ensures next_key { OnSome result (self.new.calls.vacant_key ≡ ticket.key) }
+        ensures len { OnSome result (slab_len self.new.calls + 1 ≡ slab_len self.old.calls) }
+        ensures room { OnSome result (HasRoomFor self.new.calls 1) }
+        ensures capacity { self.new.calls.capacity ≡ self.old.calls.capacity }
+        ensures last { self.new.last ≡ self.old.last }
+        ensures for_good { OnSome result (IsSpent self.new ticket) }
+        ensures spent { KeepsSpent self.old self.new }
+    {
+        let end = match self.calls.get(ticket.key) {
+            Some(found) if found.call.number == ticket.number => found.end?,
+            _ => return None,
+        };
+        self.calls.try_remove(ticket.key);
+        Some(end)
+    }
+
+    /// Gives a waiting call another entry, value and seal.
+    pub fn requeue(&mut self, ticket: Ticket, entry: u16, value: V, sealed: bool)
+        requires { place_of (kept self.old ticket) ≡ Waiting }
+        ensures sets { (call : Call V) → waiting_call (kept self.old ticket) ≡ Some call
+            → Sets self.old self.new ticket (Some (record {
+              call = record call { entry = entry; value = value; sealed = sealed };
+              end = None;
+            })) }
+        ensures updates { (call : Call V) → waiting_call (kept self.old ticket) ≡ Some call
+            → Updates self.old.calls self.new.calls ticket.key (Some (record {
+              call = record call { entry = entry; value = value; sealed = sealed };
+              end = None;
+            })) }
+        ensures room { KeepsRoom self.old self.new }
+        ensures spent { KeepsSpent self.old self.new }
+    {
+        if let Some(requeued) = self.calls.get_mut(ticket.key) {
+            requeued.call.entry = entry;
+            requeued.call.value = value;
+            requeued.call.sealed = sealed;
+        }
+    }
+
+    /// Marks a waiting call as aborted.
+    pub fn mark(&mut self, ticket: Ticket)
+        requires { place_of (kept self.old ticket) ≡ Waiting }
+        ensures sets { (call : Call V) → waiting_call (kept self.old ticket) ≡ Some call
+            → Sets self.old self.new ticket (Some (record { call = record call { aborted = true }; end = None })) }
+        ensures updates { (call : Call V) → waiting_call (kept self.old ticket) ≡ Some call
+            → Updates self.old.calls self.new.calls ticket.key
+            (Some (record { call = record call { aborted = true }; end = None })) }
+        ensures room { KeepsRoom self.old self.new }
+        ensures spent { KeepsSpent self.old self.new }
+    {
+        if let Some(marked) = self.calls.get_mut(ticket.key) {
+            marked.call.aborted = true;
+        }
+    }
+}
+
+#[cfg(test)]
+mod tests;

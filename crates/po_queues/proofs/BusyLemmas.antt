@@ -1,0 +1,216 @@
+-- The bits of entries: one is written, the next that is set is found, and what they say of the queues.
+use Rattle.std.proofs.Common.{◌≡◌, ◌≢◌, ℕ, ◌+◌, ◌-◌, ◌*◌, ◌/◌, ◌%◌, ◌^◌, ◌<◌, ◌≤◌, min, Bool, true, false, eqb, ltb}
+use Rattle.std.proofs.Common.{List, [], ◌∷◌, ◌++◌, length, get_or, set, replicate, Some, refl, sym, ap, ◌∙◌, inl, inr}
+use Rattle.std.proofs.Common.{arith}
+use Rattle.std.specs.Int.{bit_at, w64, trailing_zeros}
+use Rattle.std.specs.List.{All}
+use lib.Bits.{bit_and}
+use Rattle.std.proofs.lemmas.Bool.{cases_Bool, cases_eq, cases_lt, eqb-true, eqb-false, false≢true, lt-ltb}
+use Rattle.std.proofs.lemmas.List.{get_or-set_same, get_or-set_other, get_or_past, get_or-replicate, length-replicate}
+use Rattle.std.proofs.lemmas.List.Elements.{All-head, All-tail}
+use Rattle.std.proofs.lemmas.Nat.Bits.{bit_at-zero, bit_at_and, bit_at_mask_inside, bit_at_mask_below}
+use Rattle.std.proofs.lemmas.Nat.Bits.{bit_at-trailing_zeros, bit_at-lt}
+use Rattle.po_queues.specs.QueuedKeys.{QueuedKey, QueuesView, queue_of, keys_of, keys_on, item_of, without_key}
+use Rattle.po_queues.specs.QueuedKeys.{AreDistinct}
+use Rattle.po_queues.specs.Busy.{IsNextBusy, bit_of, bit_when, IsNextBit, has_keys, MarksBusy}
+use Rattle.po_queues.proofs.ItemLemmas.{keys_without, other_entry}
+use Rattle.po_queues.proofs.KeyLemmas.{without_free}
+use Rattle.po_queues.proofs.HoldLemmas.{keys_same, keys_other}
+
+-- the bit of the entry whose word is written
+pub bit_of-set_same : (words : List ℕ) (e place v : ℕ) → place ≡ e / 64 → place < length words
+    → bit_of (set words place v) e ≡ bit_at v (e % 64)
+bit_of-set_same words e place v here lt = rw (← here) (ap (λ w. bit_at w (e % 64)) (get_or-set_same words place v 0 lt))
+
+-- the bit of another entry, where the word keeps its other bits
+pub bit_of-set_other : (words : List ℕ) (e f place v : ℕ) → place ≡ e / 64 → place < length words → f ≢ e
+    → ((i : ℕ) → i < 64 → i ≢ e % 64 → bit_at v i ≡ bit_at (get_or words place 0) i)
+    → bit_of (set words place v) f ≡ bit_of words f
+bit_of-set_other words e f place v here lt ne keeps = elim (cases_eq (f / 64) place) [
+  | inl same ↦
+      let apart : f % 64 ≢ e % 64 = λ q. ne (omega (arith, q, same, here)) in
+      rw same (ap (λ w. bit_at w (f % 64)) (get_or-set_same words place v 0 lt) ∙ keeps (f % 64) (omega arith) apart)
+  | inr other ↦ ap (λ w. bit_at w (f % 64)) (get_or-set_other words place (f / 64) v 0 other)
+]
+
+-- the bit of an entry whose word is past the end
+pub bit_of-past : (words : List ℕ) (e : ℕ) → length words ≤ e / 64 → bit_of words e ≡ 0
+bit_of-past words e past = rw (get_or_past words (e / 64) 0 past) (bit_at-zero (e % 64))
+
+-- no bit of words of 0 is set
+pub bit_of-zeros : (n e : ℕ) → bit_of (replicate n 0) e ≡ 0
+bit_of-zeros n e = elim (cases_lt (e / 64) n) [
+  | inl lt ↦ rw (get_or-replicate {A = ℕ} n (e / 64) 0 0 lt) (bit_at-zero (e % 64))
+  | inr ge ↦ bit_of-past (replicate n 0) e (omega (arith, length-replicate {A = ℕ} n 0, ge))
+]
+
+-- the bit of an entry by its word and its place there
+bit_of-at : (words : List ℕ) (place i e : ℕ) → e ≡ 64 * place + i → i < 64
+    → bit_of words e ≡ bit_at (get_or words place 0) i
+bit_of-at words place i e e_is low =
+    let whole : e / 64 ≡ place = omega (arith, e_is, low) in
+    let rest : e % 64 ≡ i = omega (arith, e_is, low) in
+    rw (whole, rest) refl
+
+-- the bits that a mask leaves
+masked : (word mask h k i : ℕ) → mask ≡ 2 ^ h - 2 ^ k → k ≤ i → i < h → bit_at (bit_and word mask) i ≡ bit_at word i
+masked word mask h k i mask_is low high =
+    let ones = bit_at_mask_inside k h i low high in
+    let small = bit_at-lt word i in
+    let least : min (bit_at word i) 1 ≡ bit_at word i = omega (arith, small) in
+    rw mask_is (bit_at_and word (2 ^ h - 2 ^ k) i ∙ ap (min (bit_at word i)) ones ∙ least)
+
+-- the bits that a mask clears
+masked_below : (word mask h k i : ℕ) → mask ≡ 2 ^ h - 2 ^ k → i < k → bit_at (bit_and word mask) i ≡ 0
+masked_below word mask h k i mask_is low =
+    let zeros = bit_at_mask_below k h i low in
+    let least : min (bit_at word i) 0 ≡ 0 = omega arith in
+    rw mask_is (bit_at_and word (2 ^ h - 2 ^ k) i ∙ ap (min (bit_at word i)) zeros ∙ least)
+
+-- the next bit is the lowest that the mask leaves in the first word where it leaves one
+pub next_bit_found : (words : List ℕ) (from place mask word e : ℕ) → from < 64 * place + 64
+    → mask ≡ 2 ^ 64 - 2 ^ (from - 64 * place) → word ≡ bit_and (get_or words place 0) mask → word < 2 ^ 64 → 0 < word
+    → ((e : ℕ) → from ≤ e → e < 64 * place → bit_of words e ≡ 0) → e ≡ 64 * place + trailing_zeros w64 word
+    → IsNextBit words from e
+next_bit_found words from place mask word e near mask_is word_is fits some before e_is =
+    let lowest = bit_at-trailing_zeros w64 word some fits in
+    let t = trailing_zeros w64 word in
+    let here : from - 64 * place ≤ t = elim (cases_lt t (from - 64 * place)) [
+      | inl low ↦ absurd (omega (
+        arith,
+        lowest.1,
+        ap (λ w. bit_at w t) word_is,
+        masked_below (get_or words place 0)
+            mask 64 (from - 64 * place) t mask_is low,
+      ))
+      | inr high ↦ high
+    ] in
+    record {
+      from_here = omega (arith, here, e_is);
+      is_set = bit_of-at words place t e e_is lowest.0 ∙
+          sym (masked (get_or words place 0) mask 64 (from - 64 * place) t mask_is here lowest.0)
+          ∙ ap (λ w. bit_at w t) (sym word_is) ∙ lowest.1;
+      clear_before = λ f after below. elim (cases_lt f (64 * place)) [
+        | inl early ↦ before f after early
+        | inr late ↦
+            let low : f - 64 * place < t = omega (arith, late, below, e_is) in
+            let high : from - 64 * place ≤ f - 64 * place = omega (arith, late, after) in
+            let width : f - 64 * place < 64 = omega (arith, low, lowest.0) in
+            bit_of-at words place (f - 64 * place) f (omega (arith, late)) width
+            ∙ sym (masked (get_or words place 0) mask 64 (from - 64 * place) (f - 64 * place) mask_is high width)
+            ∙ ap (λ w. bit_at w (f - 64 * place)) (sym word_is) ∙ lowest.2 (f - 64 * place) low
+      ];
+    }
+
+-- where the mask leaves no bit, no bit of the word is the next one
+pub no_bit_here : (words : List ℕ) (from place mask word : ℕ) → from < 64 * place + 64
+    → mask ≡ 2 ^ 64 - 2 ^ (from - 64 * place) → word ≡ bit_and (get_or words place 0) mask → word ≡ 0
+    → ((e : ℕ) → from ≤ e → e < 64 * place → bit_of words e ≡ 0) → (e : ℕ) → from ≤ e → e < 64 * (place + 1)
+    → bit_of words e ≡ 0
+no_bit_here words from place mask word near mask_is word_is none before e here below = elim (cases_lt e (64 * place)) [
+  | inl early ↦ before e here early
+  | inr late ↦
+      let high : from - 64 * place ≤ e - 64 * place = omega (arith, late, here) in
+      let width : e - 64 * place < 64 = omega (arith, late, below) in
+      bit_of-at words place (e - 64 * place) e (omega (arith, late)) width
+      ∙ sym (masked (get_or words place 0) mask 64 (from - 64 * place) (e - 64 * place) mask_is high width)
+      ∙ ap (λ w. bit_at w (e - 64 * place)) (sym word_is ∙ none) ∙ bit_at-zero (e - 64 * place)
+]
+
+-- some keys, as a number of them
+has_keys-length : (ks : List ℕ) → ltb 0 (length ks) ≡ has_keys ks
+has_keys-length [] = refl
+has_keys-length (k ∷ ks) = lt-ltb 0 (length (k ∷ ks)) (omega arith)
+
+-- there is a key where one is pushed
+has_keys-push : (ks : List ℕ) (k : ℕ) → has_keys (ks ++ k ∷ []) ≡ true
+has_keys-push [] k = refl
+has_keys-push (x ∷ xs) k = refl
+
+-- one entry's bit is written, and no other
+pub record WritesBit (words words' : List ℕ) (entry bit : ℕ) : Type 0 where
+  pub same : bit_of words' entry ≡ bit
+  pub others : (e : ℕ) → e ≢ entry → bit_of words' e ≡ bit_of words e
+  pub len : length words' ≡ length words
+
+-- the bits once something is queued
+pub marks_push : (total : ℕ) (words words' : List ℕ) (items : List QueuedKey) (x : QueuedKey)
+    → MarksBusy total words items → WritesBit words words' x.entry 1 → MarksBusy total words' (items ++ x ∷ [])
+marks_push total words words' items x m w = record {
+  marks = λ e. elim (cases_Bool (eqb x.entry e)) [
+    | inl on_entry ↦ rw (
+      keys_same e items x on_entry,
+      has_keys-push (keys_on e items) x.key,
+      ← eqb-true x.entry e
+          on_entry,
+    ) w.same
+    | inr elsewhere ↦ rw (keys_other e items x elsewhere)
+        (w.others e (λ q. eqb-false x.entry e elsewhere (sym q)) ∙ m.marks e)
+  ];
+  enough = omega (arith, m.enough, w.len);
+  few = omega (arith, m.few, w.len);
+}
+
+-- the bits once a key is taken out
+pub marks_without : (total : ℕ) (words words' : List ℕ) (items : List QueuedKey) (j : ℕ) (y : QueuedKey) (n : ℕ)
+    → MarksBusy total words items → AreDistinct (keys_of items) → item_of j items ≡ Some y
+    → n ≡ length (keys_on y.entry (without_key j items)) → WritesBit words words' y.entry (bit_when (ltb 0 n))
+    → MarksBusy total words' (without_key j items)
+marks_without total words words' items j y n m d found n_is w = record {
+  marks = λ e. elim (cases_Bool (eqb y.entry e)) [
+    | inl on_entry ↦ rw (← eqb-true y.entry e on_entry)
+        (w.same ∙ ap bit_when (ap (ltb 0) n_is ∙ has_keys-length (keys_on y.entry (without_key j items))))
+    | inr elsewhere ↦ w.others e (λ q. eqb-false y.entry e elsewhere (sym q)) ∙ m.marks e
+        ∙ ap (λ ks. bit_when (has_keys ks))
+        (sym (keys_without e j items ∙ without_free j (keys_on e items) (other_entry j e items y d found elsewhere)))
+  ];
+  enough = omega (arith, m.enough, w.len);
+  few = omega (arith, m.few, w.len);
+}
+
+-- an entry with a queued key is one of those that there are
+has_keys-within : (total e : ℕ) (items : List QueuedKey) → All (λ x. x.entry < total) items
+    → has_keys (keys_on e items) ≡ true → e < total
+has_keys-within total e [] all has = absurd (false≢true has)
+has_keys-within total e (x ∷ xs) all has = elim (cases_Bool (eqb x.entry e)) [
+  | inl on_entry ↦ rw (eqb-true x.entry e on_entry) at (All-head (λ x. x.entry < total) x xs all)
+  | inr elsewhere ↦ has_keys-within total e xs (All-tail (λ x. x.entry < total) x xs all) (simp elsewhere at has)
+]
+
+-- a queue with a key is not empty
+some_queue : (xs : List QueuedKey) → has_keys (keys_of xs) ≡ true → 0 < length xs
+some_queue [] has = absurd (false≢true has)
+some_queue (x ∷ xs) has = omega arith
+
+-- a queue with no key is empty
+no_queue : (xs : List QueuedKey) → has_keys (keys_of xs) ≡ false → xs ≡ []
+no_queue [] none = refl
+no_queue (x ∷ xs) none = absurd (false≢true (sym none))
+
+-- a bit that is set says yes
+set_bit : (b : Bool) → bit_when b ≡ 1 → b ≡ true
+set_bit true e = refl
+set_bit false e = absurd (omega (arith, e))
+
+-- a bit that isn't set says no
+clear_bit : (b : Bool) → bit_when b ≡ 0 → b ≡ false
+clear_bit true e = absurd (omega (arith, e))
+clear_bit false e = refl
+
+-- an entry whose bit isn't set has an empty queue
+pub idle_queue : (total : ℕ) (words : List ℕ) (items : List QueuedKey) (e : ℕ) → MarksBusy total words items
+    → bit_of words e ≡ 0 → queue_of e items ≡ []
+idle_queue total words items e m bit = no_queue (queue_of e items) (clear_bit _ (sym (m.marks e) ∙ bit))
+
+-- the next entry whose bit is set is the next one with a queued key
+pub next_busy_from_bit : (queues : QueuesView) (words : List ℕ) (from e : ℕ)
+    → MarksBusy queues.total words queues.items → All (λ x. x.entry < queues.total) queues.items
+    → IsNextBit words from e → IsNextBusy queues from e
+next_busy_from_bit queues words from e m all next =
+    let has = set_bit _ (sym (m.marks e) ∙ next.is_set) in
+    record {
+      from_here = next.from_here;
+      within = has_keys-within queues.total e queues.items all has;
+      busy = some_queue (queue_of e queues.items) has;
+      idle_before = λ f here below. idle_queue queues.total words queues.items f m (next.clear_before f here below);
+    }

@@ -1,0 +1,8 @@
+-- What the invariant says, of what is seen.
+use Rattle.std.proofs.Common.{subst}
+use Rattle.po_queues.specs.QueuedKeys.{IsSound}
+use Rattle.po_queues.proofs.QueueLemmas.{sound}
+use Rattle.po_queues.proofs.queues.Queues.is_sound.Goals as goal
+
+pub returns : goal.returns
+returns c = subst IsSound c.self.view_is (sound c.self.invariant)

@@ -1,0 +1,4 @@
+pub mod Arrivals
+pub mod Busy
+pub mod Links
+pub mod QueuedKeys

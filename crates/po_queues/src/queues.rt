@@ -1,0 +1,239 @@
+//! The entry queues of a protected object.
+
+ghost use Rattle.std.specs.Prelude.{◌≡◌, ◌<◌, ◌≤◌, ◌+◌, ◌*◌, ◌↔◌, ℕ, [], ◌∷◌, ◌++◌, length};
+ghost use Rattle.std.specs.Prelude.{slice_index, false};
+ghost use Rattle.std.specs.Prelude.{IfOk, IfSome, IsNone, IsOk, IsTrue, OnOk, OnErr};
+ghost use Rattle.std.specs.List.{All};
+ghost use Rattle.po_queues.specs.QueuedKeys.{QueuesView, IsSound, queue_of, keys_on, is_queued};
+ghost use Rattle.po_queues.specs.QueuedKeys.{first_key, first_of, stamp_of, key_after_in_queue};
+ghost use Rattle.po_queues.specs.QueuedKeys.{without_key, without_taken};
+ghost use Rattle.po_queues.specs.Busy.{IsNextBusy};
+ghost use Rattle.po_queues.specs.Links.{link_of};
+
+use crate::busy::BusyEntries;
+use crate::link::Link;
+use crate::writes::{replace_if, set_after, set_before, set_first};
+use std::alloc::{AllocError, Global};
+use std::marker::Model;
+
+/// A queue of keys for each entry, in order of arrival (9.5.3, FIFO_Queuing of D.4).
+///
+/// A key stands for a call, and is queued on one entry at most. But for `new` and `reserve`, no
+/// method takes memory, and its time doesn't depend on how many keys are queued.
+#[derive(Debug, Drop)]
+pub struct Queues {
+    // By key: its place, if it is queued.
+    links: Vec<Option<Link>>,
+    // By entry: the first key of its queue, the last one, and how many there are.
+    firsts: Vec<Option<usize>>,
+    lasts: Vec<Option<usize>>,
+    counts: Vec<u64>,
+    busy: BusyEntries,
+    // How many keys are queued.
+    queued: usize,
+}
+
+impl Model for Queues {
+    ghost use Rattle.std.specs.Prelude.{length};
+    ghost use Rattle.po_queues.specs.QueuedKeys.{QueuesView};
+    ghost use Rattle.po_queues.specs.Arrivals.{KeepsQueues, arrivals};
+
+    ghost Value = { QueuesView };
+
+    ghost view = { λ q. record {
+      total = length q.counts.items;
+      reserved = length q.links.items;
+      items = arrivals q.links.items;
+    } };
+
+    ghost invariant = { λ q. KeepsQueues q.links.items q.firsts.items q.lasts.items
+        q.counts.items q.busy.words.items q.queued };
+}
+
+impl Queues {
+    /// Queues for so many entries, with no key reserved.
+    pub fn new(alloc: Global, total: u16) -> Result<Queues, AllocError>
+        ensures { IfOk result (λ q. q ≡ record { total = total; reserved = 0; items = [] }) }
+    {
+        let entries = usize::from(total);
+        Ok(Queues {
+            links: Vec::new(alloc),
+            firsts: vec![in alloc; None; entries]?,
+            lasts: vec![in alloc; None; entries]?,
+            counts: vec![in alloc; 0; entries]?,
+            busy: BusyEntries::new(alloc, total)?,
+            queued: 0,
+        })
+    }
+
+    /// Makes a place for the key, which it never loses, and for the keys below it.
+    ///
+    /// Where there is none, the places at least double in number, so that many calls take little
+    /// memory and time each.
+    pub fn reserve(&mut self, key: usize) -> Result<(), AllocError>
+        ensures ok { OnOk result (key < self.new.reserved) }
+        ensures err { OnErr result (self.new ≡ self.old) }
+        ensures had_place { key < self.old.reserved → IsOk result × (self.new ≡ self.old) }
+        ensures only_places { self.new ≡ record self.old { reserved = self.new.reserved } }
+        ensures grows { self.old.reserved ≤ self.new.reserved }
+        ensures doubles { self.old.reserved ≤ key →
+            OnOk result (2 * self.old.reserved ≤ self.new.reserved) }
+    {
+        let reserved = self.links.len();
+        if key < reserved {
+            return Ok(());
+        }
+        let least = key.checked_add(1).ok_or(AllocError)?;
+        self.links
+            .resize(least.max(reserved.saturating_mul(2)), None)
+    }
+
+    /// Queues the key on the entry, after all that are queued there (9.5.3, D.4).
+    pub fn append(&mut self, entry: u16, key: usize, stamp: u128)
+        requires entry { entry < self.old.total }
+        requires reserved { key < self.old.reserved }
+        requires not_queued { is_queued key self.old.items ≡ false }
+        requires rises { All (λ x. x.stamp < stamp) self.old.items }
+        ensures { self.new ≡ record self.old {
+          items =
+              self.old.items ++ record { entry = entry; key = key; stamp = stamp } ∷ [];
+        } }
+    {
+        let place = usize::from(entry);
+        let last = self.lasts[place];
+        self.links[key] = Some(Link {
+            entry,
+            stamp,
+            before: last,
+            after: None,
+        });
+        set_after(&mut self.links, last, Some(key));
+        set_first(&mut self.firsts, last, place, key);
+        self.lasts[place] = Some(key);
+        self.counts[place] += 1;
+        self.busy.mark(entry, true);
+        self.queued += 1;
+    }
+
+    /// The first key of the entry's queue, with its stamp: the next to be served (D.4).
+    pub fn first(&self, entry: u16) -> Option<(usize, u128)>
+        requires { entry < self.now.total }
+        ensures { result ≡ first_of (queue_of entry self.now.items) }
+    {
+        let key = self.firsts[usize::from(entry)]?;
+        let link = self.link(key)?;
+        Some((key, link.stamp))
+    }
+
+    /// The key after this one in its queue, if it is queued and isn't the last.
+    pub fn after(&self, key: usize) -> Option<usize>
+        ensures { result ≡ key_after_in_queue key self.now.items }
+    {
+        self.link(key)?.after
+    }
+
+    /// Takes the first key out of the entry's queue, if it has one.
+    pub fn take_first(&mut self, entry: u16) -> Option<usize>
+        requires { entry < self.old.total }
+        ensures first { result ≡ first_key (keys_on entry self.old.items) }
+        ensures others { self.new
+            ≡ record self.old { items = without_taken result self.old.items } }
+    {
+        let key = self.firsts[usize::from(entry)]?;
+        self.remove(key);
+        Some(key)
+    }
+
+    /// Takes the key out of its queue, and says whether it was queued.
+    pub fn remove(&mut self, key: usize) -> bool
+        ensures was_queued { result ≡ is_queued key self.old.items }
+        ensures others { self.new ≡ record self.old { items = without_key key self.old.items } }
+    {
+        let Some(link) = self.link(key) else {
+            return false;
+        };
+        let place = usize::from(link.entry);
+        self.links[key] = None;
+        set_after(&mut self.links, link.before, link.after);
+        set_before(&mut self.links, link.after, link.before);
+        replace_if(&mut self.firsts, place, key, link.after);
+        replace_if(&mut self.lasts, place, key, link.before);
+        let count = self.counts[place] - 1;
+        self.counts[place] = count;
+        self.busy.mark(link.entry, count > 0);
+        self.queued -= 1;
+        true
+    }
+
+    /// How many keys are queued on the entry: the attribute Count (9.9).
+    pub fn count(&self, entry: u16) -> u64
+        requires { entry < self.now.total }
+        ensures { result ≡ length (queue_of entry self.now.items) }
+    {
+        self.counts[usize::from(entry)]
+    }
+
+    /// How many keys are queued on each entry, by entry (9.9).
+    pub fn counts(&self) -> &[u64]
+        ensures one_each { length result.now ≡ self.now.total }
+        ensures each { (e : ℕ) → e < self.now.total →
+            slice_index result.now e ≡ length (queue_of e self.now.items) }
+    {
+        self.counts.as_slice()
+    }
+
+    /// The stamp with which the key was queued, if it is queued.
+    pub fn stamp(&self, key: usize) -> Option<u128>
+        ensures { result ≡ stamp_of key self.now.items }
+    {
+        Some(self.link(key)?.stamp)
+    }
+
+    /// Whether the key is queued on some entry.
+    pub fn contains(&self, key: usize) -> bool
+        ensures { result ≡ is_queued key self.now.items }
+    {
+        self.link(key).is_some()
+    }
+
+    /// The first entry from here on that has a queued key.
+    ///
+    /// It reads one bit for each entry, 64 at once, and no more.
+    pub fn next_busy(&self, from: u16) -> Option<u16>
+        ensures some { IfSome result (λ e. IsNextBusy self.now from e) }
+        ensures none { IsNone result → (e : ℕ) → from ≤ e → queue_of e self.now.items ≡ [] }
+    {
+        self.busy.next(from)
+    }
+
+    /// How many entries there are; the entries are the numbers below.
+    pub fn total(&self) -> u16
+        ensures { result ≡ self.now.total }
+    {
+        self.counts.len() as u16
+    }
+
+    /// Whether no key is queued.
+    pub fn is_empty(&self) -> bool
+        ensures { IsTrue result ↔ (self.now.items ≡ []) }
+    {
+        self.queued == 0
+    }
+
+    /// What all queues keep.
+    pub fn is_sound(&self)
+        ensures { IsSound self.now }
+    {
+        let _ = &self.queued;
+    }
+
+    /// The place of the key, if it is queued.
+    fn link(&self, key: usize) -> Option<Link>
+        ensures { result ≡ link_of self.now.items key }
+    {
+        self.links.get(key).copied().flatten()
+    }
+}
+
+#[cfg(test)]
+mod tests;

@@ -1,0 +1,73 @@
+//! Writes of one side of a link, and of one end of a queue.
+
+ghost use Rattle.std.specs.Prelude.{◌≡◌, ◌<◌, length, None, Some, slice_index_or, slice_set};
+ghost use Rattle.std.specs.Prelude.{if◌then◌else◌};
+ghost use Rattle.po_queues.specs.QueuedKeys.{is_missing, is_this};
+ghost use Rattle.po_queues.specs.Links.{write_after, write_before};
+
+use crate::link::Link;
+
+/// Sets what stands after the key, if there is a key and it is queued.
+#[tactic(auto, using(crate::proofs::WriteLemmas::write_steps))]
+pub(crate) fn set_after(links: &mut Vec<Option<Link>>, key: Option<usize>, after: Option<usize>)
+    ensures { links.new.items ≡ write_after links.old.items key after }
+{
+    if let Some(k) = key {
+        if k < links.len() {
+            links[k] = match links[k] {
+                None => None,
+                Some(link) => Some(Link { after, ..link }),
+            };
+        }
+    }
+}
+
+/// Sets what stands before the key, if there is a key and it is queued.
+#[tactic(auto, using(crate::proofs::WriteLemmas::write_steps))]
+pub(crate) fn set_before(links: &mut Vec<Option<Link>>, key: Option<usize>, before: Option<usize>)
+    ensures { links.new.items ≡ write_before links.old.items key before }
+{
+    if let Some(k) = key {
+        if k < links.len() {
+            links[k] = match links[k] {
+                None => None,
+                Some(link) => Some(Link { before, ..link }),
+            };
+        }
+    }
+}
+
+/// Makes the key the first one at this place, if no key was last there.
+pub(crate) fn set_first(
+    firsts: &mut Vec<Option<usize>>,
+    last: Option<usize>,
+    place: usize,
+    key: usize,
+)
+    requires { place < length firsts.old.items }
+    ensures { firsts.new.items
+        ≡ (if is_missing last
+        then slice_set firsts.old.items place (Some key)
+        else firsts.old.items) }
+{
+    if last.is_none() {
+        firsts[place] = Some(key);
+    }
+}
+
+/// Puts another key, or none, in the place of the key, if it stands there.
+pub(crate) fn replace_if(
+    ends: &mut Vec<Option<usize>>,
+    place: usize,
+    key: usize,
+    other: Option<usize>,
+)
+    requires { place < length ends.old.items }
+    ensures { ends.new.items
+        ≡ (if is_this (slice_index_or ends.old.items place None) key
+        then slice_set ends.old.items place other else ends.old.items) }
+{
+    if ends[place] == Some(key) {
+        ends[place] = other;
+    }
+}
