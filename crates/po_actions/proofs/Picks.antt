@@ -8,8 +8,8 @@ use Rattle.std.proofs.lemmas.Bool.{cases_eq}
 use Rattle.po_unit.specs.Meaning.{Meaning, IsLawful}
 use Rattle.po_index.specs.declared.decl.Decl.{Decl}
 use Rattle.po_calls.specs.declared.call.Call.{Call}
-use Rattle.po_actions.specs.declared.order.Order.{Order}
-use Rattle.po_actions.specs.declared.order.Order.TheVariants.{Textual, Oldest, Rotating}
+use Rattle.po_barriers.specs.declared.order.Order.{Order}
+use Rattle.po_barriers.specs.declared.order.Order.TheVariants.{Textual, Oldest, Rotating}
 use Rattle.po_actions.specs.declared.event.Event.{Event}
 use Rattle.po_actions.specs.declared.event.Event.TheVariants.{Issue, Ran, Abort, Tick, Final, Serve, Break, Expire}
 use Rattle.po_actions.specs.ObjectState.{ObjectState, gate_in, IsQuiet, IsAtRest}

@@ -7,7 +7,7 @@ use Rattle.po_actions.specs.Step.{replay, step}
 use Rattle.po_actions.specs.View.{View, last_served}
 use Rattle.po_actions.specs.Progress.{Settles, IsSameCommand, Happens}
 use Rattle.po_actions.specs.Pick.{pick, ArePicks, served_last, last_from, weight}
-use Rattle.po_actions.specs.declared.order.Order.{Order}
+use Rattle.po_barriers.specs.declared.order.Order.{Order}
 use Rattle.po_actions.proofs.Runs.{replay-append}
 
 pub last-append : {V : Type 0} (last : Option ℕ) (es fs : List (Event V)) → last_from last (es ++ fs) ≡ last_from (last_from last es) fs

@@ -6,7 +6,7 @@ use Rattle.std.proofs.lemmas.Bool.Decides.{nat_tests}
 use Rattle.po_unit.specs.Meaning.{Meaning}
 use Rattle.po_calls.specs.declared.call.Call.{Call}
 use Rattle.po_actions.specs.declared.event.Event.{Event}
-use Rattle.po_actions.specs.declared.order.Order.{Order}
+use Rattle.po_barriers.specs.declared.order.Order.{Order}
 use Rattle.po_actions.specs.ObjectState.{ObjectState, gate_in, IsQuiet, IsAtRest}
 use Rattle.po_actions.specs.WaitingCalls.{has_number, is_on, is_due}
 use Rattle.po_actions.specs.Step.{replay, step}

@@ -4,7 +4,7 @@ use Rattle.po_unit.specs.Meaning.{Meaning}
 use Rattle.po_calls.specs.declared.call.Call.{Call}
 use Rattle.po_actions.specs.declared.event.Event.{Event}
 use Rattle.po_actions.specs.declared.event.Event.TheVariants.{Abort}
-use Rattle.po_actions.specs.declared.order.Order.{Order}
+use Rattle.po_barriers.specs.declared.order.Order.{Order}
 use Rattle.po_actions.specs.declared.refusal.Aborted.{Aborted}
 use Rattle.po_actions.specs.declared.refusal.Aborted.TheVariants.{Cancelled, Kept}
 use Rattle.po_actions.specs.WaitingCalls.{has_number}

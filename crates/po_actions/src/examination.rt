@@ -6,8 +6,8 @@ ghost use Rattle.po_actions.specs.WaitingCalls.{is_on, below};
 ghost use Rattle.po_actions.specs.Pick.{if_any, turn, examined, first_some};
 
 use crate::event::Event;
-use crate::order::Order;
 use crate::waiting::is_waited;
+use po_barriers::Order;
 use po_calls::Call;
 use po_unit::Unit;
 

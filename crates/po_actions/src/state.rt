@@ -10,10 +10,10 @@ ghost use Rattle.po_actions.specs.Tickets.{place_of};
 use crate::ended::{Ended, end_each, end_of};
 use crate::event::Event;
 use crate::examination::{oldest_turn, rotating_turn, turn_between};
-use crate::order::Order;
 use crate::waiting::{
     call_of, count_into, first_due, first_of, is_full, mark_number, take_first_on, take_number,
 };
+use po_barriers::Order;
 use po_calls::{Call, Deadline, End, Place};
 use po_unit::{Outcome, Unit};
 use std::alloc::{AllocError, Global};

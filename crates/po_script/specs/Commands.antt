@@ -8,8 +8,8 @@ use Rattle.po_script.specs.Names.{entry_names, procedure_names, function_names}
 use Rattle.po_index.specs.declared.decl.EntryRef.{EntryRef}
 use Rattle.po_calls.specs.declared.call.Deadline.{Deadline}
 use Rattle.po_calls.specs.declared.call.Deadline.TheVariants.{Never, At}
-use Rattle.po_actions.specs.declared.order.Order.{Order}
-use Rattle.po_actions.specs.declared.order.Order.TheVariants.{Textual, Oldest, Rotating}
+use Rattle.po_barriers.specs.declared.order.Order.{Order}
+use Rattle.po_barriers.specs.declared.order.Order.TheVariants.{Textual, Oldest, Rotating}
 use Rattle.po_script.specs.declared.command.UnitChoice.{UnitChoice}
 use Rattle.po_script.specs.declared.command.UnitChoice.TheVariants.{Buffer, Signal, Broadcast, Pulse, Meeting, Allocator, Relay, Trap}
 use Rattle.po_script.specs.declared.command.Beginning.{Beginning}

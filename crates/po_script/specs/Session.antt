@@ -2,7 +2,7 @@
 use Rattle.std.specs.Prelude.{ℕ, List, [], Option, Some, None}
 use Rattle.std.specs.Option.{option_map}
 use Rattle.po_index.specs.declared.decl.Decl.{Decl}
-use Rattle.po_actions.specs.declared.order.Order.{Order}
+use Rattle.po_barriers.specs.declared.order.Order.{Order}
 use Rattle.po_actions.specs.Making.{Making}
 use Rattle.po_actions.specs.View.{View, opening_view}
 use Rattle.po_units.specs.Buffer.{BufferState, new_buffer, buffer_declarations, buffer_meaning, buffer_entry_names}

@@ -1,0 +1,4 @@
+pub mod RangeLemmas
+pub mod StampLemmas
+pub mod TellLemmas
+pub mod TurnLemmas
