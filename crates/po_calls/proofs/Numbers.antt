@@ -1,5 +1,7 @@
 -- The numbers of the calls in a table, and the greatest one put.
-use Rattle.std.proofs.Common.{◌≡◌, ℕ, ◌≤◌, Option, Some, None, sym, ap, arith, inl, inr, ◌∙◌}
+use Rattle.std.proofs.Common.{◌≡◌, ℕ, ◌≤◌, List, map, get_or, set, Option, Some, None, sym, ap, arith, inl, inr, ◌∙◌}
+use Rattle.std.proofs.Math.Seq.{map-set_same}
+use Rattle.std.specs.Option.{option_map}
 use Rattle.std.proofs.lemmas.Bool.{cases_eq}
 use Rattle.slab.specs.Slab.{Slab, get, Updates}
 use Rattle.po_calls.specs.declared.kept.Kept.{Kept}
@@ -24,3 +26,11 @@ module _ {V : Type 0} where
     | inl same ↦ same_number kept found (sym set.changed ∙ (ap (get new) (sym same) ∙ is))
     | inr other ↦ at_most last found.call.number kept.call.number (h k found (sym (set.others k other) ∙ is)) above
   ]
+
+  -- a call with the same number in its place leaves the numbers
+  pub numbers_stay : (slots : List (Option (Kept V))) (key : ℕ) (was now : Kept V)
+      → Some was ≡ get_or slots key None → now.call.number ≡ was.call.number
+      → map (option_map (λ k. k.call.number)) (set slots key (Some now)) ≡ map (option_map (λ k. k.call.number)) slots
+  numbers_stay slots key was now found same =
+      let number : Option (Kept V) → Option ℕ = option_map (λ k. k.call.number) in
+      map-set_same number slots key (Some now) None (ap (λ n. Some n) same ∙ ap number found)

@@ -1,5 +1,5 @@
 -- The table of calls, as a map from tickets and by key (this project's own).
-use Rattle.std.specs.Prelude.{ℕ, ◌≡◌, ◌≢◌, ◌==◌, ◌<◌, ◌≤◌, Option, Some, None, is_some, IfSome, IsSomeAnd, if◌then◌else◌}
+use Rattle.std.specs.Prelude.{ℕ, ◌≡◌, ◌≢◌, ◌==◌, ◌<◌, ◌≤◌, List, map, Option, Some, None, is_some, IfSome, IsSomeAnd, option_map, if◌then◌else◌}
 use Rattle.slab.specs.Slab.{Slab, get, slab_len}
 use Rattle.po_calls.specs.declared.ticket.Ticket.{Ticket}
 use Rattle.po_calls.specs.declared.call.Call.{Call}
@@ -22,6 +22,10 @@ abbrev pub IsReached : Option ℕ → ℕ → Type 0
 IsReached last n = IsSomeAnd last (λ most. n ≤ most)
 
 module _ {V : Type 0} where
+  -- By key, the number of the call that is kept there, if one is (this project's own).
+  abbrev pub numbers_of : CallTable V → List (Option ℕ)
+  numbers_of table = map (option_map (λ k. k.call.number)) table.calls.slots
+
   -- What is found, where it is of the call with this number (this project's own).
   abbrev pub with_number : ℕ → Option (Kept V) → Option (Kept V)
   with_number n None = None

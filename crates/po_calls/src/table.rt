@@ -5,7 +5,7 @@ ghost use Rattle.slab.specs.Slab.{get, slab_len, HasRoomFor, Updates};
 ghost use Rattle.po_calls.specs.declared.ticket.Ticket.{Ticket};
 ghost use Rattle.po_calls.specs.declared.call.Call.{Call};
 ghost use Rattle.po_calls.specs.declared.end.Place.TheVariants.{Waiting};
-ghost use Rattle.po_calls.specs.Calls.{kept, place_of, waiting_call, end_of, Sets, KeepsRoom, IsAbove, IsSpent, KeepsSpent};
+ghost use Rattle.po_calls.specs.Calls.{kept, place_of, waiting_call, end_of, Sets, KeepsRoom, numbers_of, IsAbove, IsSpent, KeepsSpent};
 
 use crate::call::Call;
 use crate::end::{End, Place};
@@ -58,6 +58,7 @@ impl<V: Copy> Table<V> {
         } }
         ensures succeeds { HasRoomFor self.old.calls 1 → result ≡ Ok tt }
         ensures had_room { HasRoomFor self.old.calls 1 → self.new ≡ self.old }
+        ensures numbers { numbers_of self.new ≡ numbers_of self.old }
     {
         self.calls.reserve(1)
     }
@@ -133,6 +134,7 @@ impl<V: Copy> Table<V> {
         ensures updates { (call : Call V) → waiting_call (kept self.old ticket) ≡ Some call
             → Updates self.old.calls self.new.calls ticket.key (Some (record { call = call; end = Some end })) }
         ensures room { KeepsRoom self.old self.new }
+        ensures numbers { numbers_of self.new ≡ numbers_of self.old }
         ensures spent { KeepsSpent self.old self.new }
     {
         if let Some(ended) = self.calls.get_mut(ticket.key) {
@@ -176,6 +178,7 @@ impl<V: Copy> Table<V> {
               end = None;
             })) }
         ensures room { KeepsRoom self.old self.new }
+        ensures numbers { numbers_of self.new ≡ numbers_of self.old }
         ensures spent { KeepsSpent self.old self.new }
     {
         if let Some(requeued) = self.calls.get_mut(ticket.key) {
@@ -194,6 +197,7 @@ impl<V: Copy> Table<V> {
             → Updates self.old.calls self.new.calls ticket.key
             (Some (record { call = record call { aborted = true }; end = None })) }
         ensures room { KeepsRoom self.old self.new }
+        ensures numbers { numbers_of self.new ≡ numbers_of self.old }
         ensures spent { KeepsSpent self.old self.new }
     {
         if let Some(marked) = self.calls.get_mut(ticket.key) {

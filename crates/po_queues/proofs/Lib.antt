@@ -1,8 +1,13 @@
 pub mod ArrivalLemmas
 pub mod BusyLemmas
+pub mod ChainLemmas
+pub mod EntryLemmas
+pub mod ExpirationLemmas
 pub mod HoldLemmas
 pub mod ItemLemmas
 pub mod KeyLemmas
+pub mod LineLemmas
+pub mod PassedLemmas
 pub mod QueueLemmas
 pub mod RoomLemmas
 pub mod WriteLemmas

@@ -213,6 +213,13 @@ impl Queues {
         self.counts.len() as u16
     }
 
+    /// How many keys have a place: those below this one.
+    pub(crate) fn reserved(&self) -> usize
+        ensures { result ≡ self.now.reserved }
+    {
+        self.links.len()
+    }
+
     /// Whether no key is queued.
     pub fn is_empty(&self) -> bool
         ensures { IsTrue result ↔ (self.now.items ≡ []) }

@@ -1,0 +1,7 @@
+-- The first of what may expire whose time has come is the first of all that is queued.
+use Rattle.std.proofs.Common.{◌∙◌}
+use Rattle.po_queues.proofs.EntryLemmas.{seen_due}
+use Rattle.po_queues.proofs.entry_queues.EntryQueues.first_due.Goals as goal
+
+pub returns-clause-found : goal.returns-clause-found
+returns-clause-found c = c.first_due.ensures.found ∙ seen_due c.self.invariant c.self.view_is

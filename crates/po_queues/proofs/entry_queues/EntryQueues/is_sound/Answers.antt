@@ -1,0 +1,8 @@
+-- What the queues keep, and that each queued key is reserved.
+use Rattle.std.proofs.Common.{subst}
+use Rattle.po_queues.specs.Arrived.{AreInOrder}
+use Rattle.po_queues.proofs.EntryLemmas.{in_order}
+use Rattle.po_queues.proofs.entry_queues.EntryQueues.is_sound.Goals as goal
+
+pub returns : goal.returns
+returns c = subst AreInOrder c.self.view_is (in_order c.self.invariant c.is_sound.ensures)

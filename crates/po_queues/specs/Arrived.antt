@@ -1,0 +1,58 @@
+-- What is queued on the entries of an object, in order of arrival, with the times at which calls expire.
+use Rattle.std.specs.Prelude.{ℕ, ◌<◌, ◌==◌, nat_le, Bool, false, not, List, [], ◌∷◌, map, Option, Some, None}
+use Rattle.std.specs.Prelude.{option_map}
+use Rattle.std.specs.List.{filter, find, All}
+use Rattle.po_queues.specs.QueuedKeys.{QueuedKey, AreDistinct}
+
+-- A key that is queued on an entry, with the stamp of its arrival there, and the time at which its call expires, if it
+-- does (9.5.3, 9.7.2).
+pub record Arrived : Type 0 where
+  pub entry : ℕ
+  pub key : ℕ
+  pub stamp : ℕ
+  pub expires : Option ℕ
+
+-- What is seen of entry queues: the number of entries, how many keys are reserved, the clock, and what is queued, in
+-- order of arrival.
+pub record EntryQueuesView : Type 0 where
+  pub total : ℕ
+  pub reserved : ℕ
+  pub clock : ℕ
+  pub items : List Arrived
+
+-- The same without its expiration time.
+abbrev pub queued : Arrived → QueuedKey
+queued x = record { entry = x.entry; key = x.key; stamp = x.stamp }
+
+-- What is queued, without expiration times.
+abbrev pub all_queued : List Arrived → List QueuedKey
+all_queued items = map queued items
+
+-- The keys, in order of arrival.
+abbrev pub arrived_keys : List Arrived → List ℕ
+arrived_keys items = map (λ x. x.key) items
+
+-- Whether a time has come, if there is one (9.7.2).
+abbrev pub has_come : ℕ → Option ℕ → Bool
+has_come clock None = false
+has_come clock (Some time) = nat_le time clock
+
+-- The first key whose time has come, in order of arrival (9.7.2).
+abbrev pub first_due : EntryQueuesView → Option ℕ
+first_due view = option_map (λ x. x.key) (find (λ x. has_come view.clock x.expires) view.items)
+
+-- What is queued but this key.
+abbrev pub without_arrived : ℕ → List Arrived → List Arrived
+without_arrived k items = filter (λ x. not (x.key == k)) items
+
+-- Each stamp is above all before it.
+abbrev pub ArrivalsRise : List Arrived → Type 0
+ArrivalsRise [] = Unit {0}
+ArrivalsRise (x ∷ xs) = All (λ y. x.stamp < y.stamp) xs × ArrivalsRise xs
+
+-- What all entry queues keep: each key is queued once at most, on an entry that there is, and stamps rise (9.5.3).
+pub record AreInOrder (view : EntryQueuesView) : Type 0 where
+  pub distinct : AreDistinct (arrived_keys view.items)
+  pub rising : ArrivalsRise view.items
+  pub entries : All (λ x. x.entry < view.total) view.items
+  pub keys : All (λ x. x.key < view.reserved) view.items

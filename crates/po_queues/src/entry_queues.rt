@@ -1,0 +1,201 @@
+//! The entry queues of an object, as one list of what is queued, in order of arrival.
+
+ghost use Rattle.std.specs.Prelude.{◌≡◌, ◌<◌, ◌≤◌, ◌∷◌, ◌++◌, [], length, slice_index, false, max, ℕ};
+ghost use Rattle.std.specs.Prelude.{IfOk, IsOk, OnOk, OnErr};
+ghost use Rattle.std.specs.List.{All};
+ghost use Rattle.po_queues.specs.QueuedKeys.{occurs, first_key, key_after, keys_on, queue_of, stamp_of};
+ghost use Rattle.po_queues.specs.Arrived.{AreInOrder, all_queued, arrived_keys, first_due, without_arrived};
+
+use crate::expirations::Expirations;
+use crate::queues::Queues;
+use std::alloc::{AllocError, Global};
+use std::marker::Model;
+
+/// The entry queues of a protected object (9.5.3, FIFO_Queuing of D.4): keys that stand for calls, queued by entry
+/// and in order of arrival over all entries, and those whose calls expire at some time (9.7.2).
+///
+/// But for `new` and `reserve`, no method takes memory.
+#[derive(Debug, Drop)]
+pub struct EntryQueues {
+    /// The queue of each entry.
+    by_entry: Queues,
+    /// All that is queued, as the queue of one entry.
+    arrivals: Queues,
+    /// The keys whose calls expire, with their times.
+    expirations: Expirations,
+    /// How many keys have a place in each of the three.
+    reserved: usize,
+}
+
+impl Model for EntryQueues {
+    ghost use Rattle.po_queues.specs.Arrived.{EntryQueuesView};
+    ghost use Rattle.po_queues.specs.Lines.{with_times, KeepsLines};
+
+    ghost Value = { EntryQueuesView };
+
+    ghost view = { λ q. record {
+      total = q.by_entry.total;
+      reserved = q.reserved;
+      clock = q.expirations.clock;
+      items = with_times q.expirations.items q.by_entry.items;
+    } };
+
+    ghost invariant = { λ q. KeepsLines q.reserved q.by_entry q.arrivals q.expirations };
+}
+
+impl EntryQueues {
+    /// Queues for so many entries, with no key reserved, at clock 0.
+    pub fn new(alloc: Global, total: u16) -> Result<EntryQueues, AllocError>
+        ensures { IfOk result (λ q. q ≡ record { total = total; reserved = 0; clock = 0; items = [] }) }
+    {
+        Ok(EntryQueues {
+            by_entry: Queues::new(alloc, total)?,
+            arrivals: Queues::new(alloc, 1)?,
+            expirations: Expirations::new(alloc)?,
+            reserved: 0,
+        })
+    }
+
+    /// Makes a place for the key, which it never loses, and for the keys below it.
+    pub fn reserve(&mut self, key: usize) -> Result<(), AllocError>
+        ensures ok { OnOk result (key < self.new.reserved) }
+        ensures err { OnErr result (self.new ≡ self.old) }
+        ensures had_place { key < self.old.reserved → IsOk result × (self.new ≡ self.old) }
+        ensures only_places { self.new ≡ record self.old { reserved = self.new.reserved } }
+        ensures grows { self.old.reserved ≤ self.new.reserved }
+    {
+        if key < self.reserved {
+            return Ok(());
+        }
+        let reserved = key.checked_add(1).ok_or(AllocError)?;
+        self.by_entry.reserve(key)?;
+        self.arrivals.reserve(key)?;
+        self.expirations.reserve(key)?;
+        self.reserved = reserved;
+        Ok(())
+    }
+
+    /// Queues the key on the entry, after all that are queued there (9.5.3, D.4). Its call expires at this time, if at
+    /// any (9.7.2).
+    pub fn append(&mut self, entry: u16, key: usize, stamp: u128, expires: Option<u64>)
+        requires entry { entry < self.old.total }
+        requires reserved { key < self.old.reserved }
+        requires not_queued { occurs key (arrived_keys self.old.items) ≡ false }
+        requires rises { All (λ x. x.stamp < stamp) self.old.items }
+        ensures { self.new ≡ record self.old {
+          items = self.old.items
+              ++ record { entry = entry; key = key; stamp = stamp; expires = expires } ∷ [];
+        } }
+    {
+        self.by_entry.append(entry, key, stamp);
+        self.arrivals.append(0, key, stamp);
+        if let Some(time) = expires {
+            self.expirations.append(key, stamp, time);
+        }
+    }
+
+    /// Takes the key out of its queue, and says whether it was queued.
+    pub fn remove(&mut self, key: usize) -> bool
+        ensures was_queued { result ≡ occurs key (arrived_keys self.old.items) }
+        ensures others { self.new ≡ record self.old { items = without_arrived key self.old.items } }
+    {
+        self.arrivals.remove(key);
+        self.expirations.remove(key);
+        self.by_entry.remove(key)
+    }
+
+    /// The first key of the entry's queue: the next to be served (D.4).
+    pub fn first(&self, entry: u16) -> Option<usize>
+        requires { entry < self.now.total }
+        ensures { result ≡ first_key (keys_on entry (all_queued self.now.items)) }
+    {
+        let (key, _) = self.by_entry.first(entry)?;
+        Some(key)
+    }
+
+    /// The key that was queued first, of all that are queued.
+    pub fn oldest(&self) -> Option<usize>
+        ensures { result ≡ first_key (arrived_keys self.now.items) }
+    {
+        let (key, _) = self.arrivals.first(0)?;
+        Some(key)
+    }
+
+    /// The key that was queued next after this one, on whatever entry.
+    pub fn next(&self, key: usize) -> Option<usize>
+        ensures { result ≡ key_after key (arrived_keys self.now.items) }
+    {
+        self.arrivals.after(key)
+    }
+
+    /// The stamp with which the key was queued, if it is queued.
+    pub fn stamp(&self, key: usize) -> Option<u128>
+        ensures { result ≡ stamp_of key (all_queued self.now.items) }
+    {
+        self.by_entry.stamp(key)
+    }
+
+    /// Whether the key is queued on some entry.
+    pub fn contains(&self, key: usize) -> bool
+        ensures { result ≡ occurs key (arrived_keys self.now.items) }
+    {
+        self.by_entry.contains(key)
+    }
+
+    /// How many keys are queued on the entry: the attribute Count (9.9).
+    pub fn count(&self, entry: u16) -> u64
+        requires { entry < self.now.total }
+        ensures { result ≡ length (queue_of entry (all_queued self.now.items)) }
+    {
+        self.by_entry.count(entry)
+    }
+
+    /// How many keys are queued on each entry, by entry (9.9).
+    pub fn counts(&self) -> &[u64]
+        ensures one_each { length result.now ≡ self.now.total }
+        ensures each { (e : ℕ) → e < self.now.total →
+            slice_index result.now e ≡ length (queue_of e (all_queued self.now.items)) }
+    {
+        self.by_entry.counts()
+    }
+
+    /// The queue of each entry.
+    pub fn by_entry(&self) -> &Queues
+        ensures items { result.now.items ≡ all_queued self.now.items }
+        ensures total { result.now.total ≡ self.now.total }
+    {
+        &self.by_entry
+    }
+
+    /// The first key whose call has expired by now, in order of arrival (9.7.2).
+    pub fn first_due(&mut self) -> Option<usize>
+        ensures found { result ≡ first_due self.old }
+        ensures same { self.new ≡ self.old }
+    {
+        self.expirations.first_due()
+    }
+
+    /// The clock rises to this time, if it is lower.
+    pub fn rise(&mut self, time: u64)
+        ensures { self.new ≡ record self.old { clock = max self.old.clock time } }
+    {
+        self.expirations.rise(time);
+    }
+
+    /// The clock.
+    pub fn clock(&self) -> u64
+        ensures { result ≡ self.now.clock }
+    {
+        self.expirations.clock()
+    }
+
+    /// What all entry queues keep.
+    pub fn is_sound(&self)
+        ensures { AreInOrder self.now }
+    {
+        self.by_entry.is_sound();
+    }
+}
+
+#[cfg(test)]
+mod tests;

@@ -1,0 +1,187 @@
+//! The calls that expire, in order of arrival, beside the clock.
+
+ghost use Rattle.std.specs.Prelude.{◌≡◌, ◌<◌, ◌≤◌, ◌*◌, ◌++◌, [], ◌∷◌, max, false, IfOk, IsOk, OnOk, OnErr, if◌then◌else◌};
+ghost use Rattle.std.specs.List.{All};
+ghost use Rattle.po_queues.specs.QueuedKeys.{occurs, first_key, is_this, key_after_in_queue};
+ghost use Rattle.po_queues.specs.Expiring.{AreSound, expiring_keys, first_due, without_expiring};
+
+use crate::queues::Queues;
+use std::alloc::{AllocError, Global};
+use std::marker::Model;
+
+/// A bound above all times.
+const NEVER: u128 = 1 << 64;
+
+/// The waiting calls that may be cancelled when their time comes, in order of arrival, beside the clock (9.7.2).
+///
+/// A key stands for a call. Times and the clock count the same unit, from the same start. But for
+/// `new` and `reserve`, no method takes memory, and but for `first_due` and `clear`, the time of
+/// none depends on how many keys there are.
+#[derive(Debug, Drop)]
+pub struct Expirations {
+    // The keys, all on entry 0, in order of arrival.
+    chain: Queues,
+    // By key: when its call expires.
+    times: Vec<u64>,
+    clock: u64,
+    // Where the search goes on: no key before it is due.
+    cursor: Option<usize>,
+    // Above the clock, and no key before the cursor expires earlier.
+    soonest: u128,
+}
+
+impl Model for Expirations {
+    ghost use Rattle.std.specs.Prelude.{length};
+    ghost use Rattle.po_queues.specs.Expiring.{ExpirationsView};
+    ghost use Rattle.po_queues.specs.Passing.{KeepsExpirations, with_times};
+
+    ghost Value = { ExpirationsView };
+
+    ghost view = { λ e. record {
+      reserved = length e.times.items;
+      clock = e.clock;
+      items = with_times e.times.items e.chain.items;
+    } };
+
+    ghost invariant = { λ e. KeepsExpirations e.chain e.times.items e.clock e.cursor e.soonest };
+}
+
+impl Expirations {
+    /// No key, none reserved, and the clock at 0.
+    pub fn new(alloc: Global) -> Result<Expirations, AllocError>
+        ensures { IfOk result (λ e. e ≡ record { reserved = 0; clock = 0; items = [] }) }
+    {
+        Ok(Expirations {
+            chain: Queues::new(alloc, 1)?,
+            times: Vec::new(alloc),
+            clock: 0,
+            cursor: None,
+            soonest: NEVER,
+        })
+    }
+
+    /// Makes a place for the key, which it never loses, and for the keys below it.
+    ///
+    /// Where there is none, the places at least double in number, so that many calls take little
+    /// memory and time each. It fails where there is no memory.
+    pub fn reserve(&mut self, key: usize) -> Result<(), AllocError>
+        ensures ok { OnOk result (key < self.new.reserved) }
+        ensures err { OnErr result (self.new ≡ self.old) }
+        ensures had_place { key < self.old.reserved → IsOk result × (self.new ≡ self.old) }
+        ensures only_places { self.new ≡ record self.old { reserved = self.new.reserved } }
+        ensures grows { self.old.reserved ≤ self.new.reserved }
+        ensures doubles { self.old.reserved ≤ key →
+            OnOk result (2 * self.old.reserved ≤ self.new.reserved) }
+    {
+        if key < self.times.len() {
+            return Ok(());
+        }
+        self.chain.reserve(key)?;
+        self.times.resize(self.chain.reserved(), 0)
+    }
+
+    /// Adds the key, whose call expires at this time, after all that there are (9.7.2).
+    pub fn append(&mut self, key: usize, stamp: u128, time: u64)
+        requires reserved { key < self.old.reserved }
+        requires not_queued { occurs key (expiring_keys self.old.items) ≡ false }
+        requires rises { All (λ x. x.stamp < stamp) self.old.items }
+        ensures { self.new ≡ record self.old {
+          items = self.old.items ++ record { key = key; time = time; stamp = stamp } ∷ [];
+        } }
+    {
+        self.times[key] = time;
+        self.chain.append(0, key, stamp);
+        self.cursor = self.cursor.or(Some(key));
+    }
+
+    /// Takes out the key, and says whether it was there.
+    pub fn remove(&mut self, key: usize) -> bool
+        ensures was_there { result ≡ occurs key (expiring_keys self.old.items) }
+        ensures others { self.new
+            ≡ record self.old { items = without_expiring key self.old.items } }
+    {
+        self.chain.is_sound();
+        self.cursor = cursor_without(&self.chain, self.cursor, key);
+        self.chain.remove(key)
+    }
+
+    /// The first key in order of arrival whose time has come, if one's has (9.7.2).
+    ///
+    /// It goes on where it ended: a key whose time hasn't come is looked at again only once the
+    /// clock has reached the soonest of the times that were passed.
+    pub fn first_due(&mut self) -> Option<usize>
+        ensures found { result ≡ first_due self.old }
+        ensures same { self.new ≡ self.old }
+    {
+        self.chain.is_sound();
+        while let Some(key) = self.cursor {
+            let time = self.times[key];
+            if time <= self.clock {
+                return Some(key);
+            }
+            self.soonest = self.soonest.min(u128::from(time));
+            self.cursor = self.chain.after(key);
+        }
+        None
+    }
+
+    /// Sets the clock to this time, if that is later.
+    pub fn rise(&mut self, time: u64)
+        ensures { self.new ≡ record self.old { clock = max self.old.clock time } }
+    {
+        let clock = self.clock.max(time);
+        if u128::from(clock) >= self.soonest {
+            self.cursor = self.first();
+            self.soonest = NEVER;
+        }
+        self.clock = clock;
+    }
+
+    /// The latest time that has come.
+    pub fn clock(&self) -> u64
+        ensures { result ≡ self.now.clock }
+    {
+        self.clock
+    }
+
+    /// Takes out all keys, at a cost for each.
+    pub fn clear(&mut self)
+        ensures { self.new ≡ record self.old { items = [] } }
+    {
+        while let Some(key) = self.first() {
+            self.remove(key);
+        }
+    }
+
+    /// What all expirations keep.
+    pub fn is_sound(&self)
+        ensures { AreSound self.now }
+    {
+        self.chain.is_sound();
+    }
+
+    /// The first key in order of arrival.
+    fn first(&self) -> Option<usize>
+        ensures { result ≡ first_key (expiring_keys self.now.items) }
+    {
+        self.chain.is_sound();
+        let (key, _) = self.chain.first(0)?;
+        Some(key)
+    }
+}
+
+/// Where the search goes on once the key is taken out of the chain.
+fn cursor_without(chain: &Queues, cursor: Option<usize>, key: usize) -> Option<usize>
+    ensures { result ≡ (if is_this cursor key
+        then key_after_in_queue key chain.now.items
+        else cursor) }
+{
+    if cursor == Some(key) {
+        chain.after(key)
+    } else {
+        cursor
+    }
+}
+
+#[cfg(test)]
+mod tests;
