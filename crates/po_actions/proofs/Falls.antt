@@ -7,8 +7,8 @@ use Rattle.po_unit.specs.declared.outcome.Outcome.TheVariants.{Complete, Raise, 
 use Rattle.po_calls.specs.declared.call.Call.{Call}
 use Rattle.po_calls.specs.declared.call.Deadline.{Deadline}
 use Rattle.po_calls.specs.declared.end.End.TheVariants.{Cancelled, ProgramError}
-use Rattle.po_actions.specs.declared.event.Event.{Event}
-use Rattle.po_actions.specs.declared.event.Event.TheVariants.{Issue, Ran, Abort, Tick, Final, Serve, Break, Expire}
+use Rattle.po_history.specs.declared.event.Event.{Event}
+use Rattle.po_history.specs.declared.event.Event.TheVariants.{Issue, Ran, Abort, Tick, Final, Serve, Break, Expire}
 use Rattle.po_actions.specs.ObjectState.{ObjectState, gate_in, counts_in}
 use Rattle.po_actions.specs.WaitingCalls.{has_number, is_on, is_due}
 use Rattle.po_actions.specs.Step.{is_full, enter, end_call, end_all, queue, land, run_body, take_out, arrive, abort, mark, cancel, serve, step, IsFound, Needs, IsLegal, replay}
@@ -105,10 +105,6 @@ module _ {S V : Type 0} (m : Meaning S V) (law : IsLawful m) (limit : Option ℕ
       let bit : Bool → ℕ = λ b. if b then 0 else 1 in
       omega (arith, k.lower, ap bit k.finalized)
 
-  -- room for the event that follows
-  pub owed_one : (p : ObjectState S V) (e : Event V) → Fits m p e → 1 ≤ owed m p
-  owed_one p e h = omega (arith, owed_falls p e h)
-
   bit : Bool → ℕ
   bit b = if b then 0 else 1
 
@@ -119,9 +115,6 @@ module _ {S V : Type 0} (m : Meaning S V) (law : IsLawful m) (limit : Option ℕ
       let x : Call V = record { number = n; owner = owner; entry = e; value = v; sealed = false; aborted = false; deadline = d } in
       let k = lower_arrive m law limit one_or_two one_or_two_some (record p { next = p.next + 1 }) x (gate_in m p e) in
       omega (arith, k.0, ap bit k.1)
-
-  same_bit : (p q : ObjectState S V) → q.finalized ≡ p.finalized → bit q.finalized ≡ bit p.finalized
-  same_bit p q h = ap bit h
 
   abbrev weighs : Call V → ℕ
   weighs x = m.rank x.entry x.value + one_or_two x.aborted

@@ -10,12 +10,13 @@ use Rattle.po_index.specs.declared.decl.Decl.{Decl}
 use Rattle.po_calls.specs.declared.call.Call.{Call}
 use Rattle.po_barriers.specs.declared.order.Order.{Order}
 use Rattle.po_barriers.specs.declared.order.Order.TheVariants.{Textual, Oldest, Rotating}
-use Rattle.po_actions.specs.declared.event.Event.{Event}
-use Rattle.po_actions.specs.declared.event.Event.TheVariants.{Issue, Ran, Abort, Tick, Final, Serve, Break, Expire}
+use Rattle.po_history.specs.declared.event.Event.{Event}
+use Rattle.po_history.specs.declared.event.Event.TheVariants.{Issue, Ran, Abort, Tick, Final, Serve, Break, Expire}
 use Rattle.po_actions.specs.ObjectState.{ObjectState, gate_in, IsQuiet, IsAtRest}
 use Rattle.po_actions.specs.WaitingCalls.{has_number, is_on, is_due, below}
 use Rattle.po_actions.specs.Step.{Needs}
 use Rattle.po_actions.specs.Public.{NamesPublic}
+use Rattle.po_actions.specs.Base.{is_ran}
 use Rattle.po_actions.specs.Pick.{or_else, if_any, turn, first_some, turn_of, examined, pick, Fits}
 use Rattle.po_actions.proofs.Turns.{below_range, map_each, mapped_each, rotated, unrotated, below_each, given_by, none_all}
 use Rattle.po_actions.proofs.Lists.{first_some-push, found_passes}
@@ -118,6 +119,17 @@ public_from_fits m row p (Ran owner op v reply) h = tt
 public_from_fits m row p (Abort n) h = tt
 public_from_fits m row p (Tick t) h = tt
 public_from_fits m row p Final h = tt
+
+-- an inner event runs no procedure
+pub no_procedure : {S V : Type 0} (m : Meaning S V) (p : ObjectState S V) (e : Event V) → Fits m p e → cond (is_ran e) 1 0 ≡ zero
+no_procedure m p (Serve e) h = omega arith
+no_procedure m p (Break e) h = omega arith
+no_procedure m p (Expire n) h = omega arith
+no_procedure m p (Issue n owner e v d) h = absurd h
+no_procedure m p (Ran owner op v reply) h = absurd h
+no_procedure m p (Abort n) h = absurd h
+no_procedure m p (Tick t) h = absurd h
+no_procedure m p Final h = absurd h
 
 module _ {S V : Type 0} (m : Meaning S V) (law : IsLawful m) (limit : Option ℕ) (total first : ℕ) (p : ObjectState S V) (well : IsWell m law limit total first p) where
   turned : (e : ℕ) (y : Event V) (b : Bool) (r : Result Bool ℕ) → e < m.entries p.unit → list_any (is_on e) p.waiting ≡ b → gate_in m p e ≡ r → if_any b (turn e r) ≡ Some y → Fits m p y

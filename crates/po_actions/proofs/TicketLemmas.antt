@@ -1,13 +1,19 @@
 -- Tickets are of issued calls, also after a command.
-use Rattle.std.proofs.Common.{◌≡◌, ℕ, ◌<◌, ◌≤◌, List, Option, Some, None, sym, ap, subst, arith, inl, inr, ◌∙◌}
+use Rattle.std.proofs.Common.{◌≡◌, ℕ, ◌<◌, ◌≤◌, List, Option, Some, None, refl, sym, ap, subst, arith, inl, inr, ◌∙◌, OnSome, IfNone}
 use Rattle.std.proofs.lemmas.Bool.{cases_eq}
 use Rattle.po_unit.specs.Meaning.{Meaning, IsLawful}
 use Rattle.po_calls.specs.declared.call.Deadline.{Deadline}
-use Rattle.po_actions.specs.declared.event.Event.{Event}
-use Rattle.po_actions.specs.declared.event.Event.TheVariants.{Issue}
+use Rattle.po_history.specs.declared.event.Event.{Event}
+use Rattle.po_history.specs.declared.event.Event.TheVariants.{Issue}
+use Rattle.po_history.specs.Histories.{HistoryView}
+use Rattle.po_actions.specs.Base.{Base}
+use Rattle.po_actions.specs.Making.{Making}
+use Rattle.po_actions.specs.StateView.{StateView}
+use Rattle.po_actions.specs.History.{IsKept}
 use Rattle.po_actions.specs.View.{View}
 use Rattle.po_actions.specs.Progress.{Begins, Settles, IsSameCommand}
-use Rattle.po_actions.specs.Tickets.{number_at, SetsTicket, AreIssued}
+use Rattle.po_actions.specs.Tickets.{CoreView, number_at, SetsTicket, AreIssued}
+use Rattle.po_actions.specs.ProtectedAction.{settled}
 use Rattle.po_actions.proofs.Wells.{next_le, next_le_all, next-issue}
 
 module _ {S V : Type 0} (m : Meaning S V) (law : IsLawful m) where
@@ -21,14 +27,20 @@ module _ {S V : Type 0} (m : Meaning S V) (law : IsLawful m) where
   next_settled : (t u : View S V) → Settles m t u → t.state.next ≤ u.state.next
   next_settled t u h = subst (λ p. t.state.next ≤ p.next) (sym h.state) (next_le_all m law t.making.max_queue 0 t.state h.inner)
 
-  pub issued_begun : (s t : View S V) (own : Event V) (tickets : List (Option ℕ)) → Begins m s t own → AreIssued (record { object = s; tickets = tickets }) → AreIssued (record { object = t; tickets = tickets })
-  issued_begun s t own tickets b h = issued_later s t tickets b.making (next_begun s t own b) h
+  issued_same : (seen : CoreView S V) (tickets : List (Option ℕ)) → seen.tickets ≡ tickets → AreIssued (record { object = seen.object; tickets = tickets }) → AreIssued seen
+  issued_same seen tickets same h = subst (λ list. AreIssued (record { object = seen.object; tickets = list })) (sym same) h
 
-  pub issued_settled : (t u : View S V) (tickets : List (Option ℕ)) → Settles m t u → IsSameCommand t u → AreIssued (record { object = t; tickets = tickets }) → AreIssued (record { object = u; tickets = tickets })
-  issued_settled t u tickets h same k = issued_later t u tickets same.making (next_settled t u h) k
+  pub issued_begun : (s t : CoreView S V) (own : Event V) → Begins m s.object t.object own → t.tickets ≡ s.tickets → AreIssued s → AreIssued t
+  issued_begun s t own b same h = issued_same t s.tickets same (issued_later s.object t.object s.tickets b.making (next_begun s.object t.object own b) h)
 
-  pub issued_action : (s t u : View S V) (own : Event V) (tickets : List (Option ℕ)) → Begins m s t own → Settles m t u → IsSameCommand t u → AreIssued (record { object = s; tickets = tickets }) → AreIssued (record { object = u; tickets = tickets })
-  issued_action s t u own tickets b h same k = issued_settled t u tickets h same (issued_begun s t own tickets b k)
+  pub issued_settled : (t u : CoreView S V) → Settles m t.object u.object → IsSameCommand t.object u.object → u ≡ record t { object = settled m t.object } → AreIssued t → AreIssued u
+  issued_settled t u settles same exact h = issued_same u t.tickets (ap (λ seen. seen.tickets) exact) (issued_later t.object u.object t.tickets same.making (next_settled t.object u.object settles) h)
+
+  pub issued_action : (s t u : CoreView S V) (own : Event V) → Begins m s.object t.object own → t.tickets ≡ s.tickets → Settles m t.object u.object → IsSameCommand t.object u.object → u ≡ record t { object = settled m t.object } → AreIssued s → AreIssued u
+  issued_action s t u own b kept settles same exact h = issued_settled t u settles same exact (issued_begun s t own b kept h)
+
+  next_le_of : (s t u : View S V) (own : Event V) → Begins m s t own → Settles m t u → s.state.next ≤ u.state.next
+  next_le_of s t u own b h = omega (arith, next_begun s t own b, next_settled t u h)
 
   -- the number of a new call
   pub issued_new : (s t u : View S V) (n owner e : ℕ) (v : V) (d : Deadline) → Begins m s t (Issue n owner e v d) → Settles m t u → s.state.next < u.state.next
@@ -53,3 +65,40 @@ issued_without u old new key set h = λ k j is. elim (cases_eq k key) [
   where
     none_some : (j : ℕ) → None ≡ Some j → ⊥
     none_some j e = cc
+
+-- after a look for the end of a call, which takes the ticket of an ended one
+pub issued_collected : {S V X : Type 0} (s t : CoreView S V) (result : Option X) (key : ℕ) → t.object ≡ s.object → OnSome result (SetsTicket s.tickets t.tickets key None) → IfNone result (t ≡ s) → AreIssued s → AreIssued t
+issued_collected s t None key same taken left h = subst AreIssued (sym left) h
+issued_collected s t (Some x) key same taken left h = subst (λ view. AreIssued (record { object = view; tickets = t.tickets })) (sym same) (issued_without s.object s.tickets t.tickets key taken h)
+
+-- after a new call
+pub issued_issue : {S V : Type 0} (m : Meaning S V) (law : IsLawful m) (s t u : CoreView S V) (key n owner e : ℕ) (v : V) (d : Deadline) → n ≡ s.object.state.next → s.object.making.first_number ≤ s.object.state.next → Begins m s.object t.object (Issue s.object.state.next owner e v d) → SetsTicket s.tickets t.tickets key (Some n) → Settles m t.object u.object → IsSameCommand t.object u.object → u ≡ record t { object = settled m t.object } → AreIssued s → AreIssued u
+issued_issue m law s t u key n owner e v d is low b set settles same exact h =
+    let first = same.making ∙ b.making in
+    let others = issued_later m law s.object u.object s.tickets first (next_le_of m law s.object t.object u.object (Issue s.object.state.next owner e v d) b settles) h in
+    let number : n < u.object.state.next = omega (arith, is, issued_new m law s.object t.object u.object s.object.state.next owner e v d b settles) in
+    issued_same m law u t.tickets (ap (λ seen. seen.tickets) exact) (issued_with u.object s.tickets t.tickets key n (rw (first, is) low) number set others)
+
+-- what is seen of an object and its tickets is equal by its parts
+pub same_core : {S V : Type 0} (s t : CoreView S V) → s.object ≡ t.object → s.tickets ≡ t.tickets → s ≡ t
+same_core {S} {V} s t object tickets = parts s.object t.object s.tickets t.tickets object tickets
+  where
+    parts : (o p : View S V) (k l : List (Option ℕ)) → o ≡ p → k ≡ l → ◌≡◌ {A = CoreView S V} (record { object = o; tickets = k }) (record { object = p; tickets = l })
+    parts o p k l is same = rw (is, same) refl
+
+-- what an object keeps doesn't speak of its tickets, nor of room for a call
+pub kept_collected : {S V : Type 0} (m : Meaning S V) (making : Making S) (b : Base S V) (s t : StateView S V) (h : HistoryView V) (served : Option ℕ) (procedures before : ℕ) → t ≡ record s { tickets = t.tickets; has_room = t.has_room } → IsKept m making b s h served procedures before → IsKept m making b t h served procedures before
+kept_collected m making b s t h served procedures before rest k =
+    subst (λ seen. IsKept m making b seen h served procedures before) (sym rest) (record {
+      history = k.history;
+      counted = k.counted;
+      last = k.last;
+      ran = k.ran;
+      shown = k.shown;
+      placed = k.placed;
+      outcomes = k.outcomes;
+      numbered = k.numbered;
+      first = k.first;
+      place = k.place;
+      idle = k.idle;
+    })

@@ -5,19 +5,20 @@ use Rattle.std.proofs.lemmas.List.Elements.{All-head, All-tail}
 use Rattle.std.proofs.lemmas.Bool.Decides.{nat_tests}
 use Rattle.po_unit.specs.Meaning.{Meaning}
 use Rattle.po_calls.specs.declared.call.Call.{Call}
-use Rattle.po_actions.specs.declared.event.Event.{Event}
+use Rattle.po_history.specs.declared.event.Event.{Event}
 use Rattle.po_barriers.specs.declared.order.Order.{Order}
 use Rattle.po_actions.specs.ObjectState.{ObjectState, gate_in, IsQuiet, IsAtRest}
 use Rattle.po_actions.specs.WaitingCalls.{has_number, is_on, is_due}
 use Rattle.po_actions.specs.Step.{replay, step}
 use Rattle.po_actions.specs.Making.{Making}
 use Rattle.po_actions.specs.View.{View, last_served}
+use Rattle.po_actions.specs.Tickets.{CoreView}
 use Rattle.po_actions.specs.Base.{Base}
 use Rattle.po_actions.specs.declared.refusal.Aborted.TheVariants.{Kept, Cancelled}
 use Rattle.po_actions.specs.Progress.{Settles, IsSameCommand, Happens, Begins}
 use Rattle.po_actions.specs.ProtectedAction.{settling, inner_events, begun, settled, after_action, after_abort, after_abort_of, abort_answer, is_sealed, without_event}
 use Rattle.po_actions.specs.Pick.{if_any, turn, first_some, turn_of, examined, pick, ArePicks, served_last, last_from, weight}
-use Rattle.po_actions.specs.declared.event.Event.TheVariants.{Abort}
+use Rattle.po_history.specs.declared.event.Event.TheVariants.{Abort}
 
 module _ {X : Type 0} (p : X → Bool) where
   none_here : (b : Bool) (x : X) (xs : List X) → p x ≡ b → b ≡ false → find p xs ≡ None → cond b (Some x) (find p xs) ≡ None
@@ -84,9 +85,20 @@ module _ {S V : Type 0} (m : Meaning S V) where
       same_view t (settled m s) same.making same.base (h.events ∙ ap (λ l. s.events ++ l) (sym is)) (h.state ∙ ap (replay m limit s.state) (sym is)) same.ended_before
 
   -- by what the last step says
-  pub settled_at : (s t u : View S V) (o : Option (Event V)) → MatchOption o ((false ≡ false) × (u ≡ t)) (λ e. (false ≡ true) × Happens m t u e) → Settles m s t → IsAtRest m u.state → IsSameCommand s t → u ≡ settled m s
+  settled_at : (s t u : View S V) (o : Option (Event V)) → MatchOption o ((false ≡ false) × (u ≡ t)) (λ e. (false ≡ true) × Happens m t u e) → Settles m s t → IsAtRest m u.state → IsSameCommand s t → u ≡ settled m s
   settled_at s t u None k h r same = k.1 ∙ settled_by s t h (subst (λ w. IsAtRest m w.state) k.1 r) same
   settled_at s t u (Some e) k h r same = let bad = k.0 in cc
+
+  with_object : (s u : CoreView S V) (view : View S V) → u.object ≡ view → u.tickets ≡ s.tickets → u ≡ record s { object = view }
+  with_object s u view h k = subst (λ x. u ≡ record { object = x; tickets = s.tickets }) h (subst (λ l. u ≡ record { object = u.object; tickets = l }) k refl)
+
+  settled_object : (s : View S V) (t u : CoreView S V) (o : Option (Event V)) → MatchOption o ((false ≡ false) × (u ≡ t)) (λ e. (false ≡ true) × Happens m t.object u.object e) → Settles m s t.object → IsAtRest m u.object.state → IsSameCommand s t.object → u.object ≡ settled m s
+  settled_object s t u None k h r same = settled_at s t.object u.object None (refl, ap (λ core. core.object) k.1) h r same
+  settled_object s t u (Some e) k h r same = settled_at s t.object u.object (Some e) k h r same
+
+  -- the same of the object with its tickets, which stay
+  pub settled_there : (s t u : CoreView S V) (o : Option (Event V)) → MatchOption o ((false ≡ false) × (u ≡ t)) (λ e. (false ≡ true) × Happens m t.object u.object e) → Settles m s.object t.object → IsAtRest m u.object.state → IsSameCommand s.object t.object → u.tickets ≡ s.tickets → u ≡ record s { object = settled m s.object }
+  settled_there s t u o k h r same tickets = with_object s u (settled m s.object) (settled_object s.object t u o k h r same) tickets
 
   pub begun_by : (s t : View S V) (own : Event V) → Begins m s t own → t ≡ begun m s own
   begun_by s t own h = same_view t (begun m s own) h.making h.base h.happens.events h.happens.state h.ended_before

@@ -9,12 +9,13 @@ use Rattle.po_unit.specs.declared.outcome.Outcome.TheVariants.{Complete, Raise, 
 use Rattle.po_calls.specs.declared.call.Call.{Call}
 use Rattle.po_calls.specs.declared.call.Deadline.{Deadline}
 use Rattle.po_calls.specs.declared.end.End.TheVariants.{Completed, Raised, Cancelled, ProgramError}
-use Rattle.po_actions.specs.declared.event.Event.{Event}
-use Rattle.po_actions.specs.declared.event.Event.TheVariants.{Issue, Ran, Abort, Tick, Final, Serve, Break, Expire}
+use Rattle.po_history.specs.declared.event.Event.{Event}
+use Rattle.po_history.specs.declared.event.Event.TheVariants.{Issue, Ran, Abort, Tick, Final, Serve, Break, Expire}
 use Rattle.po_actions.specs.ObjectState.{ObjectState, counts_in, gate_in}
 use Rattle.po_actions.specs.WaitingCalls.{has_number, is_on}
 use Rattle.po_actions.specs.Step.{is_full, enter, without_first, end_call, end_all, queue, land, run_body, arrive, take_out, cancel, abort, mark, serve, step, Needs, IsLegal, replay}
 use Rattle.po_actions.specs.Making.{Making}
+use Rattle.po_actions.specs.Pick.{Fits}
 use Rattle.po_actions.specs.View.{IsInOnePlace}
 use Rattle.po_actions.specs.Base.{Base, state_at}
 use Rattle.po_actions.specs.declared.ended.Ended.{Ended}
@@ -144,6 +145,21 @@ module _ {S V : Type 0} (m : Meaning S V) (law : IsLawful m) (limit : Option ℕ
   -- a new call has the next number
   pub next-issue : (p : ObjectState S V) (n owner e : ℕ) (v : V) (d : Deadline) → (step m limit p (Issue n owner e v d)).next ≡ p.next + 1
   next-issue p n owner e v d = next-arrive (record p { next = p.next + 1 }) (record { number = n; owner = owner; entry = e; value = v; sealed = false; aborted = false; deadline = d }) (gate_in m p e)
+
+  -- an attempt to cancel a call issues none
+  pub next_abort : (p : ObjectState S V) (n : ℕ) → (step m limit p (Abort n)).next ≡ p.next
+  next_abort p n = next-abort p n (find (has_number n) p.waiting)
+
+  -- an inner event issues no call
+  pub next_inner : (p : ObjectState S V) (e : Event V) → Fits m p e → (step m limit p e).next ≡ p.next
+  next_inner p (Serve e) h = next-serve p e (find (is_on e) p.waiting)
+  next_inner p (Break e) h = refl
+  next_inner p (Expire n) h = next-cancel p n (find (has_number n) p.waiting)
+  next_inner p (Issue n owner e v d) h = absurd h
+  next_inner p (Ran owner op v reply) h = absurd h
+  next_inner p (Abort n) h = absurd h
+  next_inner p (Tick t) h = absurd h
+  next_inner p Final h = absurd h
 
   -- numbers are never taken back
   pub next_le : (p : ObjectState S V) (e : Event V) → p.next ≤ (step m limit p e).next

@@ -1,9 +1,9 @@
 -- The order in which calls arrived on their queues, read off the history (9.5.3, D.4).
-use Rattle.std.specs.Prelude.{ℕ, ◌+◌, ◌<◌, ◌==◌, List, [], ◌∷◌, Option, Some, None, if◌then◌else◌, find, All, option_map}
+use Rattle.std.specs.Prelude.{ℕ, ◌≡◌, ◌+◌, ◌<◌, ◌==◌, List, [], ◌∷◌, Option, Some, None, if◌then◌else◌, find, All, option_map}
 use Rattle.po_unit.specs.Meaning.{Meaning}
 use Rattle.po_calls.specs.declared.call.Call.{Call}
-use Rattle.po_actions.specs.declared.event.Event.{Event}
-use Rattle.po_actions.specs.declared.event.Event.TheVariants.{Issue, Serve}
+use Rattle.po_history.specs.declared.event.Event.{Event}
+use Rattle.po_history.specs.declared.event.Event.TheVariants.{Issue, Serve}
 use Rattle.po_actions.specs.WaitingCalls.{is_on}
 use Rattle.po_actions.specs.ObjectState.{ObjectState}
 use Rattle.po_actions.specs.Step.{step}
@@ -19,6 +19,13 @@ noted places k (Some m) n = if n == m then k else places n
 abbrev pub Rises : {V : Type 0} → (ℕ → ℕ) → List (Call V) → Type 0
 Rises places [] = Unit {0}
 Rises places (x ∷ xs) = All (λ y. places x.number < places y.number) xs × Rises places xs
+
+-- The calls stand at the places that are noted for their numbers.
+abbrev pub AreAt : {V : Type 0} → (ℕ → ℕ) → List (Call V) → List ℕ → Type 0
+AreAt noted [] [] = Unit {0}
+AreAt noted [] (k ∷ places) = ⊥
+AreAt noted (x ∷ xs) [] = ⊥
+AreAt noted (x ∷ xs) (k ∷ places) = (noted x.number ≡ k) × AreAt noted xs places
 
 module _ {S V : Type 0} where
   -- the call that an event queues or may queue: the one that it issues, or the one that it serves, which may be requeued

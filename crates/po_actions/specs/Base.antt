@@ -1,6 +1,8 @@
 -- From where the present history replays: the state that all events before it led to, and what there is to know of those events.
-use Rattle.std.specs.Prelude.{ℕ, List, [], ◌∷◌, Bool, false, Option, None, take, if◌then◌else◌}
+use Rattle.std.specs.Prelude.{ℕ, List, [], ◌∷◌, Bool, true, false, Option, None, take, if◌then◌else◌}
 use Rattle.po_calls.specs.declared.call.Call.{Call}
+use Rattle.po_history.specs.declared.event.Event.{Event}
+use Rattle.po_history.specs.declared.event.Event.TheVariants.{Ran}
 use Rattle.po_actions.specs.declared.ended.Ended.{Ended}
 use Rattle.po_actions.specs.WaitingCalls.{has_number}
 use Rattle.po_actions.specs.ObjectState.{ObjectState}
@@ -23,6 +25,11 @@ pub record Base (S V : Type 0) : Type 0 where
   pub ran : ℕ
   -- the entry that was served last, if any was
   pub last : Option ℕ
+
+-- whether a procedure ran (9.5.1)
+abbrev pub is_ran : {V : Type 0} → Event V → Bool
+is_ran (Ran owner op v reply) = true
+is_ran other = false
 
 -- the place at which the call with number n arrived, by the calls and their places
 abbrev pub arrived_among : {V : Type 0} → List (Call V) → List ℕ → ℕ → ℕ

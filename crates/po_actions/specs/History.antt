@@ -1,16 +1,19 @@
 -- What every history keeps, for the invariants inside of this crate.
-use Rattle.std.specs.Prelude.{ℕ, ◌≡◌, ◌<◌, ◌≤◌, List, [], length, true, All, Option}
+use Rattle.std.specs.Prelude.{ℕ, ◌≡◌, ◌<◌, ◌≤◌, List, [], length, true, All, Option, None, ◌+◌, count_by}
 use Rattle.po_unit.specs.Meaning.{Meaning}
 use Rattle.po_index.specs.Numbering.{entry_count}
-use Rattle.po_actions.specs.declared.event.Event.{Event}
+use Rattle.po_history.specs.declared.event.Event.{Event}
 use Rattle.po_actions.specs.declared.ended.Ended.{Ended}
 use Rattle.po_actions.specs.ObjectState.{ObjectState}
 use Rattle.po_actions.specs.Step.{replay, IsLegal}
-use Rattle.po_actions.specs.Base.{Base, state_at, arrived}
+use Rattle.po_actions.specs.Base.{Base, state_at, arrived, is_ran}
 use Rattle.po_actions.specs.Public.{AllPublic}
 use Rattle.po_actions.specs.Making.{Making}
 use Rattle.po_actions.specs.View.{IsInOnePlace}
-use Rattle.po_actions.specs.Arrival.{Rises}
+use Rattle.po_actions.specs.Arrival.{Rises, AreAt, arrivals}
+use Rattle.po_actions.specs.Outcomes.{AreOutcomes}
+use Rattle.po_actions.specs.StateView.{StateView}
+use Rattle.po_history.specs.Histories.{HistoryView}
 use Rattle.po_actions.specs.Pick.{owed, last_from}
 
 -- A base is what some history led to: the unit has the entries of the shape, each call is in exactly one place, and the
@@ -33,10 +36,18 @@ pub record IsHistory {S V : Type 0} (m : Meaning S V) (making : Making S) (b : B
   pub leads : replay m making.max_queue (state_at b s.ended) events ≡ s
   pub public : AllPublic making.shape events
 
--- What an object keeps in the middle of a protected action: its history, the entry that was served last, room for as many
--- events as may come without memory, and how many calls had ended before the command.
-pub record IsKept {S V : Type 0} (m : Meaning S V) (making : Making S) (b : Base S V) (s : ObjectState S V) (events : List (Event V)) (served : Option ℕ) (room before : ℕ) : Type 0 where
-  pub history : IsHistory m making b s events
-  pub counted : owed m s ≤ room
-  pub last : served ≡ last_from b.last events
-  pub shown : before ≤ length s.ended
+-- What an object keeps in the middle of a protected action: its history from the base, with room for exactly the events
+-- that may come without memory, and the outcomes of its calls; where each waiting call arrived; the entry that was served
+-- last; how many procedures ran; and how many calls had ended before the command.
+pub record IsKept {S V : Type 0} (m : Meaning S V) (making : Making S) (b : Base S V) (s : StateView S V) (h : HistoryView V) (served : Option ℕ) (procedures before : ℕ) : Type 0 where
+  pub history : IsHistory m making b s.state h.events
+  pub counted : owed m s.state ≡ h.owed
+  pub last : served ≡ last_from b.last h.events
+  pub ran : procedures ≡ b.ran + count_by is_ran h.events
+  pub shown : before ≤ length s.state.ended
+  pub placed : AreAt (arrivals m making.max_queue (state_at b s.state.ended) b.place (arrived b) h.events) s.state.waiting s.places
+  pub outcomes : AreOutcomes h s.state.ended
+  pub numbered : making.first_number + length h.outcomes ≡ s.state.next
+  pub first : h.first_number ≡ making.first_number
+  pub place : h.place ≡ b.place
+  pub idle : s.hand ≡ None

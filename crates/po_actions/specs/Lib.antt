@@ -7,12 +7,15 @@ pub mod Public
 pub mod Making
 pub mod View
 pub mod Arrival
+pub mod Cutting
 pub mod Progress
 pub mod ProtectedAction
 pub mod Tickets
+pub mod Calls
+pub mod StateView
+pub mod Outcomes
 pub mod RefusalNumbers
 pub mod Refusals
 pub mod Commands
 pub mod History
 pub mod Headline
-pub mod Room

@@ -5,8 +5,8 @@ use Rattle.po_unit.specs.Meaning.{Meaning}
 use Rattle.po_calls.specs.declared.call.Call.{Call}
 use Rattle.po_barriers.specs.declared.order.Order.{Order}
 use Rattle.po_barriers.specs.declared.order.Order.TheVariants.{Textual, Oldest, Rotating}
-use Rattle.po_actions.specs.declared.event.Event.{Event}
-use Rattle.po_actions.specs.declared.event.Event.TheVariants.{Issue, Ran, Abort, Tick, Final, Serve, Break, Expire}
+use Rattle.po_history.specs.declared.event.Event.{Event}
+use Rattle.po_history.specs.declared.event.Event.TheVariants.{Issue, Ran, Abort, Tick, Final, Serve, Break, Expire}
 use Rattle.po_actions.specs.WaitingCalls.{below, has_number, is_on, is_due}
 use Rattle.po_actions.specs.ObjectState.{ObjectState, gate_in, IsQuiet}
 use Rattle.po_actions.specs.Step.{step, IsFound}

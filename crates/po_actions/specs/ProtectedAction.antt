@@ -2,8 +2,8 @@
 use Rattle.std.specs.Prelude.{ℕ, zero, suc, ◌≡◌, ◌≤◌, List, [], ◌∷◌, ◌++◌, length, Option, Some, None, Bool, true, false, ◌&&◌, find, if◌then◌else◌}
 use Rattle.po_unit.specs.Meaning.{Meaning}
 use Rattle.po_calls.specs.declared.call.Call.{Call}
-use Rattle.po_actions.specs.declared.event.Event.{Event}
-use Rattle.po_actions.specs.declared.event.Event.TheVariants.{Abort}
+use Rattle.po_history.specs.declared.event.Event.{Event}
+use Rattle.po_history.specs.declared.event.Event.TheVariants.{Abort}
 use Rattle.po_barriers.specs.declared.order.Order.{Order}
 use Rattle.po_actions.specs.declared.refusal.Aborted.{Aborted}
 use Rattle.po_actions.specs.declared.refusal.Aborted.TheVariants.{Cancelled, Kept}

@@ -48,7 +48,7 @@ module _ {S V : Type 0} where
       (if_finalized view.state
       (if nat_le 18_446_744_073_709_551_615 view.state.next then Some NumbersSpent else None))
 
-  -- there is no place for a further procedure's event
+  -- there is no place for a further procedure's event, nor for a cut
   abbrev pub if_spent : View S V → Option Refusal
   if_spent view = if nat_le 18_446_744_073_709_551_615 (next_place view) then Some NumbersSpent else None
 
@@ -69,6 +69,10 @@ module _ {S V : Type 0} where
   -- the refusal of a command that only a finalized object refuses: a tick or a finalization
   abbrev pub finalized_refusal : View S V → Option Refusal
   finalized_refusal view = if_finalized view.state None
+
+  -- the refusal of a cut of the history
+  abbrev pub cut_refusal : View S V → Option Refusal
+  cut_refusal view = if_spent view
 
   -- the refusal of a look at how many calls are queued on an entry
   abbrev pub count_refusal : View S V → EntryRef → Option Refusal

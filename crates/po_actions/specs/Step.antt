@@ -7,8 +7,8 @@ use Rattle.po_calls.specs.declared.call.Call.{Call}
 use Rattle.po_actions.specs.declared.ended.Ended.{Ended}
 use Rattle.po_calls.specs.declared.end.End.{End}
 use Rattle.po_calls.specs.declared.end.End.TheVariants.{Completed, Raised, Cancelled, ProgramError}
-use Rattle.po_actions.specs.declared.event.Event.{Event}
-use Rattle.po_actions.specs.declared.event.Event.TheVariants.{Issue, Ran, Abort, Tick, Final, Serve, Break, Expire}
+use Rattle.po_history.specs.declared.event.Event.{Event}
+use Rattle.po_history.specs.declared.event.Event.TheVariants.{Issue, Ran, Abort, Tick, Final, Serve, Break, Expire}
 use Rattle.po_actions.specs.WaitingCalls.{is_on, has_number, is_due}
 use Rattle.po_actions.specs.ObjectState.{ObjectState, counts_in, gate_in, IsQuiet, IsAtRest}
 

@@ -52,10 +52,13 @@ module _ {S V : Type 0} where
   abbrev pub place_of : ObjectState S V → ℕ → Place V
   place_of s n = place_by (find (has_ended n) s.ended) (find (has_number n) s.waiting)
 
-  -- where the call of a ticket is: Unknown where it isn't of an uncollected call
+  -- where the call of a ticket is, by the state and the tickets: Unknown where it isn't of an uncollected call
+  abbrev pub place_of_number : ObjectState S V → List (Option ℕ) → Ticket → Place V
+  place_of_number s tickets ticket = if is_live tickets ticket then place_of s ticket.number else Unknown
+
+  -- where the call of a ticket is
   abbrev pub place_of_ticket : CoreView S V → Ticket → Place V
-  place_of_ticket core ticket =
-      if is_live core.tickets ticket then place_of core.object.state ticket.number else Unknown
+  place_of_ticket core ticket = place_of_number core.object.state core.tickets ticket
 
   -- the end of the call of a ticket, if it has ended and isn't collected
   abbrev pub end_of_ticket : CoreView S V → Ticket → Option (End V)

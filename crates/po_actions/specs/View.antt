@@ -2,7 +2,7 @@
 use Rattle.std.specs.Prelude.{ℕ, ◌≡◌, ◌+◌, List, [], ◌&&◌, nat_lt, nat_le, count_by, length, drop, if◌then◌else◌, Option}
 use Rattle.po_unit.specs.Meaning.{Meaning}
 use Rattle.po_actions.specs.declared.ended.Ended.{Ended}
-use Rattle.po_actions.specs.declared.event.Event.{Event}
+use Rattle.po_history.specs.declared.event.Event.{Event}
 use Rattle.po_actions.specs.Making.{Making}
 use Rattle.po_actions.specs.WaitingCalls.{has_number}
 use Rattle.po_actions.specs.ObjectState.{ObjectState, opening_state}
@@ -20,11 +20,6 @@ pub record View (S V : Type 0) : Type 0 where
   pub state : ObjectState S V
   -- how many calls had ended before the last command that wasn't refused
   pub ended_before : ℕ
-
--- A state, and for how many further calls there is room.
-pub record StateWithRoom (S V : Type 0) : Type 0 where
-  pub state : ObjectState S V
-  pub room : ℕ
 
 module _ {S V : Type 0} where
   -- an object that was just made
@@ -56,10 +51,6 @@ module _ {S V : Type 0} where
   -- the calls that these events end, event by event
   abbrev pub newly_ended : Meaning S V → Option ℕ → ObjectState S V → List (Event V) → List (Ended V)
   newly_ended m limit s events = drop (length s.ended) (replay m limit s events).ended
-
-  -- No part of the history was cut off: it replays from the opening of the object.
-  abbrev pub IsWhole : View S V → Type 0
-  IsWhole view = view.base ≡ opening_base view.making.opening view.making.first_number view.making.first_place
 
   -- The history replays, from the base, as serial protected actions of one thread, and leads to the present state (9.5.1).
   -- Each call that it issues names a public entry.

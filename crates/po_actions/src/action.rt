@@ -1,22 +1,25 @@
 //! A protected action in progress, on an object with its history.
 
-ghost use Rattle.std.specs.Prelude.{◌≡◌, ◌≢◌, ◌<◌, ◌∷◌, true, false, find, ◌&&◌, MatchOption, option_map, MatchBool, length, slice_index, IfOk, OnOk, OnErr};
+ghost use Rattle.std.specs.Prelude.{◌≡◌, ◌≢◌, ◌<◌, ◌∷◌, [], None, Some, true, false, find, ◌&&◌, MatchOption, option_map, MatchBool, length, slice_index, IfOk, OnOk, OnErr, OnSome, IfNone};
 ghost use Rattle.po_index.specs.Numbering.{entry_count, is_public};
 ghost use Rattle.po_actions.specs.WaitingCalls.{has_number, is_of};
 ghost use Rattle.po_actions.specs.ObjectState.{IsAtRest, counts_in};
 ghost use Rattle.po_actions.specs.Step.{step, has_ended, MayBegin, IsFound};
 ghost use Rattle.po_actions.specs.Pick.{pick, served_last, weight};
-ghost use Rattle.po_actions.specs.View.{next_place, last_served, ended_now, opening_view, IsWhole};
+ghost use Rattle.po_actions.specs.View.{next_place, last_served, ended_now, opening_view};
 ghost use Rattle.po_actions.specs.Progress.{Settles, Begins, Happens, IsSameCommand};
 ghost use Rattle.po_actions.specs.ProtectedAction.{settled, without_event};
-ghost use Rattle.po_actions.specs.Tickets.{place_of};
+ghost use Rattle.po_actions.specs.Tickets.{place_of_ticket, end_of_ticket, number_at, SetsTicket};
 ghost use Rattle.po_actions.specs.Headline.{IsSound};
+ghost use Rattle.po_actions.specs.Cutting.{cut, cut_off, AreVolumes, Leads};
 
+use crate::base::Base;
 use crate::ended::Ended;
-use crate::event::Event;
 use crate::making::Making;
+use crate::noting::note;
 use crate::state::State;
-use po_calls::Deadline;
+use po_calls::{Deadline, End, Place, Ticket};
+use po_history::{Event, History, Volume};
 use po_unit::Unit;
 use std::alloc::{AllocError, Global};
 use std::marker::Model;
@@ -25,36 +28,36 @@ use std::marker::Model;
 #[derive(Drop)]
 pub struct Action<U: Unit> {
     making: Making<U>,
+    /// From where the history replays.
+    base: Base<U>,
     state: State<U>,
-    events: Vec<Event<U::Value>>,
+    history: History<U::Value>,
     /// The entry that was served last.
     last: Option<u16>,
-    /// For how many further events there is room: for at least so many as may come without memory.
-    owed: usize,
+    /// How many procedures have run.
+    ran: u64,
     /// How many calls had ended before the last command.
     ended_before: usize,
 }
 
 impl<U: Unit> Model for Action<U> {
-    ghost use Rattle.std.specs.Prelude.{◌≤◌, ◌+◌, vec_capacity, vec_len};
-    ghost use Rattle.po_actions.specs.Base.{opening_base};
     ghost use Rattle.po_actions.specs.History.{IsKept};
-    ghost use Rattle.po_actions.specs.View.{View};
+    ghost use Rattle.po_actions.specs.Tickets.{CoreView};
 
-    ghost Value = { View U U.Value };
+    ghost Value = { CoreView U U.Value };
 
     ghost view = { λ a. record {
-      making = a.making;
-      base = opening_base a.making.opening a.making.first_number a.making.first_place;
-      events = a.events.items;
-      state = a.state.state;
-      ended_before = a.ended_before;
+      object = record {
+        making = a.making;
+        base = a.base;
+        events = a.history.events;
+        state = a.state.state;
+        ended_before = a.ended_before;
+      };
+      tickets = a.state.tickets;
     } };
 
-    ghost invariant = { λ a. record {
-      kept : IsKept U.meaning a.making (opening_base a.making.opening a.making.first_number a.making.first_place) a.state.state a.events.items a.last a.owed a.ended_before;
-      room : vec_len a.events + a.owed ≤ vec_capacity a.events;
-    } };
+    ghost invariant = { λ a. IsKept U.meaning a.making a.base a.state a.history a.last a.ran a.ended_before };
 }
 
 /// The entry that was served last, after one more event.
@@ -71,37 +74,67 @@ impl<U: Unit + Drop> Action<U> {
     /// An object without events.
     pub(crate) fn new(alloc: Global, making: Making<U>) -> Result<Action<U>, AllocError>
         requires { U.meaning.entries making.opening ≡ entry_count making.shape }
-        ensures { IfOk result (λ a. a ≡ opening_view making) }
+        ensures { IfOk result (λ a. a ≡ record { object = opening_view making; tickets = [] }) }
     {
-        let unit = making.opening().copy()?;
-        let state = State::new(alloc, unit, making.first_number())?;
-        let events = Vec::with_capacity(alloc, 1)?;
+        let (first_number, first_place) = (making.first_number(), making.first_place());
+        let at_base = making.opening().copy()?;
+        let now = making.opening().copy()?;
+        let state = State::new(alloc, now, first_number)?;
+        let history = History::new(alloc, first_number, first_place)?;
         Ok(Action {
             making,
+            base: Base::new(alloc, at_base, first_number, first_place),
             state,
-            events,
+            history,
             last: None,
-            owed: 1,
+            ran: 0,
             ended_before: 0,
         })
+    }
+
+    /// The events since the base are cut off, and the present picture becomes the base.
+    pub(crate) fn cut(&mut self) -> Result<Volume<U::Value>, AllocError>
+        requires { next_place self.old.object < u64.MAX }
+        ensures volume { IfOk result (λ volume. volume ≡ cut_off self.old.object) }
+        ensures after { OnOk result (self.new ≡ record self.old { object = cut U.meaning self.old.object }) }
+        ensures err { OnErr result (self.new ≡ self.old) }
+    {
+        let unit = self.state.unit().copy()?;
+        let waiting = self.state.arrivals()?;
+        let place = self.history.place() as u64;
+        let volume = self.history.cut()?;
+        self.base = Base {
+            unit,
+            waiting,
+            ended: self.state.ended().len(),
+            next: self.state.next(),
+            clock: self.state.clock(),
+            finalized: self.state.is_finalized(),
+            place,
+            ran: self.ran,
+            last: self.last,
+        };
+        Ok(volume)
     }
 }
 
 impl<U: Unit> Action<U> {
     /// The next inner event happens, if there is one.
     pub(crate) fn step(&mut self) -> bool
-        ensures step { MatchOption (pick U.meaning self.old.making.order (last_served self.old) self.old.state)
+        ensures step { MatchOption (pick U.meaning self.old.object.making.order (last_served self.old.object) self.old.object.state)
             ((result ≡ false) × (self.new ≡ self.old))
-            (λ e. (result ≡ true) × Happens U.meaning self.old self.new e) }
-        ensures same { IsSameCommand self.old self.new }
-        ensures falls { MatchBool result (weight U.meaning self.new.state < weight U.meaning self.old.state) (IsAtRest U.meaning self.new.state) }
+            (λ e. (result ≡ true) × Happens U.meaning self.old.object self.new.object e) }
+        ensures same { IsSameCommand self.old.object self.new.object }
+        ensures tickets { self.new.tickets ≡ self.old.tickets }
+        ensures falls { MatchBool result (weight U.meaning self.new.object.state < weight U.meaning self.old.object.state) (IsAtRest U.meaning self.new.object.state) }
     {
         match self.state.pick(self.making.order(), self.last) {
             Some(event) => {
-                self.state.perform(self.making.max_queue(), event);
-                self.owed -= 1;
+                let ended_before = self.state.ended().len();
+                let limit = self.making.max_queue();
+                self.state.perform(limit, event, self.history.place());
+                note(&mut self.history, &self.state, event, ended_before);
                 self.last = served_by(self.last, event);
-                self.events.push_reserved(event);
                 true
             }
             None => false,
@@ -110,10 +143,10 @@ impl<U: Unit> Action<U> {
 
     /// The inner events that follow happen, up to rest.
     pub(crate) fn settle(&mut self)
-        ensures settles { Settles U.meaning self.old self.new }
-        ensures exact { self.new ≡ settled U.meaning self.old }
-        ensures rest { IsAtRest U.meaning self.new.state }
-        ensures same { IsSameCommand self.old self.new }
+        ensures settles { Settles U.meaning self.old.object self.new.object }
+        ensures exact { self.new ≡ record self.old { object = settled U.meaning self.old.object } }
+        ensures rest { IsAtRest U.meaning self.new.object.state }
+        ensures same { IsSameCommand self.old.object self.new.object }
     {
         while self.step() {}
     }
@@ -125,18 +158,20 @@ impl<U: Unit> Action<U> {
         e: u16,
         v: U::Value,
         deadline: Deadline,
-    ) -> Result<(), AllocError>
-        requires begin { MayBegin U.meaning self.old.state }
-        requires entry { e < U.meaning.entries self.old.state.unit }
-        requires public { is_public self.old.making.shape e ≡ true }
-        requires number { self.old.state.next < u64.MAX }
-        ensures ok { OnOk result (Begins U.meaning self.old self.new (Event.Issue self.old.state.next owner e v deadline)) }
+    ) -> Result<Ticket, AllocError>
+        requires begin { MayBegin U.meaning self.old.object.state }
+        requires entry { e < U.meaning.entries self.old.object.state.unit }
+        requires public { is_public self.old.object.making.shape e ≡ true }
+        requires number { self.old.object.state.next < u64.MAX }
+        ensures ok { OnOk result (Begins U.meaning self.old.object self.new.object (Event.Issue self.old.object.state.next owner e v deadline)) }
+        ensures number { IfOk result (λ ticket. ticket.number ≡ self.old.object.state.next) }
+        ensures key { IfOk result (λ ticket. number_at self.old.tickets ticket.key ≡ None) }
+        ensures ticket { IfOk result (λ ticket.
+            SetsTicket self.old.tickets self.new.tickets ticket.key (Some ticket.number)) }
         ensures err { OnErr result (self.new ≡ self.old) }
     {
-        let more = U::rank(e, v) as usize + 2;
         self.state.reserve()?;
-        self.events.reserve(self.owed + more + 1)?;
-        self.owed += more;
+        self.history.reserve_for(U::rank(e, v))?;
         self.ended_before = self.state.ended().len();
         let event = Event::Issue {
             n: self.state.next(),
@@ -145,10 +180,11 @@ impl<U: Unit> Action<U> {
             v,
             deadline,
         };
-        self.state
-            .issue(self.making.max_queue(), owner, e, v, deadline);
-        self.events.push_reserved(event);
-        Ok(())
+        let limit = self.making.max_queue();
+        let place = self.history.place();
+        let ticket = self.state.issue(limit, owner, e, v, deadline, place);
+        note(&mut self.history, &self.state, event, self.ended_before);
+        Ok(ticket)
     }
 
     /// A procedure runs, and replies.
@@ -158,106 +194,149 @@ impl<U: Unit> Action<U> {
         op: u16,
         v: U::Value,
     ) -> Result<Result<U::Value, u32>, AllocError>
-        requires begin { MayBegin U.meaning self.old.state }
-        requires op { op < U.meaning.procedures self.old.state.unit }
-        ensures reply { IfOk result (λ reply. reply ≡ (U.meaning.procedure self.old.state.unit op v (counts_in U.meaning self.old.state)).1) }
-        ensures begins { IfOk result (λ reply. Begins U.meaning self.old self.new (Event.Ran owner op v reply)) }
+        requires begin { MayBegin U.meaning self.old.object.state }
+        requires op { op < U.meaning.procedures self.old.object.state.unit }
+        requires place { next_place self.old.object < u64.MAX }
+        ensures reply { IfOk result (λ reply. reply ≡ (U.meaning.procedure self.old.object.state.unit op v (counts_in U.meaning self.old.object.state)).1) }
+        ensures begins { IfOk result (λ reply. Begins U.meaning self.old.object self.new.object (Event.Ran owner op v reply)) }
+        ensures tickets { self.new.tickets ≡ self.old.tickets }
         ensures err { OnErr result (self.new ≡ self.old) }
     {
-        self.events.reserve(self.owed + 1)?;
+        self.history.reserve_event()?;
         self.ended_before = self.state.ended().len();
         let reply = self.state.run(op, v);
-        self.events.push_reserved(Event::Ran {
+        self.ran += 1;
+        let event = Event::Ran {
             owner,
             op,
             v,
             reply,
-        });
+        };
+        note(&mut self.history, &self.state, event, self.ended_before);
         Ok(reply)
     }
 
     /// A queued call is cancelled, or marked as aborted.
     pub(crate) fn abort(&mut self, n: u64)
-        requires begin { MayBegin U.meaning self.old.state }
-        requires found { IsFound (λ x. (x.sealed && x.aborted) ≡ false) (find (has_number n) self.old.state.waiting) }
-        ensures { Begins U.meaning self.old self.new (Event.Abort n) }
+        requires begin { MayBegin U.meaning self.old.object.state }
+        requires found { IsFound (λ x. (x.sealed && x.aborted) ≡ false) (find (has_number n) self.old.object.state.waiting) }
+        ensures begins { Begins U.meaning self.old.object self.new.object (Event.Abort n) }
+        ensures tickets { self.new.tickets ≡ self.old.tickets }
     {
         self.ended_before = self.state.ended().len();
         self.state.abort(n);
-        self.owed -= 1;
-        self.events.push_reserved(Event::Abort(n));
+        let event = Event::Abort(n);
+        note(&mut self.history, &self.state, event, self.ended_before);
     }
 
     /// The clock rises.
     pub(crate) fn tick(&mut self, t: u64) -> Result<(), AllocError>
-        requires begin { MayBegin U.meaning self.old.state }
-        ensures ok { OnOk result (Begins U.meaning self.old self.new (Event.Tick t)) }
+        requires begin { MayBegin U.meaning self.old.object.state }
+        ensures ok { OnOk result (Begins U.meaning self.old.object self.new.object (Event.Tick t)) }
+        ensures tickets { self.new.tickets ≡ self.old.tickets }
         ensures err { OnErr result (self.new ≡ self.old) }
     {
-        self.events.reserve(self.owed + 1)?;
+        self.history.reserve_event()?;
         self.ended_before = self.state.ended().len();
         self.state.tick(t);
-        self.events.push_reserved(Event::Tick(t));
+        let event = Event::Tick(t);
+        note(&mut self.history, &self.state, event, self.ended_before);
         Ok(())
     }
 
     /// The object is finalized, and all queued calls end.
     pub(crate) fn finalize(&mut self)
-        requires begin { MayBegin U.meaning self.old.state }
-        ensures { Begins U.meaning self.old self.new Event.Final }
+        requires begin { MayBegin U.meaning self.old.object.state }
+        ensures begins { Begins U.meaning self.old.object self.new.object Event.Final }
+        ensures tickets { self.new.tickets ≡ self.old.tickets }
     {
         self.ended_before = self.state.ended().len();
         self.state.finalize();
-        self.owed -= 1;
-        self.events.push_reserved(Event::Final);
+        note(
+            &mut self.history,
+            &self.state,
+            Event::Final,
+            self.ended_before,
+        );
     }
 
     /// A command that has no event, and ends no call.
     pub(crate) fn pass(&mut self)
-        ensures { self.new ≡ without_event self.old }
+        ensures { self.new ≡ record self.old { object = without_event self.old.object } }
     {
         self.ended_before = self.state.ended().len();
     }
 
-    /// What every history keeps. It replays from the opening of the object.
-    pub(crate) fn is_sound(&self)
-        ensures sound { IsSound U.meaning self.now }
-        ensures whole { IsWhole self.now }
+    /// Takes the end of the call of a ticket, if it has ended, and makes the ticket Unknown for good. Else nothing
+    /// changes.
+    pub(crate) fn collect(&mut self, ticket: Ticket) -> Option<End<U::Value>>
+        ensures end { result ≡ end_of_ticket self.old ticket }
+        ensures object { self.new.object ≡ self.old.object }
+        ensures taken { OnSome result (SetsTicket self.old.tickets self.new.tickets ticket.key None) }
+        ensures left { IfNone result (self.new ≡ self.old) }
     {
-        let _ = &self.events;
+        self.state.collect(ticket)
+    }
+
+    /// Where the call of a ticket is.
+    pub(crate) fn place_of(&self, ticket: Ticket) -> Place<U::Value>
+        ensures { result ≡ place_of_ticket self.now ticket }
+    {
+        self.state.place(ticket)
+    }
+
+    /// What every history keeps. It replays from its base.
+    pub(crate) fn is_sound(&self)
+        ensures { IsSound U.meaning self.now.object }
+    {
+        let _ = &self.history;
     }
 
     /// With what the object was made.
     pub(crate) fn making(&self) -> &Making<U>
-        ensures { result.now ≡ self.now.making }
+        ensures { result.now ≡ self.now.object.making }
     {
         &self.making
     }
 
+    /// From where the history replays.
+    pub(crate) fn base(&self) -> &Base<U>
+        ensures { result.now ≡ self.now.object.base }
+    {
+        &self.base
+    }
+
     /// The data of the object and its calls.
     pub(crate) fn state(&self) -> &State<U>
-        ensures { result.now.state ≡ self.now.state }
+        ensures { result.now.state ≡ self.now.object.state }
     {
         &self.state
     }
 
-    /// The events of the history.
+    /// The events of the history since the base.
     pub(crate) fn events(&self) -> &[Event<U::Value>]
-        ensures { result.now ≡ self.now.events }
+        ensures { result.now ≡ self.now.object.events }
     {
-        &self.events
+        self.history.events()
+    }
+
+    /// How the call with number n ended, if it has.
+    pub(crate) fn outcome(&self, n: u64) -> Option<End<U::Value>>
+        ensures { result ≡ option_map (λ x. x.end) (find (has_ended n) self.now.object.state.ended) }
+    {
+        self.history.outcome(n)
     }
 
     /// The place of the next event.
     pub(crate) fn place(&self) -> u128
-        ensures { result ≡ next_place self.now }
+        ensures { result ≡ next_place self.now.object }
     {
-        u128::from(self.making.first_place()) + self.events.len() as u128
+        self.history.place()
     }
 
     /// The calls that the last command ended.
     pub(crate) fn ended_now(&self) -> &[Ended<U::Value>]
-        ensures { result.now ≡ ended_now self.now }
+        ensures { result.now ≡ ended_now self.now.object }
     {
         &self.state.ended()[self.ended_before..]
     }

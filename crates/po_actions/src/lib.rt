@@ -2,22 +2,25 @@
 #![tactic(auto)]
 
 mod action;
+mod arrival;
+mod base;
+mod calls;
 mod ended;
-mod event;
-mod examination;
 mod fault;
 mod making;
+mod noting;
 mod protected_object;
 mod refusal;
 mod start;
 mod state;
-mod waiting;
 
+pub use arrival::Arrival;
+pub use base::Base;
 pub use ended::Ended;
-pub use event::Event;
 pub use fault::MakeFault;
 pub use po_barriers::Order;
 pub use po_calls::{Call, Deadline, End, Place, Ticket};
+pub use po_history::{Event, Volume};
 pub use protected_object::Core;
 pub use refusal::{Aborted, Refusal};
 pub use start::Start;

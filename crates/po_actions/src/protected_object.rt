@@ -1,30 +1,32 @@
 //! A protected object between two protected actions: its core, which carries out every operation on it.
 
-ghost use Rattle.std.specs.Prelude.{◌≡◌, ◌≢◌, ◌∷◌, ◌++◌, [], ◌↔◌, slice_index, None, Some, find, option_map, unwrap_or, Option, true, IfOk, IfErr, IfNone, OnSome, MatchResult, OnOk, OnErr};
+ghost use Rattle.std.specs.Prelude.{◌≡◌, ◌≢◌, ◌∷◌, ◌++◌, [], ◌↔◌, slice_index, None, Some, find, option_map, unwrap_or, Option, List, true, IfOk, IfErr, IfNone, OnSome, MatchResult, OnOk, OnErr};
 ghost use Rattle.po_index.specs.Numbering.{entry_count, flat_number, is_public};
 ghost use Rattle.po_actions.specs.WaitingCalls.{is_of};
 ghost use Rattle.po_actions.specs.ObjectState.{counts_in};
 ghost use Rattle.po_actions.specs.Step.{has_ended};
-ghost use Rattle.po_actions.specs.View.{next_place, ended_now, opening_view, IsWhole};
+ghost use Rattle.po_actions.specs.View.{next_place, ended_now, opening_view, base_state};
 ghost use Rattle.po_actions.specs.ProtectedAction.{IsProtectedAction, IsAbortOf, after_action, after_abort, abort_answer};
 ghost use Rattle.po_actions.specs.Tickets.{number_at, SetsTicket, place_of_ticket, end_of_ticket, AreIssued};
-ghost use Rattle.po_actions.specs.Refusals.{entry_of, entry_refusal, issue_refusal, run_refusal, read_refusal, abort_refusal, finalized_refusal, count_refusal};
+ghost use Rattle.po_actions.specs.Refusals.{entry_of, entry_refusal, issue_refusal, run_refusal, read_refusal, abort_refusal, finalized_refusal, count_refusal, cut_refusal};
 ghost use Rattle.po_actions.specs.Commands.{issue_of, reply_of};
 ghost use Rattle.po_actions.specs.Headline.{Headline};
+ghost use Rattle.po_actions.specs.Cutting.{cut, cut_off, Leads, KeepsArrivals, KeepsVolumes, procedures_run, AreVolumes};
+ghost use Rattle.po_history.specs.Histories.{VolumeView};
 ghost use Rattle.po_actions.specs.declared.refusal.Refusal.{Refusal};
 
 use crate::action::Action;
+use crate::base::Base;
 use crate::ended::Ended;
-use crate::event::Event;
 use crate::fault::MakeFault;
 use crate::making::Making;
 use crate::refusal::{Aborted, Refusal};
 use crate::start::Start;
 use po_barriers::Order;
 use po_calls::{Deadline, End, Place, Ticket};
+use po_history::{Event, Volume};
 use po_index::{EntryRef, Shape};
 use po_unit::Unit;
-use slab::Slab;
 use std::alloc::Global;
 use std::marker::Model;
 
@@ -35,8 +37,6 @@ use std::marker::Model;
 #[derive(Drop)]
 pub struct Core<U: Unit> {
     action: Action<U>,
-    /// The number of each uncollected call, by the key of its ticket.
-    tickets: Slab<u64>,
 }
 
 impl<U: Unit> Model for Core<U> {
@@ -45,11 +45,11 @@ impl<U: Unit> Model for Core<U> {
 
     ghost Value = { CoreView U U.Value };
 
-    ghost view = { λ c. record { object = c.action; tickets = c.tickets.slots } };
+    ghost view = { λ c. c.action };
 
     ghost invariant = { λ c. record {
-      rest : IsAtRest U.meaning c.action.state;
-      issued : TicketsAreIssued (record { object = c.action; tickets = c.tickets.slots });
+      rest : IsAtRest U.meaning c.action.object.state;
+      issued : TicketsAreIssued c.action;
     } };
 }
 
@@ -77,6 +77,8 @@ impl<U: Unit + Drop> Core<U> {
         }) }
         ensures mismatch { (result ≡ Err MakeFault.ShapeMismatch) ↔
             (U.meaning.entries unit ≢ entry_count shape) }
+        // No event came before.
+        ensures volumes { IfOk result (λ c. AreVolumes U.meaning c.object []) }
     {
         Core::start(
             alloc,
@@ -114,15 +116,45 @@ impl<U: Unit + Drop> Core<U> {
         }) }
         ensures mismatch { (result ≡ Err MakeFault.ShapeMismatch) ↔
             (U.meaning.entries unit ≢ entry_count shape) }
+        // No event came before.
+        ensures volumes { IfOk result (λ c. AreVolumes U.meaning c.object []) }
     {
         if unit.entries() != shape.total() {
             return Err(MakeFault::ShapeMismatch);
         }
         let action = Action::new(alloc, Making::new(unit, shape, order, start))?;
-        Ok(Core {
-            action,
-            tickets: Slab::new(alloc),
-        })
+        Ok(Core { action })
+    }
+
+    /// Cuts the history: hands out the events since the last cut, or since the making, as a volume. The present picture
+    /// becomes the base from where the history replays; the place of the next event, the outcomes, the tickets and the
+    /// calls that the last command ended stay.
+    ///
+    /// Refused 8 and 9, also on a finalized object.
+    pub fn cut(&mut self) -> Result<Volume<U::Value>, Refusal>
+        ensures volume { IfOk result (λ volume. volume ≡ cut_off self.old.object) }
+        ensures after { OnOk result (self.new ≡ record self.old { object = cut U.meaning self.old.object }) }
+        // The volume replays from the old base to the new one.
+        ensures leads { IfOk result (λ volume. Leads U.meaning self.old.object.making volume.events
+            (base_state self.old.object) (base_state self.new.object)) }
+        // A waiting call keeps the place at which it arrived.
+        ensures arrivals { OnOk result (KeepsArrivals U.meaning self.old.object self.new.object) }
+        // How many procedures have run, before the base and since, is kept.
+        ensures procedures { OnOk result (procedures_run self.new.object ≡ procedures_run self.old.object) }
+        // The volumes so far, with this one, are the history before the new base.
+        ensures joins { IfOk result (λ volume. (volumes : List (VolumeView U.Value)) →
+            AreVolumes U.meaning self.old.object volumes → AreVolumes U.meaning self.new.object (volumes ++ volume ∷ [])) }
+        ensures allowed { OnOk result (cut_refusal self.old.object ≡ None) }
+        ensures refused { IfErr result (λ r.
+            r ≡ unwrap_or (cut_refusal self.old.object) Refusal.OutOfMemory) }
+        ensures unchanged { OnErr result (self.new ≡ self.old) }
+    {
+        if self.place() >= u128::from(u64::MAX) {
+            return Err(Refusal::NumbersSpent);
+        }
+        self.action.is_sound();
+        let volume = self.action.cut()?;
+        Ok(volume)
     }
 }
 
@@ -144,6 +176,7 @@ impl<U: Unit> Core<U> {
         ensures key { IfOk result (λ ticket. number_at self.old.tickets ticket.key ≡ None) }
         ensures ticket { IfOk result (λ ticket.
             SetsTicket self.old.tickets self.new.tickets ticket.key (Some ticket.number)) }
+        ensures volumes { OnOk result (KeepsVolumes U.meaning self.old.object self.new.object) }
         ensures action { OnOk result (IsProtectedAction U.meaning self.old.object self.new.object
             (issue_of self.old.object owner entry value deadline)) }
         ensures allowed { OnOk result (issue_refusal self.old.object entry ≡ None) }
@@ -156,15 +189,12 @@ impl<U: Unit> Core<U> {
             return Err(Refusal::Finalized);
         }
         self.action.is_sound();
-        let number = self.action.state().next();
-        if number == u64::MAX {
+        if self.action.state().next() == u64::MAX {
             return Err(Refusal::NumbersSpent);
         }
-        self.tickets.reserve(1)?;
-        self.action.issue(owner, e, value, deadline)?;
+        let ticket = self.action.issue(owner, e, value, deadline)?;
         self.action.settle();
-        let key = self.tickets.insert_reserved(number);
-        Ok(Ticket { key, number })
+        Ok(ticket)
     }
 
     /// Runs a protected procedure (9.5.1). The reply is a value, or the number of the exception that it propagates.
@@ -180,6 +210,7 @@ impl<U: Unit> Core<U> {
           object = after_action U.meaning self.old.object (Event.Ran owner op value reply);
         }) }
         ensures reply { IfOk result (λ reply. reply ≡ reply_of U.meaning self.old.object op value) }
+        ensures volumes { OnOk result (KeepsVolumes U.meaning self.old.object self.new.object) }
         ensures action { IfOk result (λ reply.
             IsProtectedAction U.meaning self.old.object self.new.object (Event.Ran owner op value reply)) }
         ensures allowed { OnOk result (run_refusal U.meaning self.old.object op ≡ None) }
@@ -196,6 +227,7 @@ impl<U: Unit> Core<U> {
         if self.action.place() >= u128::from(u64::MAX) {
             return Err(Refusal::NumbersSpent);
         }
+        self.action.is_sound();
         let reply = self.action.run(owner, op, value)?;
         self.action.settle();
         Ok(reply)
@@ -229,6 +261,7 @@ impl<U: Unit> Core<U> {
           object = after_abort U.meaning self.old.object n;
         }) }
         ensures answer { IfOk result (λ aborted. aborted ≡ abort_answer self.old.object n) }
+        ensures volumes { OnOk result (KeepsVolumes U.meaning self.old.object self.new.object) }
         ensures action { OnOk result (IsAbortOf U.meaning self.old.object self.new.object n) }
         ensures refused { MatchResult result
             (λ _. abort_refusal self.old.object n ≡ None)
@@ -263,6 +296,7 @@ impl<U: Unit> Core<U> {
           object = after_action U.meaning self.old.object (Event.Tick t);
         }) }
         ensures clock { IfOk result (λ clock. clock ≡ self.new.object.state.clock) }
+        ensures volumes { OnOk result (KeepsVolumes U.meaning self.old.object self.new.object) }
         ensures action { OnOk result (
             IsProtectedAction U.meaning self.old.object self.new.object (Event.Tick t)) }
         ensures allowed { OnOk result (finalized_refusal self.old.object ≡ None) }
@@ -273,6 +307,7 @@ impl<U: Unit> Core<U> {
         if self.action.state().is_finalized() {
             return Err(Refusal::Finalized);
         }
+        self.action.is_sound();
         self.action.tick(t)?;
         self.action.settle();
         Ok(self.clock())
@@ -285,6 +320,7 @@ impl<U: Unit> Core<U> {
         ensures after { OnOk result (self.new ≡ record self.old {
           object = after_action U.meaning self.old.object Event.Final;
         }) }
+        ensures volumes { OnOk result (KeepsVolumes U.meaning self.old.object self.new.object) }
         ensures action { OnOk result (
             IsProtectedAction U.meaning self.old.object self.new.object Event.Final) }
         ensures alone { OnOk result (self.new.object.events ≡ self.old.object.events ++ Event.Final ∷ []) }
@@ -296,20 +332,23 @@ impl<U: Unit> Core<U> {
         if self.action.state().is_finalized() {
             return Err(Refusal::Finalized);
         }
+        self.action.is_sound();
         self.action.finalize();
         Ok(())
+    }
+
+    /// The base from where the history replays: the opening of the object, or the picture at the last cut.
+    pub fn base(&self) -> &Base<U>
+        ensures { result.now ≡ self.now.object.base }
+    {
+        self.action.base()
     }
 
     /// Where the call of a ticket is.
     pub fn end_of(&self, ticket: Ticket) -> Place<U::Value>
         ensures { result ≡ place_of_ticket self.now ticket }
     {
-        if self.tickets.get(ticket.key) == Some(&ticket.number) {
-            self.action.is_sound();
-            self.action.state().place_of(ticket.number)
-        } else {
-            Place::Unknown
-        }
+        self.action.place_of(ticket)
     }
 
     /// Takes the end of the call of a ticket, if it has ended, and makes the ticket Unknown for good. Else nothing
@@ -320,11 +359,7 @@ impl<U: Unit> Core<U> {
         ensures taken { OnSome result (SetsTicket self.old.tickets self.new.tickets ticket.key None) }
         ensures left { IfNone result (self.new ≡ self.old) }
     {
-        let Place::Ended(end) = self.end_of(ticket) else {
-            return None;
-        };
-        let _number = self.tickets.try_remove(ticket.key);
-        Some(end)
+        self.action.collect(ticket)
     }
 
     /// How many calls are queued on an entry: the attribute Count (9.9). Private entries are counted too.
@@ -350,7 +385,7 @@ impl<U: Unit> Core<U> {
         self.action.ended_now()
     }
 
-    /// The history.
+    /// The events of the history since the base.
     pub fn events(&self) -> &[Event<U::Value>]
         ensures { result.now ≡ self.now.object.events }
     {
@@ -361,8 +396,7 @@ impl<U: Unit> Core<U> {
     pub fn outcome(&self, n: u64) -> Option<End<U::Value>>
         ensures { result ≡ option_map (λ x. x.end) (find (has_ended n) self.now.object.state.ended) }
     {
-        self.action.is_sound();
-        self.action.state().outcome(n)
+        self.action.outcome(n)
     }
 
     /// The number of the owner's earliest queued call.
@@ -444,11 +478,10 @@ impl<U: Unit> Core<U> {
 
     /// The headline, which holds of every core, whatever commands it has carried out or refused: no queued call has an
     /// open barrier, each queue is in order of arrival, each accepted call is in exactly one place, and the history
-    /// replays as serial protected actions of one thread and leads to the present state. Nothing of the history was cut
-    /// off. And each ticket is of an issued call.
+    /// replays, from its base, as serial protected actions of one thread and leads to the present state. And each ticket
+    /// is of an issued call.
     pub fn headline(&self)
         ensures headline { Headline U.meaning self.now.object }
-        ensures whole { IsWhole self.now.object }
         ensures tickets { AreIssued self.now }
     {
         self.action.is_sound();

@@ -1,87 +1,85 @@
 //! The state of a protected object: its data and its calls.
 
-ghost use Rattle.std.specs.Prelude.{◌≡◌, ◌<◌, ◌≤◌, ◌+◌, count_by, slice_index, All, IfOk, OnOk, OnErr, IsSome, find, is_some, option_map, if◌then◌else◌};
+ghost use Rattle.std.specs.Prelude.{◌≡◌, ◌<◌, ◌≤◌, ◌+◌, ◌∷◌, ◌++◌, [], ℕ, true, false, count_by, slice_index, map, All, Option, None, Some, IfOk, OnOk, OnErr, OnSome, IfNone, IsSome, find, option_map, if◌then◌else◌};
 ghost use Rattle.po_actions.specs.WaitingCalls.{is_on, is_of, has_number};
 ghost use Rattle.po_actions.specs.ObjectState.{opening_state, counts_in, gate_in};
-ghost use Rattle.po_actions.specs.Pick.{turn_of as turn_at, examined, first_some, pick, Fits};
+ghost use Rattle.po_actions.specs.Pick.{turn_of as turn_at, examined, first_some, pick, owed, Fits};
 ghost use Rattle.po_actions.specs.Step.{enter, cancel, abort, advance, finalize, run_procedure, end_call, end_all, queue, land, run_body, take_out, step, arrive, has_ended};
-ghost use Rattle.po_actions.specs.Tickets.{place_of};
+ghost use Rattle.po_actions.specs.Arrival.{AreAt, noted, call_of};
+ghost use Rattle.po_actions.specs.Tickets.{number_at, SetsTicket, place_of_number, end_at};
+ghost use Rattle.po_actions.specs.Calls.{places_without, NamesEntry};
 
-use crate::ended::{Ended, end_each, end_of};
-use crate::event::Event;
-use crate::examination::{oldest_turn, rotating_turn, turn_between};
-use crate::waiting::{
-    call_of, count_into, first_due, first_of, is_full, mark_number, take_first_on, take_number,
-};
-use po_barriers::Order;
-use po_calls::{Call, Deadline, End, Place};
+use crate::arrival::Arrival;
+use crate::calls::Calls;
+use crate::ended::Ended;
+use po_barriers::{Look, Order, examine};
+use po_calls::{Call, Deadline, End, Place, Ticket};
+use po_history::Event;
 use po_unit::{Outcome, Unit};
 use std::alloc::{AllocError, Global};
 use std::marker::Model;
 
-/// The data of a protected object and its calls. Contracts see it as an object's state, beside the number of further
-/// calls for which there is room. Each method is one word of the definitions of a step.
+/// The data of a protected object and its calls. Contracts see it as an object's state, beside where its calls arrived,
+/// its tickets, the call that is being served, and whether there is room for one more call. Each method is one word of
+/// the definitions of a step.
 #[derive(Drop)]
 pub struct State<U: Unit> {
     unit: U,
-    /// The queued calls of all entries, in order of arrival.
-    waiting: Vec<Call<U::Value>>,
-    /// The calls that have ended, in that order.
-    ended: Vec<Ended<U::Value>>,
-    next: u64,
-    clock: u64,
+    calls: Calls<U::Value>,
     finalized: bool,
-    /// Of each entry, how many calls are queued on it.
-    counts: Vec<u64>,
-    /// For how many calls, that are neither queued nor ended, there is room in both lists.
-    room: usize,
+    /// How many further events may come without memory: those that the queued calls may need, and the finalization.
+    owed: u128,
 }
 
 impl<U: Unit> Model for State<U> {
-    ghost use Rattle.std.specs.Prelude.{◌≡◌, ◌≤◌, length, vec_len, vec_capacity};
-    ghost use Rattle.po_actions.specs.View.{StateWithRoom};
-    ghost use Rattle.po_actions.specs.Room.{HasRoom};
-    ghost use Rattle.po_actions.specs.WaitingCalls.{counts_of};
+    ghost use Rattle.std.specs.Prelude.{◌≡◌};
+    ghost use Rattle.po_actions.specs.StateView.{StateView, state_with_calls, AreLow};
+    ghost use Rattle.po_actions.specs.Pick.{owed as owed_in};
 
-    ghost Value = { StateWithRoom U U.Value };
+    ghost Value = { StateView U U.Value };
 
     ghost view = { λ s. record {
-      state = record {
-        unit = s.unit;
-        waiting = s.waiting.items;
-        ended = s.ended.items;
-        next = s.next;
-        clock = s.clock;
-        finalized = s.finalized;
-      };
-      room = s.room;
+      state = state_with_calls s.unit s.calls s.finalized;
+      places = s.calls.places;
+      hand = s.calls.hand;
+      tickets = s.calls.tickets;
+      has_room = s.calls.has_room;
     } };
 
     ghost invariant = { λ s. record {
-      lists : HasRoom s.waiting s.ended s.room;
-      row : U.meaning.entries s.unit ≤ vec_capacity s.counts;
-      len : vec_len s.counts ≡ U.meaning.entries s.unit;
-      counted : s.counts.items ≡ counts_of (U.meaning.entries s.unit) s.waiting.items;
+      total : s.calls.total ≡ U.meaning.entries s.unit;
+      owed : s.owed ≡ owed_in U.meaning (state_with_calls s.unit s.calls s.finalized);
+      ranks : AreLow U.meaning s.calls.waiting;
     } };
+}
+
+/// How many events a waiting call may yet need: it is served once more than it may be requeued, and one event at most
+/// aborts it or lets it expire.
+fn events_owed<U: Unit>(call: &Call<U::Value>) -> u128
+    ensures owed { result ≡ U.meaning.rank call.now.entry call.now.value + (if call.now.aborted then 1 else 2) }
+    ensures low { U.meaning.rank call.now.entry call.now.value ≤ 255 }
+{
+    let rank = u128::from(U::rank(call.entry, call.value));
+    if call.aborted { rank + 1 } else { rank + 2 }
 }
 
 impl<U: Unit + Drop> State<U> {
     /// The state of an object that was just made, whose first call gets this number.
     pub(crate) fn new(alloc: Global, unit: U, first_number: u64) -> Result<State<U>, AllocError>
-        ensures { IfOk result (λ d. d.state ≡ opening_state unit first_number) }
+        ensures { IfOk result (λ d. d ≡ record {
+          state = opening_state unit first_number;
+          places = [];
+          hand = None;
+          tickets = [];
+          has_room = false;
+        }) }
     {
-        let mut counts = Vec::with_capacity(alloc, unit.entries() as usize)?;
-        let waiting = Vec::new(alloc);
-        count_into(&mut counts, unit.entries(), &waiting);
+        let calls = Calls::new(alloc, unit.entries(), first_number)?;
         Ok(State {
             unit,
-            waiting,
-            ended: Vec::new(alloc),
-            next: first_number,
-            clock: 0,
+            calls,
             finalized: false,
-            counts,
-            room: 0,
+            owed: 1,
         })
     }
 }
@@ -91,69 +89,81 @@ impl<U: Unit> State<U> {
     pub(crate) fn next(&self) -> u64
         ensures { result ≡ self.now.state.next }
     {
-        self.next
+        self.calls.next()
     }
 
     /// Makes room for one more call.
     pub(crate) fn reserve(&mut self) -> Result<(), AllocError>
-        ensures state { self.new.state ≡ self.old.state }
-        ensures ok { OnOk result (self.new.room ≡ 1) }
+        ensures same { self.new ≡ record self.old { has_room = self.new.has_room } }
+        ensures ok { OnOk result (self.new.has_room ≡ true) }
         ensures err { OnErr result (self.new ≡ self.old) }
     {
-        self.waiting.reserve(1)?;
-        self.ended.reserve(self.waiting.len() + 1)?;
-        self.room = 1;
-        Ok(())
+        self.calls.reserve()
     }
 
-    /// A call that isn't queued ends.
-    pub(crate) fn end_call(&mut self, call: Call<U::Value>, end: End<U::Value>)
-        requires { 0 < self.old.room }
-        ensures state { self.new.state ≡ end_call self.old.state call end }
-        ensures room { self.new.room + 1 ≡ self.old.room }
+    /// The call in hand ends.
+    fn end_call(&mut self, call: Call<U::Value>, end: End<U::Value>)
+        requires { self.old.hand ≡ Some call }
+        ensures { self.new ≡ record self.old { state = end_call self.old.state call end; hand = None } }
     {
-        self.room -= 1;
-        self.ended.push_reserved(Ended {
-            number: call.number,
-            owner: call.owner,
-            end,
-        });
+        self.calls.end(call, end);
     }
 
-    /// A call goes to the end of the queues.
-    pub(crate) fn queue(&mut self, call: Call<U::Value>)
-        requires { 0 < self.old.room }
-        ensures state { self.new.state ≡ queue self.old.state call }
-        ensures room { self.new.room + 1 ≡ self.old.room }
+    /// The call in hand goes to the end of the queues.
+    fn queue(&mut self, call: Call<U::Value>, place: u128)
+        requires hand { self.old.hand ≡ Some call }
+        requires entry { call.entry < U.meaning.entries self.old.state.unit }
+        requires later { All (λ k. k < place) self.old.places }
+        ensures { self.new ≡ record self.old {
+          state = queue self.old.state call;
+          places = self.old.places ++ place ∷ [];
+          hand = None;
+        } }
     {
-        self.room -= 1;
-        self.waiting.push_reserved(call);
-        count_into(&mut self.counts, self.unit.entries(), &self.waiting);
+        self.calls.is_sound();
+        self.owed += events_owed::<U>(&call);
+        self.calls.queue(call, place);
     }
 
-    /// A call goes to the end of the queues, but ends where the queue of its entry is full.
-    pub(crate) fn enter(&mut self, limit: Option<u64>, call: Call<U::Value>)
-        requires { 0 < self.old.room }
-        ensures state { self.new.state ≡ enter limit self.old.state call }
-        ensures room { self.new.room + 1 ≡ self.old.room }
+    /// The call in hand goes to the end of the queues, but ends where the queue of its entry is full.
+    fn enter(&mut self, limit: Option<u64>, call: Call<U::Value>, place: u128)
+        requires hand { self.old.hand ≡ Some call }
+        requires entry { call.entry < U.meaning.entries self.old.state.unit }
+        requires later { All (λ k. k < place) self.old.places }
+        ensures state { self.new ≡ record self.old {
+          state = enter limit self.old.state call;
+          places = self.new.places;
+          hand = None;
+        } }
+        ensures places { (f : ℕ → ℕ) → f call.number ≡ place
+            → AreAt f self.old.state.waiting self.old.places → AreAt f self.new.state.waiting self.new.places }
     {
-        if is_full(&self.waiting, call.entry, limit) {
+        if limit == Some(self.calls.count(call.entry)) {
             self.end_call(call, End::ProgramError);
         } else {
-            self.queue(call);
+            self.queue(call, place);
         }
     }
 
-    /// What comes of a call whose body has ended: it completes, raises, is requeued or is cancelled (9.5.2, 9.5.4).
-    pub(crate) fn land(
+    /// What comes of the call in hand, whose body has ended: it completes, raises, is requeued or is cancelled (9.5.2,
+    /// 9.5.4).
+    fn land(
         &mut self,
         limit: Option<u64>,
         call: Call<U::Value>,
         outcome: Outcome<U::Value>,
+        place: u128,
     )
-        requires { 0 < self.old.room }
-        ensures state { self.new.state ≡ land limit self.old.state call outcome }
-        ensures room { self.new.room + 1 ≡ self.old.room }
+        requires hand { self.old.hand ≡ Some call }
+        requires entry { NamesEntry (U.meaning.entries self.old.state.unit) outcome }
+        requires later { All (λ k. k < place) self.old.places }
+        ensures state { self.new ≡ record self.old {
+          state = land limit self.old.state call outcome;
+          places = self.new.places;
+          hand = None;
+        } }
+        ensures places { (f : ℕ → ℕ) → f call.number ≡ place
+            → AreAt f self.old.state.waiting self.old.places → AreAt f self.new.state.waiting self.new.places }
     {
         match outcome {
             Outcome::Complete(value) => self.end_call(call, End::Completed(value)),
@@ -166,140 +176,238 @@ impl<U: Unit> State<U> {
                 if with_abort && call.aborted {
                     self.end_call(call, End::Cancelled);
                 } else {
-                    self.enter(
-                        limit,
-                        Call {
-                            number: call.number,
-                            owner: call.owner,
-                            entry: target,
-                            value,
-                            sealed: !with_abort,
-                            aborted: call.aborted,
-                            deadline: call.deadline,
-                        },
-                    );
+                    let moved = self.calls.requeue(call, target, value, !with_abort);
+                    self.enter(limit, moved, place);
                 }
             }
         }
     }
 
-    /// The first call on the entry leaves the queues.
-    pub(crate) fn take_on(&mut self, e: u16) -> Option<Call<U::Value>>
+    /// The first call on the entry is taken in hand.
+    fn take_on(&mut self, e: u16) -> Option<Call<U::Value>>
+        requires hand { self.old.hand ≡ None }
+        requires entry { e < U.meaning.entries self.old.state.unit }
         ensures found { result ≡ find (is_on e) self.old.state.waiting }
-        ensures state { self.new.state ≡ take_out self.old.state (is_on e) }
-        ensures room { self.new.room ≡ self.old.room + (if is_some result then 1 else 0) }
+        ensures state { self.new ≡ record self.old {
+          state = take_out self.old.state (is_on e);
+          places = places_without (is_on e) self.old.state.waiting self.old.places;
+          hand = result;
+        } }
     {
-        let call = take_first_on(&mut self.waiting, e);
-        if call.is_some() {
-            self.room += 1;
-        }
-        count_into(&mut self.counts, self.unit.entries(), &self.waiting);
-        call
+        let call = self.calls.take_on(e)?;
+        self.owed -= events_owed::<U>(&call);
+        Some(call)
     }
 
     /// All queued calls end.
-    pub(crate) fn end_all(&mut self)
-        ensures state { self.new.state ≡ end_all self.old.state End.ProgramError }
-        ensures room { self.new.room ≡ self.old.room }
+    fn end_all(&mut self)
+        requires { self.old.hand ≡ None }
+        ensures { self.new ≡ record self.old {
+          state = end_all self.old.state End.ProgramError;
+          places = [];
+        } }
     {
-        end_each(&mut self.ended, &self.waiting);
-        self.waiting.clear();
-        count_into(&mut self.counts, self.unit.entries(), &self.waiting);
+        self.calls.end_all();
+        self.owed = u128::from(!self.finalized);
     }
 
-    /// The body of a call that isn't queued runs, and the call lands.
-    pub(crate) fn run_body(&mut self, limit: Option<u64>, call: Call<U::Value>)
-        requires room { 0 < self.old.room }
+    /// The body of the call in hand runs, and the call lands.
+    fn run_body(&mut self, limit: Option<u64>, call: Call<U::Value>, place: u128)
+        requires hand { self.old.hand ≡ Some call }
         requires entry { call.entry < U.meaning.entries self.old.state.unit }
-        ensures state { self.new.state ≡ run_body U.meaning limit self.old.state call }
-        ensures room { self.new.room + 1 ≡ self.old.room }
+        requires later { All (λ k. k < place) self.old.places }
+        ensures state { self.new ≡ record self.old {
+          state = run_body U.meaning limit self.old.state call;
+          places = self.new.places;
+          hand = None;
+        } }
+        ensures places { (f : ℕ → ℕ) → f call.number ≡ place
+            → AreAt f self.old.state.waiting self.old.places → AreAt f self.new.state.waiting self.new.places }
     {
-        let outcome = self.unit.body(call.entry, call.value, &self.counts);
-        self.land(limit, call, outcome);
+        let outcome = self.unit.body(call.entry, call.value, self.calls.counts());
+        self.land(limit, call, outcome, place);
     }
 
     /// The first call on the entry is served.
     #[tactic(auto, using(crate::proofs::Lists::found_on))]
-    pub(crate) fn serve(&mut self, limit: Option<u64>, e: u16)
+    fn serve(&mut self, limit: Option<u64>, e: u16, place: u128)
+        requires hand { self.old.hand ≡ None }
         requires found { IsSome (find (is_on e) self.old.state.waiting) }
         requires entry { e < U.meaning.entries self.old.state.unit }
-        ensures state { self.new.state ≡ step U.meaning limit self.old.state (Event.Serve e) }
-        ensures room { self.new.room ≡ self.old.room }
+        requires later { All (λ k. k < place) self.old.places }
+        ensures state { self.new ≡ record self.old {
+          state = step U.meaning limit self.old.state (Event.Serve e);
+          places = self.new.places;
+        } }
+        ensures places { (f : ℕ → ℕ) → AreAt f self.old.state.waiting self.old.places
+            → AreAt (noted f place (call_of self.old.state (Event.Serve e))) self.new.state.waiting self.new.places }
     {
+        self.calls.is_sound();
         if let Some(call) = self.take_on(e) {
-            self.run_body(limit, call);
+            self.run_body(limit, call, place);
         }
     }
 
     /// A queued call is cancelled.
     #[tactic(auto, using(crate::proofs::Lists::without_none))]
-    pub(crate) fn cancel(&mut self, n: u64)
-        ensures state { self.new.state ≡ cancel self.old.state n (find (has_number n) self.old.state.waiting) }
-        ensures room { self.new.room ≡ self.old.room }
+    fn cancel(&mut self, n: u64)
+        requires { self.old.hand ≡ None }
+        ensures state { self.new ≡ record self.old {
+          state = cancel self.old.state n (find (has_number n) self.old.state.waiting);
+          places = self.new.places;
+        } }
+        ensures places { (f : ℕ → ℕ) → AreAt f self.old.state.waiting self.old.places
+            → AreAt f self.new.state.waiting self.new.places }
     {
-        if let Some(call) = take_number(&mut self.waiting, n) {
-            self.room += 1;
-            count_into(&mut self.counts, self.unit.entries(), &self.waiting);
+        if let Some(call) = self.calls.take_number(n) {
+            self.owed -= events_owed::<U>(&call);
             self.end_call(call, End::Cancelled);
-        }
-    }
-
-    /// A new call is served, queued or ended.
-    pub(crate) fn arrive(&mut self, limit: Option<u64>, call: Call<U::Value>)
-        requires room { 0 < self.old.room }
-        requires entry { call.entry < U.meaning.entries self.old.state.unit }
-        ensures state { self.new.state ≡ arrive U.meaning limit self.old.state call (gate_in U.meaning self.old.state call.entry) }
-        ensures room { self.new.room + 1 ≡ self.old.room }
-    {
-        match self.unit.barrier(call.entry, &self.counts) {
-            Ok(true) => self.run_body(limit, call),
-            Ok(false) => self.enter(limit, call),
-            Err(_) => {
-                self.end_all();
-                self.end_call(call, End::ProgramError);
-            }
         }
     }
 
     /// The inner event of the first entry that has one, in the order of the object.
     fn first_ready(&self, order: Order, last: Option<u16>) -> Option<Event<U::Value>>
-        requires { All (λ x. x.entry < U.meaning.entries self.now.state.unit) self.now.state.waiting }
         ensures { result ≡ first_some (turn_at U.meaning self.now.state) (examined order last (U.meaning.entries self.now.state.unit) self.now.state.waiting) }
     {
-        let total = self.unit.entries();
-        match order {
-            Order::Textual => turn_between(&self.unit, &self.counts, &self.waiting, 0, total),
-            Order::Oldest => oldest_turn(&self.unit, &self.counts, &self.waiting),
-            Order::Rotating => rotating_turn(&self.unit, &self.counts, &self.waiting, total, last),
+        match examine(&self.unit, self.calls.by_entry(), order, last) {
+            Look::Ready(e) => Some(Event::Serve(e)),
+            Look::Broken(e) => Some(Event::Break(e)),
+            Look::Quiet => None,
         }
     }
 
     /// The inner event that follows, if one does.
-    pub(crate) fn pick(&self, order: Order, last: Option<u16>) -> Option<Event<U::Value>>
-        requires { All (λ x. x.entry < U.meaning.entries self.now.state.unit) self.now.state.waiting }
-        ensures { result ≡ pick U.meaning order last self.now.state }
+    pub(crate) fn pick(&mut self, order: Order, last: Option<u16>) -> Option<Event<U::Value>>
+        ensures picked { result ≡ pick U.meaning order last self.old.state }
+        ensures same { self.new ≡ self.old }
     {
         match self.first_ready(order, last) {
             Some(event) => Some(event),
-            None => match first_due(&self.waiting, self.clock) {
+            None => match self.calls.first_due() {
                 Some(n) => Some(Event::Expire(n)),
                 None => None,
             },
         }
     }
 
-    /// The inner event that is picked happens.
-    pub(crate) fn perform(&mut self, limit: Option<u64>, event: Event<U::Value>)
-        requires { Fits U.meaning self.old.state event }
-        ensures state { self.new.state ≡ step U.meaning limit self.old.state event }
-        ensures room { self.new.room ≡ self.old.room }
+    /// The inner event that is picked happens, at this place in the history.
+    pub(crate) fn perform(&mut self, limit: Option<u64>, event: Event<U::Value>, place: u128)
+        requires hand { self.old.hand ≡ None }
+        requires fits { Fits U.meaning self.old.state event }
+        requires later { All (λ k. k < place) self.old.places }
+        ensures state { self.new ≡ record self.old {
+          state = step U.meaning limit self.old.state event;
+          places = self.new.places;
+        } }
+        ensures places { (f : ℕ → ℕ) → AreAt f self.old.state.waiting self.old.places
+            → AreAt (noted f place (call_of self.old.state event)) self.new.state.waiting self.new.places }
     {
         match event {
-            Event::Serve(e) => self.serve(limit, e),
+            Event::Serve(e) => self.serve(limit, e, place),
             Event::Break(_) => self.end_all(),
             Event::Expire(n) => self.cancel(n),
             _ => {}
         }
+    }
+
+    /// A call is issued, by the event at this place in the history: it is served, queued or ended.
+    pub(crate) fn issue(
+        &mut self,
+        limit: Option<u64>,
+        owner: u16,
+        e: u16,
+        v: U::Value,
+        deadline: Deadline,
+        place: u128,
+    ) -> Ticket
+        requires hand { self.old.hand ≡ None }
+        requires room { self.old.has_room ≡ true }
+        requires entry { e < U.meaning.entries self.old.state.unit }
+        requires number { self.old.state.next < u64.MAX }
+        requires later { All (λ k. k < place) self.old.places }
+        ensures state { self.new.state ≡ step U.meaning limit self.old.state (Event.Issue self.old.state.next owner e v deadline) }
+        ensures hand { self.new.hand ≡ None }
+        ensures places { (f : ℕ → ℕ) → AreAt f self.old.state.waiting self.old.places
+            → AreAt (noted f place (Some self.old.state.next)) self.new.state.waiting self.new.places }
+        ensures number { result.number ≡ self.old.state.next }
+        ensures key { number_at self.old.tickets result.key ≡ None }
+        ensures ticket { SetsTicket self.old.tickets self.new.tickets result.key (Some result.number) }
+    {
+        self.calls.is_sound();
+        let gate = self.unit.barrier(e, self.calls.counts());
+        if gate.is_err() {
+            self.end_all();
+        }
+        let call = Call {
+            number: self.calls.next(),
+            owner,
+            entry: e,
+            value: v,
+            sealed: false,
+            aborted: false,
+            deadline,
+        };
+        let ticket = self.calls.add(call);
+        match gate {
+            Ok(true) => self.run_body(limit, call, place),
+            Ok(false) => self.enter(limit, call, place),
+            Err(_) => self.end_call(call, End::ProgramError),
+        }
+        ticket
+    }
+
+    /// A procedure runs.
+    pub(crate) fn run(&mut self, op: u16, v: U::Value) -> Result<U::Value, u32>
+        requires { op < U.meaning.procedures self.old.state.unit }
+        ensures reply { result ≡ (U.meaning.procedure self.old.state.unit op v (counts_in U.meaning self.old.state)).1 }
+        ensures state { self.new ≡ record self.old { state = run_procedure U.meaning self.old.state op v } }
+    {
+        self.unit.procedure(op, v, self.calls.counts())
+    }
+
+    /// A queued call is cancelled, or marked as aborted.
+    pub(crate) fn abort(&mut self, n: u64)
+        requires { self.old.hand ≡ None }
+        ensures state { self.new ≡ record self.old {
+          state = abort self.old.state n (find (has_number n) self.old.state.waiting);
+          places = self.new.places;
+        } }
+        ensures places { (f : ℕ → ℕ) → AreAt f self.old.state.waiting self.old.places
+            → AreAt f self.new.state.waiting self.new.places }
+    {
+        self.calls.is_sound();
+        if let Some(call) = self.waiting_call(n) {
+            if !call.sealed {
+                self.cancel(n);
+            } else if !call.aborted {
+                self.owed -= 1;
+                self.calls.mark(n);
+            }
+        }
+    }
+
+    /// The clock rises to t, if it is lower.
+    pub(crate) fn tick(&mut self, t: u64)
+        ensures { self.new ≡ record self.old { state = advance self.old.state t } }
+    {
+        self.calls.rise(t);
+    }
+
+    /// The object is finalized, and all queued calls end (9.4).
+    pub(crate) fn finalize(&mut self)
+        requires { self.old.hand ≡ None }
+        ensures { self.new ≡ record self.old { state = finalize self.old.state; places = [] } }
+    {
+        self.end_all();
+        self.finalized = true;
+        self.owed = 0;
+    }
+
+    /// How many further events may come without memory.
+    pub(crate) fn owed(&self) -> u128
+        ensures { result ≡ owed U.meaning self.now.state }
+    {
+        self.owed
     }
 
     /// How many entries the unit has.
@@ -316,6 +424,13 @@ impl<U: Unit> State<U> {
         self.unit.procedures()
     }
 
+    /// How many functions the unit has.
+    pub(crate) fn functions(&self) -> u16
+        ensures { result ≡ U.meaning.functions self.now.state.unit }
+    {
+        self.unit.functions()
+    }
+
     /// Whether the object is finalized.
     pub(crate) fn is_finalized(&self) -> bool
         ensures { result ≡ self.now.state.finalized }
@@ -327,7 +442,7 @@ impl<U: Unit> State<U> {
     pub(crate) fn clock(&self) -> u64
         ensures { result ≡ self.now.state.clock }
     {
-        self.clock
+        self.calls.clock()
     }
 
     /// The data of the object.
@@ -341,119 +456,48 @@ impl<U: Unit> State<U> {
     pub(crate) fn ended(&self) -> &[Ended<U::Value>]
         ensures { result.now ≡ self.now.state.ended }
     {
-        &self.ended
+        self.calls.ended()
     }
 
     /// The queued call with number n.
     pub(crate) fn waiting_call(&self, n: u64) -> Option<Call<U::Value>>
         ensures { result ≡ find (has_number n) self.now.state.waiting }
     {
-        call_of(&self.waiting, n)
-    }
-
-    /// A call is issued.
-    pub(crate) fn issue(
-        &mut self,
-        limit: Option<u64>,
-        owner: u16,
-        e: u16,
-        v: U::Value,
-        deadline: Deadline,
-    )
-        requires room { 0 < self.old.room }
-        requires entry { e < U.meaning.entries self.old.state.unit }
-        requires number { self.old.state.next < u64.MAX }
-        ensures state { self.new.state ≡ step U.meaning limit self.old.state (Event.Issue self.old.state.next owner e v deadline) }
-        ensures room { self.new.room + 1 ≡ self.old.room }
-    {
-        let number = self.next;
-        self.next = number + 1;
-        self.arrive(
-            limit,
-            Call {
-                number,
-                owner,
-                entry: e,
-                value: v,
-                sealed: false,
-                aborted: false,
-                deadline,
-            },
-        );
-    }
-
-    /// A procedure runs.
-    pub(crate) fn run(&mut self, op: u16, v: U::Value) -> Result<U::Value, u32>
-        requires { op < U.meaning.procedures self.old.state.unit }
-        ensures reply { result ≡ (U.meaning.procedure self.old.state.unit op v (counts_in U.meaning self.old.state)).1 }
-        ensures state { self.new.state ≡ run_procedure U.meaning self.old.state op v }
-        ensures room { self.new.room ≡ self.old.room }
-    {
-        self.unit.procedure(op, v, &self.counts)
-    }
-
-    /// A queued call is cancelled, or marked as aborted.
-    pub(crate) fn abort(&mut self, n: u64)
-        ensures state { self.new.state ≡ abort self.old.state n (find (has_number n) self.old.state.waiting) }
-        ensures room { self.new.room ≡ self.old.room }
-    {
-        if let Some(call) = self.waiting_call(n) {
-            if call.sealed {
-                mark_number(&mut self.waiting, n);
-                count_into(&mut self.counts, self.unit.entries(), &self.waiting);
-            } else {
-                self.cancel(n);
-            }
-        }
-    }
-
-    /// The clock rises to t, if it is lower.
-    pub(crate) fn tick(&mut self, t: u64)
-        ensures state { self.new.state ≡ advance self.old.state t }
-        ensures room { self.new.room ≡ self.old.room }
-    {
-        self.clock = self.clock.max(t);
-    }
-
-    /// The object is finalized, and all queued calls end (9.4).
-    pub(crate) fn finalize(&mut self)
-        ensures state { self.new.state ≡ finalize self.old.state }
-        ensures room { self.new.room ≡ self.old.room }
-    {
-        self.end_all();
-        self.finalized = true;
-    }
-
-    /// Where the call with number n is.
-    pub(crate) fn place_of(&self, n: u64) -> Place<U::Value>
-        requires once { count_by (has_ended n) self.now.state.ended ≤ 1 }
-        ensures { result ≡ place_of self.now.state n }
-    {
-        match end_of(&self.ended, n) {
-            Some(ended) => Place::Ended(ended.end),
-            None => match self.waiting_call(n) {
-                Some(_) => Place::Waiting,
-                None => Place::Unknown,
-            },
-        }
-    }
-
-    /// How the call with number n ended, if it has.
-    pub(crate) fn outcome(&self, n: u64) -> Option<End<U::Value>>
-        requires once { count_by (has_ended n) self.now.state.ended ≤ 1 }
-        ensures { result ≡ option_map (λ x. x.end) (find (has_ended n) self.now.state.ended) }
-    {
-        match end_of(&self.ended, n) {
-            Some(ended) => Some(ended.end),
-            None => None,
-        }
+        self.calls.waiting_call(n)
     }
 
     /// The number of the owner's earliest queued call.
     pub(crate) fn waiting_of(&self, owner: u16) -> Option<u64>
         ensures { result ≡ option_map (λ x. x.number) (find (is_of owner) self.now.state.waiting) }
     {
-        first_of(&self.waiting, owner)
+        self.calls.waiting_of(owner)
+    }
+
+    /// The waiting calls with the places at which they arrived, in order of arrival.
+    pub(crate) fn arrivals(&self) -> Result<Vec<Arrival<U::Value>>, AllocError>
+        ensures calls { IfOk result (λ list. map (λ a. a.call) list.items ≡ self.now.state.waiting) }
+        ensures places { IfOk result (λ list. map (λ a. a.place) list.items ≡ self.now.places) }
+    {
+        self.calls.arrivals()
+    }
+
+    /// Where the call of the ticket is.
+    pub(crate) fn place(&self, ticket: Ticket) -> Place<U::Value>
+        requires { self.now.hand ≡ None }
+        ensures { result ≡ place_of_number self.now.state self.now.tickets ticket }
+    {
+        self.calls.place(ticket)
+    }
+
+    /// Takes the end of the call of the ticket, if it has ended, and makes the ticket Unknown for good.
+    pub(crate) fn collect(&mut self, ticket: Ticket) -> Option<End<U::Value>>
+        requires { self.old.hand ≡ None }
+        ensures end { result ≡ end_at (place_of_number self.old.state self.old.tickets ticket) }
+        ensures taken { OnSome result (SetsTicket self.old.tickets self.new.tickets ticket.key None) }
+        ensures rest { self.new ≡ record self.old { tickets = self.new.tickets; has_room = self.new.has_room } }
+        ensures left { IfNone result (self.new ≡ self.old) }
+    {
+        self.calls.collect(ticket)
     }
 
     /// A function of the unit.
@@ -461,14 +505,7 @@ impl<U: Unit> State<U> {
         requires { op < U.meaning.functions self.now.state.unit }
         ensures { result ≡ U.meaning.function self.now.state.unit op v (counts_in U.meaning self.now.state) }
     {
-        self.unit.function(op, v, &self.counts)
-    }
-
-    /// How many functions the unit has.
-    pub(crate) fn functions(&self) -> u16
-        ensures { result ≡ U.meaning.functions self.now.state.unit }
-    {
-        self.unit.functions()
+        self.unit.function(op, v, self.calls.counts())
     }
 
     /// How many calls are queued on the entry (9.9).
@@ -476,6 +513,6 @@ impl<U: Unit> State<U> {
         requires { e < U.meaning.entries self.now.state.unit }
         ensures { result ≡ slice_index (counts_in U.meaning self.now.state) e }
     {
-        self.counts[e as usize]
+        self.calls.count(e)
     }
 }

@@ -1,6 +1,6 @@
 //! The table of the calls that aren't collected.
 
-ghost use Rattle.std.specs.Prelude.{ℕ, ◌≡◌, ◌<◌, ◌≤◌, ◌+◌, Ok, None, Some, OnOk, OnSome, IfNone, option_copied, true};
+ghost use Rattle.std.specs.Prelude.{ℕ, [], ◌≡◌, ◌<◌, ◌≤◌, ◌+◌, Ok, None, Some, OnOk, OnSome, IfNone, option_copied, true};
 ghost use Rattle.slab.specs.Slab.{get, slab_len, HasRoomFor, Updates};
 ghost use Rattle.po_calls.specs.declared.ticket.Ticket.{Ticket};
 ghost use Rattle.po_calls.specs.declared.call.Call.{Call};
@@ -40,6 +40,7 @@ impl<V: Copy> Table<V> {
     pub fn new(alloc: Global) -> Table<V>
         ensures kept { (ticket : Ticket) → kept result ticket ≡ None }
         ensures vacant { (key : ℕ) → get result.calls key ≡ None }
+        ensures numbers { numbers_of result ≡ [] }
         ensures next_key { result.calls.vacant_key ≡ 0 }
         ensures last { result.last ≡ None }
     {

@@ -3,7 +3,7 @@ use Rattle.std.specs.Prelude.{ℕ, List, [], ◌++◌, Bool, true, false, Option
 use Rattle.po_index.specs.declared.decl.EntryRef.{EntryRef}
 use Rattle.po_index.specs.Numbering.{entry_references}
 use Rattle.po_unit.specs.Meaning.{Meaning}
-use Rattle.po_actions.specs.declared.event.Event.TheVariants.{Issue, Ran, Tick as TickEvent, Final}
+use Rattle.po_history.specs.declared.event.Event.TheVariants.{Issue, Ran, Tick as TickEvent, Final}
 use Rattle.po_actions.specs.declared.refusal.Refusal.{Refusal}
 use Rattle.po_actions.specs.declared.refusal.Refusal.TheVariants.{OutOfMemory}
 use Rattle.po_actions.specs.ObjectState.{counts_in}

@@ -51,7 +51,8 @@ impl Session {
         reply.clear();
         match command {
             Command::Begin(beginning) => {
-                self.object = Some(Object::new(alloc, beginning)?);
+                let begun = Object::new(alloc, beginning)?;
+                drop(self.object.replace(begun));
                 self.tickets = Tickets::new(alloc);
                 Ok(())
             }

@@ -10,8 +10,8 @@ use Rattle.po_index.specs.Numbering.{width, entry_count, entry_references, is_pu
 use Rattle.po_index.proofs.NumberingLemmas.{numbered_from_slice_get, is_public-from_decl}
 use Rattle.po_unit.specs.declared.outcome.Outcome.TheVariants.{Raise, Requeue}
 use Rattle.po_calls.specs.declared.call.Call.{Call}
-use Rattle.po_actions.specs.declared.event.Event.{Event}
-use Rattle.po_actions.specs.declared.event.Event.TheVariants.{Issue, Ran, Abort, Tick, Final, Serve, Break, Expire}
+use Rattle.po_history.specs.declared.event.Event.{Event}
+use Rattle.po_history.specs.declared.event.Event.TheVariants.{Issue, Ran, Abort, Tick, Final, Serve, Break, Expire}
 use Rattle.po_actions.specs.WaitingCalls.{is_on}
 use Rattle.po_actions.specs.ObjectState.{ObjectState, gate_in}
 use Rattle.po_actions.specs.Step.{step, Needs, replay, IsLegal}

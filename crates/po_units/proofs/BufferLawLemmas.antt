@@ -4,8 +4,8 @@ use Rattle.std.specs.List.{All}
 use Rattle.std.proofs.lemmas.Bool.Decides.{nat_tests}
 use Rattle.std.proofs.lemmas.List.Elements.{All-nil}
 use Rattle.po_calls.specs.declared.call.Call.{Call}
-use Rattle.po_actions.specs.declared.event.Event.{Event}
-use Rattle.po_actions.specs.declared.event.Event.TheVariants.{Issue, Ran, Abort, Tick, Final, Serve, Break, Expire}
+use Rattle.po_history.specs.declared.event.Event.{Event}
+use Rattle.po_history.specs.declared.event.Event.TheVariants.{Issue, Ran, Abort, Tick, Final, Serve, Break, Expire}
 use Rattle.po_actions.specs.WaitingCalls.{is_on}
 use Rattle.po_actions.specs.ObjectState.{ObjectState}
 use Rattle.po_actions.specs.Step.{step, Needs, replay, IsLegal}

@@ -12,42 +12,48 @@ use Rattle.po_unit.specs.declared.outcome.Outcome.TheVariants.{Complete, Raise, 
 use Rattle.po_calls.specs.declared.call.Call.{Call}
 use Rattle.po_calls.specs.declared.end.End.TheVariants.{Completed, Raised, Cancelled, ProgramError}
 use Rattle.po_actions.specs.declared.ended.Ended.{Ended}
-use Rattle.po_actions.specs.declared.event.Event.{Event}
-use Rattle.po_actions.specs.declared.event.Event.TheVariants.{Issue, Ran, Abort, Tick, Final, Serve, Break, Expire}
+use Rattle.po_history.specs.declared.event.Event.{Event}
+use Rattle.po_history.specs.declared.event.Event.TheVariants.{Issue, Ran, Abort, Tick, Final, Serve, Break, Expire}
 use Rattle.po_actions.specs.WaitingCalls.{is_on, has_number}
 use Rattle.po_actions.specs.Headline.{Headline}
 use Rattle.po_actions.specs.ObjectState.{ObjectState, counts_in, gate_in, IsAtRest}
 use Rattle.po_actions.specs.Step.{ended_as, mark, is_full, end_call, queue, enter, land, run_body, arrive, take_out, serve, cancel, abort, step, Needs, replay, IsLegal}
 use Rattle.po_actions.specs.Public.{NamesPublic, AllPublic}
-use Rattle.po_actions.specs.Base.{state_at}
-use Rattle.po_actions.specs.View.{View, base_state, IsWhole}
+use Rattle.po_actions.specs.View.{View}
+use Rattle.po_actions.specs.Cutting.{AreVolumes}
+use Rattle.po_history.specs.Histories.{VolumeView, joined}
 use Rattle.po_actions.proofs.Lists.{found_on}
+use Rattle.po_actions.proofs.Runs.{replay-append, legal-append}
 use Rattle.po_actions.proofs.Wells.{All-without}
 use Rattle.po_units.specs.Completed.{values_of, opening}
 use Rattle.po_units.specs.Gathered.{issued}
 
 module _ {S V : Type 0} (m : Meaning S V) where
-  -- a history of which nothing was cut off begins at the opening
-  pub whole_opening : (view : View S V) → IsWhole view → base_state view ≡ opening view.making
-  whole_opening view whole = ap (λ base. state_at base view.state.ended) whole
+  -- the whole history: the volumes that were cut off, and the present events
+  abbrev pub whole : View S V → List (VolumeView V) → List (Event V)
+  whole view volumes = joined volumes ++ view.events
 
-  pub whole_legal : (limit : Option ℕ) (view : View S V) (events : List (Event V)) → IsWhole view
-      → IsLegal m limit (base_state view) events
-      → IsLegal m limit (opening view.making) events
-  whole_legal limit view events whole legal = subst (λ s. IsLegal m limit s events) (whole_opening view whole) legal
+  -- it is legal from the opening on
+  pub whole_legal : (view : View S V) (volumes : List (VolumeView V)) → AreVolumes m view volumes → Headline m view
+      → IsLegal m view.making.max_queue (opening view.making) (whole view volumes)
+  whole_legal view volumes are headline =
+      let limit = view.making.max_queue in
+      legal-append m limit (opening view.making) (joined volumes) view.events are.leads.legal
+      (subst (λ s. IsLegal m limit s view.events) (sym are.leads.to_there) headline.sound.replays.legal)
 
-  pub whole_leads : (limit : Option ℕ) (view : View S V) (events : List (Event V)) → IsWhole view
-      → replay m limit (base_state view) events ≡ view.state
-      → replay m limit (opening view.making) events ≡ view.state
-  whole_leads limit view events whole leads =
-      subst (λ s. replay m limit s events ≡ view.state) (whole_opening view whole) leads
+  -- leads to the present state
+  pub whole_leads : (view : View S V) (volumes : List (VolumeView V)) → AreVolumes m view volumes → Headline m view
+      → replay m view.making.max_queue (opening view.making) (whole view volumes) ≡ view.state
+  whole_leads view volumes are headline =
+      let limit = view.making.max_queue in
+      replay-append m limit (opening view.making) (joined volumes) view.events
+      ∙ (ap (λ s. replay m limit s view.events) are.leads.to_there ∙ headline.sound.replays.leads)
 
   -- and ends at rest
-  pub whole_rests : (view : View S V) → IsWhole view → Headline m view
-      → IsAtRest m (replay m view.making.max_queue (opening view.making) view.events)
-  whole_rests view whole headline =
-      let leads = whole_leads view.making.max_queue view view.events whole headline.sound.replays.leads in
-      subst (IsAtRest m) (sym leads) headline.rest
+  pub whole_rests : (view : View S V) (volumes : List (VolumeView V)) → AreVolumes m view volumes → Headline m view
+      → IsAtRest m (replay m view.making.max_queue (opening view.making) (whole view volumes))
+  whole_rests view volumes are headline =
+      subst (IsAtRest m) (sym (whole_leads view volumes are headline)) headline.rest
 
   -- the first events of a legal history are one
   pub legal_front : (limit : Option ℕ) (s : ObjectState S V) (early late : List (Event V))

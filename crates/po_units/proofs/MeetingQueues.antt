@@ -10,8 +10,8 @@ use Rattle.po_calls.specs.declared.call.Call.{Call}
 use Rattle.po_calls.specs.declared.call.Deadline.{Deadline}
 use Rattle.po_actions.specs.declared.ended.Ended.{Ended}
 use Rattle.po_calls.specs.declared.end.End.TheVariants.{Cancelled, ProgramError}
-use Rattle.po_actions.specs.declared.event.Event.{Event}
-use Rattle.po_actions.specs.declared.event.Event.TheVariants.{Issue, Ran, Abort, Tick, Final, Serve, Break, Expire}
+use Rattle.po_history.specs.declared.event.Event.{Event}
+use Rattle.po_history.specs.declared.event.Event.TheVariants.{Issue, Ran, Abort, Tick, Final, Serve, Break, Expire}
 use Rattle.po_actions.specs.WaitingCalls.{is_on, has_number}
 use Rattle.po_actions.specs.ObjectState.{gate_in}
 use Rattle.po_actions.specs.Step.{step, arrive, queue, end_call, cancel, abort, mark, is_full, ended_as, without_first, Needs}

@@ -10,8 +10,8 @@ use Rattle.po_unit.specs.declared.outcome.Outcome.TheVariants.{Complete, Requeue
 use Rattle.po_calls.specs.declared.call.Call.{Call}
 use Rattle.po_calls.specs.declared.call.Deadline.{Deadline}
 use Rattle.po_calls.specs.declared.end.End.TheVariants.{Completed, ProgramError}
-use Rattle.po_actions.specs.declared.event.Event.{Event}
-use Rattle.po_actions.specs.declared.event.Event.TheVariants.{Issue, Ran, Abort, Tick, Final, Serve, Break, Expire}
+use Rattle.po_history.specs.declared.event.Event.{Event}
+use Rattle.po_history.specs.declared.event.Event.TheVariants.{Issue, Ran, Abort, Tick, Final, Serve, Break, Expire}
 use Rattle.po_actions.specs.WaitingCalls.{has_number, is_on}
 use Rattle.po_actions.specs.Step.{without_first, land, enter, is_full, arrive, queue, cancel, abort, mark, Needs}
 use Rattle.po_actions.specs.Step.{end_call}

@@ -1,7 +1,7 @@
 -- The law of the allocator: no more is taken than there is, and no more is given back than is taken.
 use Rattle.std.specs.Prelude.{ℕ, ◌≡◌, ◌≤◌, ◌+◌, List, [], ◌∷◌, ◌++◌, Ok, sum}
-use Rattle.po_actions.specs.declared.event.Event.{Event}
-use Rattle.po_actions.specs.declared.event.Event.TheVariants.{Ran}
+use Rattle.po_history.specs.declared.event.Event.{Event}
+use Rattle.po_history.specs.declared.event.Event.TheVariants.{Ran}
 use Rattle.po_actions.specs.Making.{Making}
 use Rattle.po_actions.specs.Public.{AllPublic}
 use Rattle.po_units.specs.Completed.{opening, all_values}

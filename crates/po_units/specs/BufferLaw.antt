@@ -1,6 +1,6 @@
 -- The law of the buffer: first in, first out, within its capacity.
 use Rattle.std.specs.Prelude.{ℕ, ◌≡◌, ◌≤◌, ◌+◌, List, ◌++◌, length}
-use Rattle.po_actions.specs.declared.event.Event.{Event}
+use Rattle.po_history.specs.declared.event.Event.{Event}
 use Rattle.po_actions.specs.Making.{Making}
 use Rattle.po_units.specs.Completed.{opening, values_at}
 use Rattle.po_units.specs.Buffer.{BufferState, buffer_meaning}

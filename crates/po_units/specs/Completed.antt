@@ -4,8 +4,8 @@ use Rattle.po_unit.specs.Meaning.{Meaning}
 use Rattle.po_actions.specs.declared.ended.Ended.{Ended}
 use Rattle.po_calls.specs.declared.end.End.{End}
 use Rattle.po_calls.specs.declared.end.End.TheVariants.{Completed}
-use Rattle.po_actions.specs.declared.event.Event.{Event}
-use Rattle.po_actions.specs.declared.event.Event.TheVariants.{Issue, Serve}
+use Rattle.po_history.specs.declared.event.Event.{Event}
+use Rattle.po_history.specs.declared.event.Event.TheVariants.{Issue, Serve}
 use Rattle.po_actions.specs.Making.{Making}
 use Rattle.po_actions.specs.ObjectState.{ObjectState, opening_state}
 use Rattle.po_actions.specs.Step.{step, replay}

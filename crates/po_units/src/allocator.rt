@@ -46,13 +46,15 @@
 //!    function State return Value is (Free);
 //! end Allocator;
 //! ```
-ghost use Rattle.std.specs.Prelude.{◌≡◌, ◌≢◌, ◌≤◌, ◌↔◌, IfOk, IsTrue};
-ghost use Rattle.po_units.specs.Allocator.{IsNewAllocator};
+ghost use Rattle.std.specs.Prelude.{◌≡◌, ◌≢◌, ◌≤◌, ◌↔◌, IfOk, IsTrue, ◌++◌};
+ghost use Rattle.po_units.specs.Allocator.{IsNewAllocator, allocator_meaning};
+ghost use Rattle.po_history.specs.Histories.{joined};
+ghost use Rattle.po_actions.specs.Cutting.{AreVolumes};
 ghost use Rattle.po_units.specs.AllocatorLaw.{AllocatorStaysWithin};
 
 use crate::declarations::PUBLIC_ENTRY;
 use crate::names::place_of;
-use po_actions::Core;
+use po_actions::{Core, Volume};
 use po_index::{Decl, Shape, ShapeFault};
 use po_unit::{Outcome, Unit};
 use std::alloc::{AllocError, Global};
@@ -258,9 +260,12 @@ impl Unit for Allocator {
 
 /// The law of the allocator: in the history of every object of an allocator that was made as a new one, where `Grant` is
 /// private, at each point, what calls were granted less what was released is from 0 to the allocator's size.
-pub fn allocator_law(core: &Core<Allocator>)
+///
+/// The history is that of the volumes that were cut off, all of them in order, and the present events behind them.
+pub fn allocator_law(core: &Core<Allocator>, volumes: &[Volume<u64>])
     requires new { IsNewAllocator core.now.object.making.opening }
-    ensures law { AllocatorStaysWithin core.now.object.making core.now.object.events }
+    requires volumes { AreVolumes allocator_meaning core.now.object volumes.now }
+    ensures law { AllocatorStaysWithin core.now.object.making (joined volumes.now ++ core.now.object.events) }
 {
     core.headline();
 }

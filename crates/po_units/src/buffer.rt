@@ -30,13 +30,15 @@
 //!    function State return Value is (Value (Length));
 //! end Buffer;
 //! ```
-ghost use Rattle.std.specs.Prelude.{◌≡◌, ◌≢◌, ◌≤◌, ◌↔◌, IfOk, IsTrue};
-ghost use Rattle.po_units.specs.Buffer.{IsNewBuffer};
+ghost use Rattle.std.specs.Prelude.{◌≡◌, ◌≢◌, ◌≤◌, ◌↔◌, IfOk, IsTrue, ◌++◌};
+ghost use Rattle.po_units.specs.Buffer.{IsNewBuffer, buffer_meaning};
+ghost use Rattle.po_history.specs.Histories.{joined};
+ghost use Rattle.po_actions.specs.Cutting.{AreVolumes};
 ghost use Rattle.po_units.specs.BufferLaw.{BufferIsFifo};
 
 use crate::declarations::PUBLIC_ENTRY;
 use crate::names::place_of;
-use po_actions::Core;
+use po_actions::{Core, Volume};
 use po_index::{Decl, Shape, ShapeFault};
 use po_unit::{Outcome, Unit};
 use std::alloc::{AllocError, Global};
@@ -227,9 +229,12 @@ impl Unit for Buffer {
 /// The law of the buffer, first in, first out: in the history of every object of a buffer that was made as a new one, at
 /// each point, the values that Gets completed with are the first of those that Puts completed with, in their order, and
 /// at most as many more Puts than Gets have completed as the buffer has room for.
-pub fn buffer_law(core: &Core<Buffer>)
+///
+/// The history is that of the volumes that were cut off, all of them in order, and the present events behind them.
+pub fn buffer_law(core: &Core<Buffer>, volumes: &[Volume<u64>])
     requires new { IsNewBuffer core.now.object.making.opening }
-    ensures law { BufferIsFifo core.now.object.making core.now.object.events }
+    requires volumes { AreVolumes buffer_meaning core.now.object volumes.now }
+    ensures law { BufferIsFifo core.now.object.making (joined volumes.now ++ core.now.object.events) }
 {
     core.headline();
 }

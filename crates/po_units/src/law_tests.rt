@@ -1,5 +1,9 @@
 //! The laws of the units, on cores that have carried out commands.
 
+ghost use Rattle.std.specs.Prelude.{[], IfOk, OnOk};
+ghost use Rattle.po_units.specs.Buffer.{buffer_meaning};
+ghost use Rattle.po_actions.specs.Cutting.{AreVolumes, KeepsVolumes};
+
 use crate::allocator::{Allocator, allocator_law};
 use crate::buffer::{Buffer, buffer_law};
 use crate::meeting::{Meeting, meeting_law};
@@ -10,14 +14,13 @@ use po_unit::Unit;
 use std::alloc::Global;
 use std::test::Fail;
 
-/// A core of this unit, whose entries were called with these values.
-fn core_after<U: Unit<Value = u64> + Drop>(
-    alloc: Global,
-    unit: U,
-    shape: Result<Shape, ShapeFault>,
+/// Calls the entries with these values.
+fn issue_all<U: Unit<Value = u64> + Drop>(
+    core: &mut Core<U>,
     calls: &[(u16, u64)],
-) -> Result<Core<U>, Fail> {
-    let mut core = Core::new(alloc, unit, shape?, Order::Oldest, 1)?;
+) -> Result<(), Fail>
+    ensures { OnOk result (KeepsVolumes U.meaning core.old.object core.new.object) }
+{
     for (entry, value) in calls {
         let reference = EntryRef {
             entry: *entry,
@@ -25,6 +28,20 @@ fn core_after<U: Unit<Value = u64> + Drop>(
         };
         let _ticket = core.issue(0, reference, *value, Deadline::Never)?;
     }
+    Ok(())
+}
+
+/// A core of this unit, whose entries were called with these values, and of whose history nothing was cut off.
+fn core_after<U: Unit<Value = u64> + Drop>(
+    alloc: Global,
+    unit: U,
+    shape: Result<Shape, ShapeFault>,
+    calls: &[(u16, u64)],
+) -> Result<Core<U>, Fail>
+    ensures { IfOk result (λ core. AreVolumes U.meaning core.object []) }
+{
+    let mut core = Core::new(alloc, unit, shape?, Order::Oldest, 1)?;
+    issue_all(&mut core, calls)?;
     Ok(core)
 }
 
@@ -37,7 +54,7 @@ fn the_law_of_the_buffer(rt: HostRuntime) -> Result<(), Fail> {
     assert_eq!(rt; core.outcome(4), Some(End::Completed(8)));
     assert!(rt; core.opening().is_new());
     if core.opening().is_new() {
-        buffer_law(&core);
+        buffer_law(&core, &[]);
     }
     Ok(())
 }
@@ -51,7 +68,7 @@ fn the_law_of_the_allocator(rt: HostRuntime) -> Result<(), Fail> {
     assert_eq!(rt; core.outcome(3), Some(End::Completed(1)));
     assert!(rt; core.opening().is_new());
     if core.opening().is_new() {
-        allocator_law(&core);
+        allocator_law(&core, &[]);
     }
     Ok(())
 }
@@ -65,7 +82,7 @@ fn the_law_of_the_pulse(rt: HostRuntime) -> Result<(), Fail> {
     assert_eq!(rt; core.outcome(4), None);
     assert!(rt; core.opening().is_new());
     if core.opening().is_new() {
-        pulse_law(&core);
+        pulse_law(&core, &[]);
     }
     Ok(())
 }
@@ -79,7 +96,26 @@ fn the_law_of_the_meeting(rt: HostRuntime) -> Result<(), Fail> {
     assert_eq!(rt; core.outcome(3), None);
     assert!(rt; core.opening().is_new());
     if core.opening().is_new() {
-        meeting_law(&core);
+        meeting_law(&core, &[]);
     }
     Ok(())
+}
+
+/// Cuts the history of a core of which nothing was cut off, and states the law over the volume and what follows.
+fn law_over_a_volume(core: &mut Core<Buffer>) -> Result<(), Fail>
+    requires { AreVolumes buffer_meaning core.old.object [] }
+{
+    let volume = core.cut()?;
+    if core.opening().is_new() {
+        buffer_law(core, &[volume]);
+    }
+    Ok(())
+}
+
+#[test]
+fn a_law_over_a_volume(rt: HostRuntime) -> Result<(), Fail> {
+    let unit = Buffer::new(rt.alloc(), 1)?;
+    let shape = unit.shape(rt.alloc());
+    let mut core = core_after(rt.alloc(), unit, shape, &[(0, 7), (0, 8), (1, 0)])?;
+    law_over_a_volume(&mut core)
 }

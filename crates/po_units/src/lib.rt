@@ -10,6 +10,8 @@ mod broadcast;
 mod buffer;
 #[cfg(test)]
 mod core_tests;
+#[cfg(test)]
+mod cut_tests;
 mod declarations;
 #[cfg(test)]
 mod law_tests;

@@ -17,13 +17,15 @@
 //!    function State return Value is (Wait'Count);
 //! end Meeting;
 //! ```
-ghost use Rattle.std.specs.Prelude.{◌≡◌, ◌≢◌, ◌≤◌, ◌↔◌, IfOk, IsTrue};
-ghost use Rattle.po_units.specs.Meeting.{IsNewMeeting};
+ghost use Rattle.std.specs.Prelude.{◌≡◌, ◌≢◌, ◌≤◌, ◌↔◌, IfOk, IsTrue, ◌++◌};
+ghost use Rattle.po_units.specs.Meeting.{IsNewMeeting, meeting_meaning};
+ghost use Rattle.po_history.specs.Histories.{joined};
+ghost use Rattle.po_actions.specs.Cutting.{AreVolumes};
 ghost use Rattle.po_units.specs.MeetingLaw.{MeetingGathers};
 
 use crate::declarations::PUBLIC_ENTRY;
 use crate::names::place_of;
-use po_actions::Core;
+use po_actions::{Core, Volume};
 use po_index::{Decl, Shape, ShapeFault};
 use po_unit::{Outcome, Unit};
 use std::alloc::{AllocError, Global};
@@ -195,9 +197,12 @@ impl Unit for Meeting {
 
 /// The law of the meeting: in the history of every object of a meeting that was made as a new one, calls complete
 /// together, as many as the meeting is of, in order of arrival, the one that was issued last coming last.
-pub fn meeting_law(core: &Core<Meeting>)
+///
+/// The history is that of the volumes that were cut off, all of them in order, and the present events behind them.
+pub fn meeting_law(core: &Core<Meeting>, volumes: &[Volume<u64>])
     requires new { IsNewMeeting core.now.object.making.opening }
-    ensures law { MeetingGathers core.now.object.making core.now.object.events }
+    requires volumes { AreVolumes meeting_meaning core.now.object volumes.now }
+    ensures law { MeetingGathers core.now.object.making (joined volumes.now ++ core.now.object.events) }
 {
     core.headline();
 }

@@ -32,13 +32,15 @@
 //!    function State return Value is (if Occurred then 1 else 0);
 //! end Pulse;
 //! ```
-ghost use Rattle.std.specs.Prelude.{◌≡◌, ◌≢◌, ◌↔◌, IfOk, IsTrue};
-ghost use Rattle.po_units.specs.Pulse.{IsNewPulse};
+ghost use Rattle.std.specs.Prelude.{◌≡◌, ◌≢◌, ◌↔◌, IfOk, IsTrue, ◌++◌};
+ghost use Rattle.po_units.specs.Pulse.{IsNewPulse, pulse_meaning};
+ghost use Rattle.po_history.specs.Histories.{joined};
+ghost use Rattle.po_actions.specs.Cutting.{AreVolumes};
 ghost use Rattle.po_units.specs.PulseLaw.{PulseReleasesAll};
 
 use crate::declarations::{PRIVATE_ENTRY, PUBLIC_ENTRY};
 use crate::names::place_of;
-use po_actions::Core;
+use po_actions::{Core, Volume};
 use po_index::{Decl, Shape, ShapeFault};
 use po_unit::{Outcome, Unit};
 use std::alloc::{AllocError, Global};
@@ -222,9 +224,12 @@ impl Unit for Pulse {
 /// The law of the pulse: in the history of every object of a pulse that was made as a new one, where `Reset` is private,
 /// each Signal lets all calls go that wait on `Wait`, in order, and then completes, and no call on `Wait` completes
 /// otherwise.
-pub fn pulse_law(core: &Core<Pulse>)
+///
+/// The history is that of the volumes that were cut off, all of them in order, and the present events behind them.
+pub fn pulse_law(core: &Core<Pulse>, volumes: &[Volume<u64>])
     requires new { IsNewPulse core.now.object.making.opening }
-    ensures law { PulseReleasesAll core.now.object.making core.now.object.events }
+    requires volumes { AreVolumes pulse_meaning core.now.object volumes.now }
+    ensures law { PulseReleasesAll core.now.object.making (joined volumes.now ++ core.now.object.events) }
 {
     core.headline();
 }

@@ -26,6 +26,10 @@ pub(crate) enum Step {
     Outcome(u64),
     Count(EntryRef),
     Place,
+    /// Cuts the history.
+    Cut,
+    /// From where the history replays.
+    Base,
 }
 
 /// A core, the tickets of its calls, and what its commands answered: first the answer, then the calls that ended.
@@ -126,6 +130,7 @@ impl<U: Unit<Value = u64> + Drop> Transcript<U> {
             Step::Cancel(n) => self.cancel(n),
             Step::Tick(time) => self.tick(time),
             Step::Finalize => self.finalize(),
+            Step::Cut => self.cut(),
             _ => self.look(step),
         }
     }
@@ -139,6 +144,7 @@ impl<U: Unit<Value = u64> + Drop> Transcript<U> {
                 self.ending(n, outcome)
             }
             Step::Count(entry) => self.count(entry),
+            Step::Base => self.base(),
             _ => {
                 let place = self.core.place();
                 write!(self.text, "place {place}; ")?;
@@ -209,6 +215,39 @@ impl<U: Unit<Value = u64> + Drop> Transcript<U> {
             Err(refusal) => return refuse(&mut self.text, refusal),
         }
         self.ended()
+    }
+
+    fn cut(&mut self) -> Result<(), Fail> {
+        match self.core.cut() {
+            Ok(volume) => {
+                write!(self.text, "volume {}: ", volume.first_place())?;
+                for kind in volume.events() {
+                    event(&mut self.text, kind)?;
+                }
+                write!(self.text, "; ")?;
+            }
+            Err(refusal) => refuse(&mut self.text, refusal)?,
+        }
+        Ok(())
+    }
+
+    fn base(&mut self) -> Result<(), Fail> {
+        let base = self.core.base();
+        write!(self.text, "base {}: ", base.place())?;
+        for arrival in base.waiting() {
+            write!(self.text, "{} at {} ", arrival.call.number, arrival.place)?;
+        }
+        write!(
+            self.text,
+            "ended {} next {} clock {} ran {} last {:?} finalized {}; ",
+            base.ended(),
+            base.next(),
+            base.clock(),
+            base.ran(),
+            base.last(),
+            base.is_finalized()
+        )?;
+        Ok(())
     }
 
     fn ending(&mut self, n: u64, ending: Option<End<u64>>) -> Result<(), Fail> {

@@ -1,29 +1,125 @@
-use Rattle.std.proofs.Common.{◌≡◌, true, ◌<◌, ◌+◌, length, arith, sym, ◌∙◌, ap, subst, refl}
+use Rattle.std.proofs.Common.{◌≡◌, true, ◌<◌, ◌≤◌, ◌+◌, length, take, arith, sym, ◌∙◌, ap, subst, refl}
 use Rattle.po_index.specs.Numbering.{is_public}
-use Rattle.po_actions.specs.declared.event.Event.TheVariants.{Issue}
-use Rattle.po_actions.specs.Base.{opening_base}
 use Rattle.po_actions.specs.Step.{MayBegin}
 use Rattle.po_actions.specs.History.{IsKept}
-use Rattle.po_actions.proofs.Histories.{kept_goes_on}
+use Rattle.po_actions.specs.Outcomes.{AreOutcomes}
+use Rattle.po_actions.proofs.Histories.{kept_with_room, may_note_issue, kept_issues}
+use Rattle.po_actions.proofs.PlacesKept.{kept_later, arrived_by}
 use Rattle.po_actions.proofs.Falls.{owed_issue}
 use Rattle.po_actions.proofs.action.Action.issue.Goals as goal
 
-pub invariant_of-self-2 : goal.invariant_of-self-2
-invariant_of-self-2 g c =
+pub invariant_of-self-in_err-reserve_for : goal.invariant_of-self-in_err-reserve_for
+invariant_of-self-in_err-reserve_for g c =
     let m = g.U.Unit.meaning in
     let a = c.self.inside in
-    let base = opening_base a.making.opening a.making.first_number a.making.first_place in
-    let s = c.reserve.new.self.state in
-    let same = c.reserve.ensures.state in
-    let told = sym (ap (λ view. view.state) c.self.view_is) ∙ sym same in
-    let begin : MayBegin m s = subst (MayBegin m) told c.requires.begin in
-    let entry : c.args.e < m.entries s.unit = subst (λ p. c.args.e < m.entries p.unit) told c.requires.entry in
-    let number : s.next < 18_446_744_073_709_551_615 = subst (λ p. p.next < 18_446_744_073_709_551_615) told c.requires.number in
-    let named = subst (λ made. is_public made.shape c.args.e ≡ true) (sym (ap (λ view. view.making) c.self.view_is)) c.requires.public in
-    let kept = subst (λ p. IsKept m a.making base p a.events.items a.last a.owed a.ended_before) (sym same) c.self.invariant.kept in
-    let more = owed_issue m g.met.U.Unit.lawful a.making.max_queue s s.next c.args.owner c.args.e c.args.v c.args.deadline in
-    let is = rw c.max_queue.ensures at c.issue.ensures.state in
-    rw (c.push_reserved.ensures.items, c.reserve-2.ensures.items, c.next.ensures) (record {
-      kept = kept_goes_on m a.making base s c.issue.new.self.state a.events.items a.last a.owed a.ended_before (a.owed + (c.rank.result + 2)) (length c.ended.result.now) (Issue s.next c.args.owner c.args.e c.args.v c.args.deadline) kept (begin, entry, refl, number) named is (rw is (omega (arith, more, c.rank.ensures, kept.counted))) (rw c.ended.ensures (omega arith));
-      room = omega (arith, c.in_ok-reserve-2.ensures.ok, c.reserve-2.ensures.len, c.push_reserved.ensures.len, c.push_reserved.ensures.capacity);
-    })
+    let p = c.reserve.new.self in
+    let kept = kept_with_room m a.making a.base a.state p a.history a.last a.ran a.ended_before c.reserve.ensures.same c.self.invariant in
+    subst (λ h. IsKept m a.making a.base p h a.last a.ran a.ended_before) (sym c.in_err-reserve_for.ensures.err) kept
+
+pub issue-ticket-requires-clause-later : goal.issue-ticket-requires-clause-later
+issue-ticket-requires-clause-later g c =
+    let law = g.met.U.Unit.lawful in
+    let m = g.U.Unit.meaning in
+    let a = c.self.inside in
+    let p = c.reserve.new.self in
+    let kept = kept_with_room m a.making a.base a.state p a.history a.last a.ran a.ended_before c.reserve.ensures.same c.self.invariant in
+    rw (c.place-place.ensures, ap (λ h. h.place + length h.events) c.in_ok-reserve_for.ensures.ok) (kept_later m a.making law a.base p a.history a.last a.ran a.ended_before kept)
+
+pub note-requires-clause-room : goal.note-requires-clause-room
+note-requires-clause-room g c =
+    let law = g.met.U.Unit.lawful in
+    let m = g.U.Unit.meaning in
+    let a = c.self.inside in
+    let p = c.reserve.new.self in
+    let kept = kept_with_room m a.making a.base a.state p a.history a.last a.ran a.ended_before c.reserve.ensures.same c.self.invariant in
+    let is = rw c.max_queue-limit.ensures at c.issue-ticket.ensures.state in
+    let more = owed_issue m law a.making.max_queue p.state p.state.next c.args.owner c.args.e c.args.v c.args.deadline in
+    let owed = ap (λ h. h.owed) c.in_ok-reserve_for.ensures.ok in
+    rw is (omega (arith, more, owed, c.rank.ensures, kept.counted))
+
+pub note-requires-clause-before : goal.note-requires-clause-before
+note-requires-clause-before g c =
+    let law = g.met.U.Unit.lawful in
+    let m = g.U.Unit.meaning in
+    let a = c.self.inside in
+    let p = c.reserve.new.self in
+    let kept = kept_with_room m a.making a.base a.state p a.history a.last a.ran a.ended_before c.reserve.ensures.same c.self.invariant in
+    let told = sym (ap (λ view. view.object.state) c.self.view_is) ∙ sym (ap (λ s. s.state) c.reserve.ensures.same) in
+    let begin : MayBegin m p.state = subst (MayBegin m) told c.requires.begin in
+    let entry : c.args.e < m.entries p.state.unit = subst (λ s. c.args.e < m.entries s.unit) told c.requires.entry in
+    let number : p.state.next < 18_446_744_073_709_551_615 = subst (λ s. s.next < 18_446_744_073_709_551_615) told c.requires.number in
+    let public = subst (λ made. is_public made.shape c.args.e ≡ true) (sym (ap (λ view. view.object.making) c.self.view_is)) c.requires.public in
+    let is = rw c.max_queue-limit.ensures at c.issue-ticket.ensures.state in
+    let room = a.history.owed + c.rank.result + 3 in
+    let may = may_note_issue m a.making law a.base p c.issue-ticket.new.self.state a.history c.reserve_for.new.self room a.last a.ran a.ended_before c.args.owner c.args.e c.args.v c.args.deadline kept (begin, entry, refl, number) public is c.in_ok-reserve_for.ensures.ok in
+    subst (λ l. length l ≤ length c.issue-ticket.new.self.state.ended) (sym c.ended.ensures) may.before
+
+pub note-requires-clause-once : goal.note-requires-clause-once
+note-requires-clause-once g c =
+    let law = g.met.U.Unit.lawful in
+    let m = g.U.Unit.meaning in
+    let a = c.self.inside in
+    let p = c.reserve.new.self in
+    let kept = kept_with_room m a.making a.base a.state p a.history a.last a.ran a.ended_before c.reserve.ensures.same c.self.invariant in
+    let told = sym (ap (λ view. view.object.state) c.self.view_is) ∙ sym (ap (λ s. s.state) c.reserve.ensures.same) in
+    let begin : MayBegin m p.state = subst (MayBegin m) told c.requires.begin in
+    let entry : c.args.e < m.entries p.state.unit = subst (λ s. c.args.e < m.entries s.unit) told c.requires.entry in
+    let number : p.state.next < 18_446_744_073_709_551_615 = subst (λ s. s.next < 18_446_744_073_709_551_615) told c.requires.number in
+    let public = subst (λ made. is_public made.shape c.args.e ≡ true) (sym (ap (λ view. view.object.making) c.self.view_is)) c.requires.public in
+    let is = rw c.max_queue-limit.ensures at c.issue-ticket.ensures.state in
+    let room = a.history.owed + c.rank.result + 3 in
+    let may = may_note_issue m a.making law a.base p c.issue-ticket.new.self.state a.history c.reserve_for.new.self room a.last a.ran a.ended_before c.args.owner c.args.e c.args.v c.args.deadline kept (begin, entry, refl, number) public is c.in_ok-reserve_for.ensures.ok in
+    may.once
+
+pub note-requires-clause-calls : goal.note-requires-clause-calls
+note-requires-clause-calls g c =
+    let law = g.met.U.Unit.lawful in
+    let m = g.U.Unit.meaning in
+    let a = c.self.inside in
+    let p = c.reserve.new.self in
+    let kept = kept_with_room m a.making a.base a.state p a.history a.last a.ran a.ended_before c.reserve.ensures.same c.self.invariant in
+    let told = sym (ap (λ view. view.object.state) c.self.view_is) ∙ sym (ap (λ s. s.state) c.reserve.ensures.same) in
+    let begin : MayBegin m p.state = subst (MayBegin m) told c.requires.begin in
+    let entry : c.args.e < m.entries p.state.unit = subst (λ s. c.args.e < m.entries s.unit) told c.requires.entry in
+    let number : p.state.next < 18_446_744_073_709_551_615 = subst (λ s. s.next < 18_446_744_073_709_551_615) told c.requires.number in
+    let public = subst (λ made. is_public made.shape c.args.e ≡ true) (sym (ap (λ view. view.object.making) c.self.view_is)) c.requires.public in
+    let is = rw c.max_queue-limit.ensures at c.issue-ticket.ensures.state in
+    let room = a.history.owed + c.rank.result + 3 in
+    let may = may_note_issue m a.making law a.base p c.issue-ticket.new.self.state a.history c.reserve_for.new.self room a.last a.ran a.ended_before c.args.owner c.args.e c.args.v c.args.deadline kept (begin, entry, refl, number) public is c.in_ok-reserve_for.ensures.ok in
+    may.calls
+
+pub note-requires-clause-outcomes : goal.note-requires-clause-outcomes
+note-requires-clause-outcomes g c =
+    let law = g.met.U.Unit.lawful in
+    let m = g.U.Unit.meaning in
+    let a = c.self.inside in
+    let p = c.reserve.new.self in
+    let kept = kept_with_room m a.making a.base a.state p a.history a.last a.ran a.ended_before c.reserve.ensures.same c.self.invariant in
+    let told = sym (ap (λ view. view.object.state) c.self.view_is) ∙ sym (ap (λ s. s.state) c.reserve.ensures.same) in
+    let begin : MayBegin m p.state = subst (MayBegin m) told c.requires.begin in
+    let entry : c.args.e < m.entries p.state.unit = subst (λ s. c.args.e < m.entries s.unit) told c.requires.entry in
+    let number : p.state.next < 18_446_744_073_709_551_615 = subst (λ s. s.next < 18_446_744_073_709_551_615) told c.requires.number in
+    let public = subst (λ made. is_public made.shape c.args.e ≡ true) (sym (ap (λ view. view.object.making) c.self.view_is)) c.requires.public in
+    let is = rw c.max_queue-limit.ensures at c.issue-ticket.ensures.state in
+    let room = a.history.owed + c.rank.result + 3 in
+    let may = may_note_issue m a.making law a.base p c.issue-ticket.new.self.state a.history c.reserve_for.new.self room a.last a.ran a.ended_before c.args.owner c.args.e c.args.v c.args.deadline kept (begin, entry, refl, number) public is c.in_ok-reserve_for.ensures.ok in
+    subst (λ l. AreOutcomes c.reserve_for.new.self (take (length l) c.issue-ticket.new.self.state.ended)) (sym c.ended.ensures) may.outcomes
+
+pub invariant_of-self-2 : goal.invariant_of-self-2
+invariant_of-self-2 g c =
+    let law = g.met.U.Unit.lawful in
+    let m = g.U.Unit.meaning in
+    let a = c.self.inside in
+    let p = c.reserve.new.self in
+    let kept = kept_with_room m a.making a.base a.state p a.history a.last a.ran a.ended_before c.reserve.ensures.same c.self.invariant in
+    let told = sym (ap (λ view. view.object.state) c.self.view_is) ∙ sym (ap (λ s. s.state) c.reserve.ensures.same) in
+    let begin : MayBegin m p.state = subst (MayBegin m) told c.requires.begin in
+    let entry : c.args.e < m.entries p.state.unit = subst (λ s. c.args.e < m.entries s.unit) told c.requires.entry in
+    let number : p.state.next < 18_446_744_073_709_551_615 = subst (λ s. s.next < 18_446_744_073_709_551_615) told c.requires.number in
+    let public = subst (λ made. is_public made.shape c.args.e ≡ true) (sym (ap (λ view. view.object.making) c.self.view_is)) c.requires.public in
+    let is = rw c.max_queue-limit.ensures at c.issue-ticket.ensures.state in
+    let room = a.history.owed + c.rank.result + 3 in
+    let place = c.place-place.ensures ∙ ap (λ h. h.place + length h.events) c.in_ok-reserve_for.ensures.ok in
+    let at = (rw place at (c.issue-ticket.ensures.places (arrived_by m a.making a.base p.state a.history.events))) kept.placed in
+    let rest = rw c.next.ensures at c.note.ensures.rest in
+    rw c.ended.ensures (kept_issues m a.making law a.base p c.issue-ticket.new.self a.history c.reserve_for.new.self c.note.new.history room a.last a.ran a.ended_before c.args.owner c.args.e c.args.v c.args.deadline kept (begin, entry, refl, number) public is c.issue-ticket.ensures.hand at c.in_ok-reserve_for.ensures.ok rest c.note.ensures.len c.note.ensures.outcomes)

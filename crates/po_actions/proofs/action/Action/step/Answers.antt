@@ -1,77 +1,89 @@
-use Rattle.std.proofs.Common.{◌-◌, arith, sym, ap}
-use Rattle.po_index.specs.Numbering.{entry_count}
-use Rattle.po_actions.specs.Base.{opening_base}
-use Rattle.po_actions.proofs.Wells.{well}
-use Rattle.po_actions.proofs.Picks.{pick_fits, pick_none_rests, needs_from_fits, public_from_fits}
-use Rattle.po_actions.proofs.Falls.{owed_falls, owed_one, weight_falls}
-use Rattle.po_actions.proofs.Histories.{kept_goes_on}
+use Rattle.std.proofs.Common.{sym, subst, ap, ◌∙◌, take, length}
+use Rattle.po_actions.specs.Outcomes.{AreOutcomes}
+use Rattle.po_actions.specs.Pick.{Fits}
+use Rattle.po_actions.proofs.Falls.{owed_falls, weight_falls}
+use Rattle.po_actions.proofs.Histories.{kept_fits, kept_rests, may_note_inner, kept_goes_in}
+use Rattle.po_actions.proofs.PlacesKept.{kept_later, arrived_by}
 use Rattle.po_actions.proofs.action.Action.step.Goals as goal
 
-pub pick-requires : goal.pick-requires
-pick-requires g c =
+pub perform-requires-clause-fits : goal.perform-requires-clause-fits
+perform-requires-clause-fits g c =
     let m = g.U.Unit.meaning in
     let a = c.self.inside in
-    let base = opening_base a.making.opening a.making.first_number a.making.first_place in
-    let w = well m g.met.U.Unit.lawful a.making base a.state.state a.events.items c.self.invariant.kept.history in
-    rw w.range.entries w.range.calls
+    subst (λ s. Fits m s.state c.in-Some.event) (sym c.pick.ensures.same) (kept_fits m a.making g.met.U.Unit.lawful a.base a.state a.history a.last a.ran a.ended_before c.in-Some.event c.self.invariant (rw c.order.ensures at (sym c.in-Some.ensures.picked)))
 
-pub perform-requires : goal.perform-requires
-perform-requires g c =
+pub perform-requires-clause-later : goal.perform-requires-clause-later
+perform-requires-clause-later g c =
+    let m = g.U.Unit.meaning in
+    let a = c.self.inside in
+    rw (c.pick.ensures.same, c.place.ensures) (kept_later m a.making g.met.U.Unit.lawful a.base a.state a.history a.last a.ran a.ended_before c.self.invariant)
+
+pub note-requires-clause-room : goal.note-requires-clause-room
+note-requires-clause-room g c =
     let law = g.met.U.Unit.lawful in
     let m = g.U.Unit.meaning in
     let a = c.self.inside in
-    let base = opening_base a.making.opening a.making.first_number a.making.first_place in
-    let w = well m law a.making base a.state.state a.events.items c.self.invariant.kept.history in
-    pick_fits m law a.making.max_queue (entry_count a.making.shape) a.making.first_number a.state.state w a.making.order a.last c.in-Some.event (rw c.order.ensures at (sym c.in-Some.ensures))
+    let e = c.in-Some.event in
+    let fits = kept_fits m a.making law a.base a.state a.history a.last a.ran a.ended_before e c.self.invariant (rw c.order.ensures at (sym c.in-Some.ensures.picked)) in
+    let is = rw (c.max_queue-limit.ensures, c.pick.ensures.same) at c.perform.ensures.state in
+    rw (ap (λ s. s.state) is, ← c.self.invariant.counted) (owed_falls m law a.making.max_queue a.state.state e fits)
 
-pub push_reserved-requires : goal.push_reserved-requires
-push_reserved-requires g c =
+pub note-requires-clause-once : goal.note-requires-clause-once
+note-requires-clause-once g c =
     let law = g.met.U.Unit.lawful in
     let m = g.U.Unit.meaning in
     let a = c.self.inside in
-    let base = opening_base a.making.opening a.making.first_number a.making.first_place in
-    let w = well m law a.making base a.state.state a.events.items c.self.invariant.kept.history in
-    let f = pick_fits m law a.making.max_queue (entry_count a.making.shape) a.making.first_number a.state.state w a.making.order a.last c.in-Some.event (rw c.order.ensures at (sym c.in-Some.ensures)) in
-    omega (arith, owed_one m law a.making.max_queue a.state.state c.in-Some.event f, c.self.invariant.room, c.self.invariant.kept.counted)
+    let e = c.in-Some.event in
+    let fits = kept_fits m a.making law a.base a.state a.history a.last a.ran a.ended_before e c.self.invariant (rw c.order.ensures at (sym c.in-Some.ensures.picked)) in
+    let is = rw (c.max_queue-limit.ensures, c.pick.ensures.same) at c.perform.ensures.state in
+    let may = may_note_inner m a.making law a.base a.state c.perform.new.self.state a.history a.last a.ran a.ended_before e c.self.invariant fits (ap (λ s. s.state) is) in
+    may.once
 
-pub overflow_sub-self : goal.overflow_sub-self
-overflow_sub-self g c =
+pub note-requires-clause-calls : goal.note-requires-clause-calls
+note-requires-clause-calls g c =
     let law = g.met.U.Unit.lawful in
     let m = g.U.Unit.meaning in
     let a = c.self.inside in
-    let base = opening_base a.making.opening a.making.first_number a.making.first_place in
-    let w = well m law a.making base a.state.state a.events.items c.self.invariant.kept.history in
-    let f = pick_fits m law a.making.max_queue (entry_count a.making.shape) a.making.first_number a.state.state w a.making.order a.last c.in-Some.event (rw c.order.ensures at (sym c.in-Some.ensures)) in
-    omega (arith, owed_one m law a.making.max_queue a.state.state c.in-Some.event f, c.self.invariant.kept.counted)
+    let e = c.in-Some.event in
+    let fits = kept_fits m a.making law a.base a.state a.history a.last a.ran a.ended_before e c.self.invariant (rw c.order.ensures at (sym c.in-Some.ensures.picked)) in
+    let is = rw (c.max_queue-limit.ensures, c.pick.ensures.same) at c.perform.ensures.state in
+    let may = may_note_inner m a.making law a.base a.state c.perform.new.self.state a.history a.last a.ran a.ended_before e c.self.invariant fits (ap (λ s. s.state) is) in
+    may.calls
+
+pub note-requires-clause-outcomes : goal.note-requires-clause-outcomes
+note-requires-clause-outcomes g c =
+    let law = g.met.U.Unit.lawful in
+    let m = g.U.Unit.meaning in
+    let a = c.self.inside in
+    let e = c.in-Some.event in
+    let fits = kept_fits m a.making law a.base a.state a.history a.last a.ran a.ended_before e c.self.invariant (rw c.order.ensures at (sym c.in-Some.ensures.picked)) in
+    let is = rw (c.max_queue-limit.ensures, c.pick.ensures.same) at c.perform.ensures.state in
+    let may = may_note_inner m a.making law a.base a.state c.perform.new.self.state a.history a.last a.ran a.ended_before e c.self.invariant fits (ap (λ s. s.state) is) in
+    subst (λ l. AreOutcomes a.history (take (length l) c.perform.new.self.state.ended)) (sym (c.ended-ended_before.ensures ∙ ap (λ s. s.state.ended) c.pick.ensures.same)) may.outcomes
 
 pub invariant_of-self : goal.invariant_of-self
 invariant_of-self g c =
     let law = g.met.U.Unit.lawful in
     let m = g.U.Unit.meaning in
     let a = c.self.inside in
-    let base = opening_base a.making.opening a.making.first_number a.making.first_place in
-    let w = well m law a.making base a.state.state a.events.items c.self.invariant.kept.history in
-    let f = pick_fits m law a.making.max_queue (entry_count a.making.shape) a.making.first_number a.state.state w a.making.order a.last c.in-Some.event (rw c.order.ensures at (sym c.in-Some.ensures)) in
-    let is = rw c.max_queue.ensures at c.perform.ensures.state in
-    rw (c.push_reserved.ensures.items, c.served_by-self-inside.ensures) (record {
-      kept = kept_goes_on m a.making base a.state.state c.perform.new.self.state a.events.items a.last a.owed a.ended_before (a.owed - 1) a.ended_before c.in-Some.event c.self.invariant.kept (needs_from_fits m a.state.state c.in-Some.event f) (public_from_fits m a.making.shape a.state.state c.in-Some.event f) is (rw is (omega (arith, owed_falls m law a.making.max_queue a.state.state c.in-Some.event f, c.self.invariant.kept.counted))) c.self.invariant.kept.shown;
-      room = omega (arith, owed_one m law a.making.max_queue a.state.state c.in-Some.event f, c.self.invariant.kept.counted, c.self.invariant.room, c.push_reserved.ensures.len, c.push_reserved.ensures.capacity);
-    })
+    let e = c.in-Some.event in
+    let fits = kept_fits m a.making law a.base a.state a.history a.last a.ran a.ended_before e c.self.invariant (rw c.order.ensures at (sym c.in-Some.ensures.picked)) in
+    let is = rw (c.max_queue-limit.ensures, c.pick.ensures.same) at c.perform.ensures.state in
+    let at = (rw (c.place.ensures, c.pick.ensures.same) at (c.perform.ensures.places (arrived_by m a.making a.base a.state.state a.history.events))) c.self.invariant.placed in
+    rw c.served_by-self-inside.ensures (kept_goes_in m a.making law a.base a.state c.perform.new.self a.history c.note.new.history a.last a.ran a.ended_before e c.self.invariant fits is at c.note.ensures.rest c.note.ensures.len c.note.ensures.outcomes)
 
 pub returns-in-Some-clause-falls : goal.returns-in-Some-clause-falls
 returns-in-Some-clause-falls g c =
     let law = g.met.U.Unit.lawful in
     let m = g.U.Unit.meaning in
     let a = c.self.inside in
-    let base = opening_base a.making.opening a.making.first_number a.making.first_place in
-    let w = well m law a.making base a.state.state a.events.items c.self.invariant.kept.history in
-    let f = pick_fits m law a.making.max_queue (entry_count a.making.shape) a.making.first_number a.state.state w a.making.order a.last c.in-Some.event (rw c.order.ensures at (sym c.in-Some.ensures)) in
-    rw (rw c.max_queue.ensures at c.perform.ensures.state, ← ap (λ view. view.state) c.self.view_is) (weight_falls m law a.making.max_queue a.state.state c.in-Some.event f)
+    let e = c.in-Some.event in
+    let fits = kept_fits m a.making law a.base a.state a.history a.last a.ran a.ended_before e c.self.invariant (rw c.order.ensures at (sym c.in-Some.ensures.picked)) in
+    let is = rw (c.max_queue-limit.ensures, c.pick.ensures.same) at c.perform.ensures.state in
+    rw (ap (λ s. s.state) is, ← ap (λ view. view.object.state) c.self.view_is) (weight_falls m law a.making.max_queue a.state.state e fits)
 
 pub returns-in-None-clause-falls : goal.returns-in-None-clause-falls
 returns-in-None-clause-falls g c =
     let m = g.U.Unit.meaning in
     let a = c.self.inside in
-    let base = opening_base a.making.opening a.making.first_number a.making.first_place in
-    let w = well m g.met.U.Unit.lawful a.making base a.state.state a.events.items c.self.invariant.kept.history in
-    rw (← ap (λ view. view.state) c.self.view_is) (pick_none_rests m g.met.U.Unit.lawful a.making.max_queue (entry_count a.making.shape) a.making.first_number a.state.state w a.making.order a.last (rw c.order.ensures at (sym c.in-None.ensures)))
+    rw c.pick.ensures.same (kept_rests m a.making g.met.U.Unit.lawful a.base a.state a.history a.last a.ran a.ended_before c.self.invariant (rw c.order.ensures at (sym c.in-None.ensures.picked)))

@@ -1,0 +1,82 @@
+-- The outcomes that a history keeps, after one more call has ended.
+use Rattle.std.proofs.Common.{◌≡◌, ◌≢◌, ℕ, zero, suc, ◌+◌, ◌==◌, ◌<◌, ◌≤◌, List, [], ◌∷◌, ◌++◌, length, ◌-◌, take, drop, get_or, length-take, length-drop, refl, sym, ◌∙◌, arith, inl, inr, Bool, true, false, cond, Option, Some, None, subst}
+use Rattle.std.specs.List.{find, count_by}
+use Rattle.std.specs.Option.{option_or}
+use Rattle.std.proofs.lemmas.List.{take_more, get_or-take, get_or-drop}
+use Rattle.std.proofs.lemmas.List.Folds.{find-append}
+use Rattle.std.proofs.lemmas.List.Sums.{count_by_more_yes, sum_by-take-le}
+use Rattle.std.proofs.lemmas.Bool.Decides.{nat_tests}
+use Rattle.std.proofs.lemmas.Bool.{cases_eq}
+use Rattle.po_history.specs.Histories.{HistoryView, outcome_of}
+use Rattle.po_actions.specs.declared.ended.Ended.{Ended}
+use Rattle.po_actions.specs.Step.{has_ended}
+use Rattle.po_actions.specs.Outcomes.{AreOutcomes}
+use Rattle.po_actions.proofs.Picks.{eq_self}
+use Rattle.po_actions.proofs.Sums.{sum_by-cons}
+
+module _ {X : Type 0} (p : X → Bool) where
+  none_there : (b : Bool) (x : X) (xs : List X) → p x ≡ b → cond b 1 0 + count_by p xs ≡ 0 → (count_by p xs ≡ 0 → find p xs ≡ None) → cond b (Some x) (find p xs) ≡ None
+  none_there true x xs e h k = absurd (omega arith)
+  none_there false x xs e h k = k (omega arith)
+
+  -- Where none is counted, none is found.
+  pub none_counted : (xs : List X) → count_by p xs ≡ 0 → find p xs ≡ None
+  none_counted [] h = refl
+  none_counted (x ∷ xs) h = none_there (p x) x xs refl (sym (sum_by-cons (λ y. cond (p y) 1 0) x xs) ∙ h) (none_counted xs)
+
+  -- What passes is counted.
+  pub counted_at : (xs : List X) (i : ℕ) (d : X) → i < length xs → p (get_or xs i d) ≡ true → 1 ≤ count_by p xs
+  counted_at xs i d lt t =
+      let more : count_by p (take (i + 1) xs) ≡ count_by p (take i xs) + 1 = count_by_more_yes p xs i d lt t in
+      omega (arith, more, sum_by-take-le (λ y. cond (p y) 1 0) xs (i + 1))
+
+or_none : {X : Type 0} (o : Option X) → option_or o None ≡ o
+or_none None = refl
+or_none (Some x) = refl
+
+differs : (k n : ℕ) → n ≢ k → (k == n) ≡ false
+differs k n h = grind (arith, nat_tests)
+
+nothing_more : {X : Type 0} (xs : List (Option X)) (i : ℕ) → get_or (xs ++ None ∷ []) i None ≡ get_or xs i None
+nothing_more [] zero = refl
+nothing_more [] (suc i) = refl
+nothing_more (x ∷ xs) zero = refl
+nothing_more (x ∷ xs) (suc i) = nothing_more xs i
+
+module _ {V : Type 0} where
+  -- A place for one more outcome changes no outcome.
+  pub outcomes_reserved : (h : HistoryView V) (room n : ℕ) → outcome_of (record h { owed = room; outcomes = h.outcomes ++ None ∷ [] }) n ≡ outcome_of h n
+  outcomes_reserved h room n = rw (nothing_more h.outcomes (n - h.first_number)) refl
+
+  -- A call that ends but once isn't among the earlier ended calls.
+  pub not_earlier : (xs : List (Ended V)) (i : ℕ) (x : Ended V) → i < length xs → x ≡ get_or xs i x → count_by (has_ended x.number) xs ≤ 1 → find (has_ended x.number) (take i xs) ≡ None
+  not_earlier xs i x lt is once =
+      let test = has_ended x.number in
+      let here : test (get_or xs i x) ≡ true = subst (λ y. test y ≡ true) is (eq_self x.number) in
+      let more : count_by test (take (i + 1) xs) ≡ count_by test (take i xs) + 1 = count_by_more_yes test xs i x lt here in
+      let some : count_by test (take (i + 1) xs) ≤ count_by test xs = sum_by-take-le (λ y. cond (test y) 1 0) xs (i + 1) in
+      none_counted test (take i xs) (omega (arith, more, some, once))
+
+  last_found : (xs : List (Ended V)) (x : Ended V) → find (has_ended x.number) xs ≡ None → find (has_ended x.number) (xs ++ x ∷ []) ≡ Some x
+  last_found xs x h = rw (find-append, h, eq_self) refl
+
+  other_found : (xs : List (Ended V)) (x : Ended V) (n : ℕ) → n ≢ x.number → find (has_ended n) (xs ++ x ∷ []) ≡ find (has_ended n) xs
+  other_found xs x n h = rw (find-append, differs x.number n h) (or_none (find (has_ended n) xs))
+
+  -- The outcomes are those of the ended calls, with one more.
+  outcomes_push : (old new : HistoryView V) (xs : List (Ended V)) (x : Ended V) → find (has_ended x.number) xs ≡ None → AreOutcomes old xs → outcome_of new x.number ≡ Some x.end → ((m : ℕ) → m ≢ x.number → outcome_of new m ≡ outcome_of old m) → AreOutcomes new (xs ++ x ∷ [])
+  outcomes_push old new xs x none h set others = λ n. elim (cases_eq n x.number) [
+    | inl same ↦ rw (same, last_found xs x none) set
+    | inr other ↦ rw (other_found xs x n other) (others n other ∙ h n)
+  ]
+
+  -- The same, by the place of the call among the ended ones.
+  pub outcomes_more : (old new : HistoryView V) (xs : List (Ended V)) (i : ℕ) (x : Ended V) → i < length xs → x ≡ get_or xs i x → count_by (has_ended x.number) xs ≤ 1 → AreOutcomes old (take i xs) → outcome_of new x.number ≡ Some x.end → ((m : ℕ) → m ≢ x.number → outcome_of new m ≡ outcome_of old m) → AreOutcomes new (take (i + 1) xs)
+  outcomes_more old new xs i x lt is once h set others =
+      rw (take_more xs i x lt, ← is) (outcomes_push old new (take i xs) x (not_earlier xs i x lt is once) h set others)
+
+  -- The place of a call among all, by its place among the later ones.
+  pub later_item : (xs : List (Ended V)) (k i : ℕ) (x : Ended V) → i < length (take (length xs - k) (drop k xs)) → x ≡ get_or (take (length xs - k) (drop k xs)) i x → (k + i < length xs) × (x ≡ get_or xs (k + i) x)
+  later_item xs k i x lt is =
+      let below : i < length xs - k = omega (arith, lt, length-take (length xs - k) (drop k xs), length-drop k xs) in
+      (omega (arith, below), is ∙ (get_or-take (length xs - k) (drop k xs) i x below ∙ get_or-drop k xs i x))

@@ -1,0 +1,27 @@
+-- What contracts see of a state inside of this crate.
+use Rattle.std.specs.Prelude.{ℕ, ◌≤◌, List, Option, Bool}
+use Rattle.std.specs.List.{All}
+use Rattle.po_unit.specs.Meaning.{Meaning}
+use Rattle.po_calls.specs.declared.call.Call.{Call}
+use Rattle.po_actions.specs.ObjectState.{ObjectState}
+use Rattle.po_actions.specs.Calls.{CallsView}
+
+-- What contracts see of a state beside it: where its calls arrived, its tickets, and whether there is room for a call.
+pub record StateView (S V : Type 0) : Type 0 where
+  pub state : ObjectState S V
+  -- of each waiting call the place in the history at which it arrived
+  pub places : List ℕ
+  -- the call that is being served: it isn't queued, and hasn't ended
+  pub hand : Option (Call V)
+  -- by key the number of the uncollected call whose ticket has that key
+  pub tickets : List (Option ℕ)
+  pub has_room : Bool
+
+module _ {S V : Type 0} where
+  -- the state of an object with this data and these calls
+  abbrev pub state_with_calls : S → CallsView V → Bool → ObjectState S V
+  state_with_calls u calls finalized = record { unit = u; waiting = calls.waiting; ended = calls.ended; next = calls.next; clock = calls.clock; finalized = finalized }
+
+  -- Each of the calls may be requeued 255 times at most: a rank is a byte (this project's own).
+  abbrev pub AreLow : Meaning S V → List (Call V) → Type 0
+  AreLow m calls = All (λ x. m.rank x.entry x.value ≤ 255) calls

@@ -1,0 +1,84 @@
+//! The program `po_bench`: what commands on a core cost.
+//!
+//! A measurement is taken in batches of commands, and what counts is the batch in which a command took the least, since
+//! what else the machine does can only add to it; in `history` it is the average over all batches. Each batch of calls and
+//! of procedures that is measured against the mutex has a core of its own, so that each pays for the growth of its history.
+//!
+//! Without an argument, or with the argument `small`, the batches are small, and how many commands did what they were
+//! to do is all that is printed. With the argument `full` a line has the measurement's name, how many commands were
+//! carried out in all batches, the nanoseconds that one took, and their ratio: to those of a lock and unlock of a mutex
+//! or, where names end in a number, to those of the same measurement with the lower number. A number behind `full` is
+//! how many calls wait in place of 64,000.
+#![tactic(auto)]
+
+mod against_mutex;
+mod commands;
+mod cores;
+mod entries;
+mod history;
+mod measure;
+mod plan;
+mod report;
+mod waiting;
+
+use plan::{MANY, Plan};
+use std::env::{Env, args};
+use std::io::{self, Eprint, Print};
+use std::process::ExitCode;
+use std::sync::Wait;
+use std::time::Clock;
+
+/// The status of a good end.
+const GOOD: u8 = 0;
+
+/// The status where the words of the command line are refused.
+const USAGE: u8 = 2;
+
+/// The status where memory was wanting, or a write or a look at the clock failed.
+const NO_MEANS: u8 = 4;
+
+/// What is said of other words.
+const USAGE_TEXT: &str = "usage: po_bench [small | full [CALLS]]";
+
+/// What the words of the command line ask for, or none where they are refused.
+fn asked<R: Env + AllocGlobal>(rt: &R) -> io::Result<Option<Plan>> {
+    let mut words = args(rt)?.skip(1);
+    let Some(kind) = words.next() else {
+        return Ok(Some(Plan::small()));
+    };
+    match (kind.as_str(), words.next()) {
+        ("small", None) => Ok(Some(Plan::small())),
+        ("full", None) => Ok(Some(Plan::full(MANY))),
+        ("full", Some(calls)) => Ok(calls.parse().ok().map(Plan::full)),
+        _ => Ok(None),
+    }
+}
+
+/// Takes and prints all measurements.
+fn print_all<R: Print + Clock + Wait + AllocGlobal>(rt: &R, plan: &Plan) -> io::Result<()> {
+    against_mutex::print(rt, plan)?;
+    waiting::print(rt, plan)?;
+    entries::print(rt, plan)?;
+    history::print(rt, plan)
+}
+
+/// Does what the command line asks for, and gives the status.
+fn start<R: Env + Print + Eprint + Clock + Wait + AllocGlobal>(rt: &R) -> io::Result<u8> {
+    let Some(plan) = asked(rt)? else {
+        eprintln!(rt; "{USAGE_TEXT}")?;
+        return Ok(USAGE);
+    };
+    print_all(rt, &plan)?;
+    Ok(GOOD)
+}
+
+fn main(rt: HostRuntime) -> ExitCode {
+    let status = match start(&rt) {
+        Ok(status) => status,
+        Err(error) => {
+            let _ = eprintln!(rt; "po_bench: {error}");
+            NO_MEANS
+        }
+    };
+    ExitCode::from(status)
+}

@@ -1,0 +1,60 @@
+//! What batches of commands took.
+
+use std::io;
+use std::time::{Clock, Instant};
+
+/// What the batches of one measurement took.
+#[derive(Clone, Copy)]
+pub struct Measure {
+    /// How many commands of all batches did what they were to do.
+    pub commands: u64,
+    /// How many nanoseconds all batches took.
+    nanos: u64,
+    /// How many picoseconds a command took: in the batch in which it took the least, or on the average.
+    picos: u64,
+}
+
+impl Measure {
+    /// No batch.
+    pub fn new() -> Measure {
+        Measure {
+            commands: 0,
+            nanos: 0,
+            picos: u64::MAX,
+        }
+    }
+
+    /// Adds a batch of so many commands, which began at `start` and ends now.
+    pub fn add<R: Clock>(&mut self, rt: &R, start: Instant, commands: u64) -> io::Result<()> {
+        let nanos = u64::try_from(start.elapsed(rt)?.as_nanos()).unwrap_or(u64::MAX);
+        self.commands = self.commands.saturating_add(commands);
+        self.nanos = self.nanos.saturating_add(nanos);
+        self.picos = self.picos.min(picos_of(nanos, commands));
+        Ok(())
+    }
+
+    /// The same, with what a command took on the average over all batches.
+    pub fn average(self) -> Measure {
+        Measure {
+            picos: picos_of(self.nanos, self.commands),
+            ..self
+        }
+    }
+
+    /// The tenths of nanoseconds that a command took.
+    pub fn tenths(self) -> u64 {
+        self.picos / 100
+    }
+
+    /// The hundredths of what a command of the other measurement took that one of this took.
+    pub fn hundredths_of(self, other: Measure) -> u64 {
+        let hundredths = self.picos.saturating_mul(100);
+        hundredths.checked_div(other.picos).unwrap_or(0)
+    }
+}
+
+/// The picoseconds that one of so many commands took, or the most where there is none.
+fn picos_of(nanos: u64, commands: u64) -> u64 {
+    let picos = nanos.saturating_mul(1_000).checked_div(commands);
+    picos.unwrap_or(u64::MAX)
+}

@@ -1,0 +1,47 @@
+//! A part of a history that was cut off.
+
+ghost use Rattle.std.specs.Prelude.{◌≡◌};
+
+use crate::event::Event;
+use std::marker::Model;
+
+/// A part of a history that was cut off, to be kept elsewhere or let go.
+#[derive(Debug, Drop)]
+pub struct Volume<V: Copy> {
+    first_place: u64,
+    events: Vec<Event<V>>,
+}
+
+impl<V: Copy> Model for Volume<V> {
+    ghost use Rattle.po_history.specs.Histories.{VolumeView};
+
+    ghost Value = { VolumeView V };
+
+    ghost view = { λ v. record { first_place = v.first_place; events = v.events.items } };
+}
+
+impl<V: Copy> Volume<V> {
+    /// The volume of these events, of which the first has this place.
+    pub(crate) fn new(first_place: u64, events: Vec<Event<V>>) -> Volume<V>
+        ensures { result ≡ record { first_place = first_place; events = events.items } }
+    {
+        Volume {
+            first_place,
+            events,
+        }
+    }
+
+    /// The place of its first event in the whole history, counted from the place at which the object was started.
+    pub fn first_place(&self) -> u64
+        ensures { result ≡ self.now.first_place }
+    {
+        self.first_place
+    }
+
+    /// Its events, in their order.
+    pub fn events(&self) -> &[Event<V>]
+        ensures { result.now ≡ self.now.events }
+    {
+        self.events.as_slice()
+    }
+}
