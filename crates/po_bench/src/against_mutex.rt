@@ -84,7 +84,7 @@ fn measure_read<R: Clock + AllocGlobal>(
 }
 
 /// Measures all, and prints what they take.
-pub fn print<R: Print + Clock + Wait + AllocGlobal>(rt: &R, plan: &Plan) -> io::Result<()> {
+pub(crate) fn print<R: Print + Clock + Wait + AllocGlobal>(rt: &R, plan: &Plan) -> io::Result<()> {
     let mut mutex = Measure::new();
     let mut call = Measure::new();
     let mut procedure = Measure::new();

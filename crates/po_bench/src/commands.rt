@@ -23,11 +23,11 @@ const WAIT: EntryRef = EntryRef {
 const STATE: u16 = 0;
 
 /// A level at which the first entry is open.
-pub const OPEN: u64 = 3;
+pub(crate) const OPEN: u64 = 3;
 
 /// A command on a trap.
 #[derive(Clone, Copy)]
-pub enum Command {
+pub(crate) enum Command {
     /// A call on the first entry, which is open, and its collection.
     Call,
     /// The same as a conditional call, which is cancelled where the entry is closed (9.7.3).
@@ -50,12 +50,12 @@ impl Command {
     }
 
     /// Carries the command out so many times, and answers how often it did what it is to do.
-    pub fn repeat(self, core: &mut Core<Trap>, times: u64) -> u64 {
+    pub(crate) fn repeat(self, core: &mut Core<Trap>, times: u64) -> u64 {
         (0..times).filter(|_| self.carry_out(core)).count() as u64
     }
 
     /// Adds a batch of the command to the measure.
-    pub fn measure<R: Clock>(
+    pub(crate) fn measure<R: Clock>(
         self,
         rt: &R,
         core: &mut Core<Trap>,
@@ -75,6 +75,6 @@ fn call(core: &mut Core<Trap>, deadline: Deadline) -> Option<End<u64>> {
 }
 
 /// What the function replies.
-pub fn read(core: &Core<Trap>) -> Option<u64> {
+pub(crate) fn read(core: &Core<Trap>) -> Option<u64> {
     core.read(STATE, 0).ok()?.ok()
 }

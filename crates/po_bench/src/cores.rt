@@ -12,6 +12,6 @@ fn make(alloc: Global) -> Option<Core<Trap>> {
 }
 
 /// A trap at the level 0, unless memory is wanting.
-pub fn trap(alloc: Global) -> Result<Core<Trap>, AllocError> {
+pub(crate) fn trap(alloc: Global) -> Result<Core<Trap>, AllocError> {
     make(alloc).ok_or(AllocError)
 }

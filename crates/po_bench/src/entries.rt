@@ -65,7 +65,7 @@ fn measure<R: Clock + AllocGlobal>(rt: &R, plan: &Plan, size: u16) -> io::Result
 }
 
 /// Measures the procedure on both, and prints what it takes.
-pub fn print<R: Print + Clock + AllocGlobal>(rt: &R, plan: &Plan) -> io::Result<()> {
+pub(crate) fn print<R: Print + Clock + AllocGlobal>(rt: &R, plan: &Plan) -> io::Result<()> {
     let few = measure(rt, plan, SMALL)?;
     let many = measure(rt, plan, Allocator::MAX_SIZE)?;
     pair(

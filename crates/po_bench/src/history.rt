@@ -38,7 +38,7 @@ fn go_on<R: Clock>(
 }
 
 /// Measures calls at both ends of histories, and prints what they take.
-pub fn print<R: Print + Clock + AllocGlobal>(rt: &R, plan: &Plan) -> io::Result<()> {
+pub(crate) fn print<R: Print + Clock + AllocGlobal>(rt: &R, plan: &Plan) -> io::Result<()> {
     let mut first = Measure::new();
     let mut last = Measure::new();
     let mut cores = Vec::new(rt.alloc());

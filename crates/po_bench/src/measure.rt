@@ -5,7 +5,7 @@ use std::time::{Clock, Instant};
 
 /// What the batches of one measurement took.
 #[derive(Clone, Copy)]
-pub struct Measure {
+pub(crate) struct Measure {
     /// How many commands of all batches did what they were to do.
     pub commands: u64,
     /// How many nanoseconds all batches took.
@@ -16,7 +16,7 @@ pub struct Measure {
 
 impl Measure {
     /// No batch.
-    pub fn new() -> Measure {
+    pub(crate) fn new() -> Measure {
         Measure {
             commands: 0,
             nanos: 0,
@@ -25,7 +25,12 @@ impl Measure {
     }
 
     /// Adds a batch of so many commands, which began at `start` and ends now.
-    pub fn add<R: Clock>(&mut self, rt: &R, start: Instant, commands: u64) -> io::Result<()> {
+    pub(crate) fn add<R: Clock>(
+        &mut self,
+        rt: &R,
+        start: Instant,
+        commands: u64,
+    ) -> io::Result<()> {
         let nanos = u64::try_from(start.elapsed(rt)?.as_nanos()).unwrap_or(u64::MAX);
         self.commands = self.commands.saturating_add(commands);
         self.nanos = self.nanos.saturating_add(nanos);
@@ -34,7 +39,7 @@ impl Measure {
     }
 
     /// The same, with what a command took on the average over all batches.
-    pub fn average(self) -> Measure {
+    pub(crate) fn average(self) -> Measure {
         Measure {
             picos: picos_of(self.nanos, self.commands),
             ..self
@@ -42,12 +47,12 @@ impl Measure {
     }
 
     /// The tenths of nanoseconds that a command took.
-    pub fn tenths(self) -> u64 {
+    pub(crate) fn tenths(self) -> u64 {
         self.picos / 100
     }
 
     /// The hundredths of what a command of the other measurement took that one of this took.
-    pub fn hundredths_of(self, other: Measure) -> u64 {
+    pub(crate) fn hundredths_of(self, other: Measure) -> u64 {
         let hundredths = self.picos.saturating_mul(100);
         hundredths.checked_div(other.picos).unwrap_or(0)
     }

@@ -1,11 +1,11 @@
 //! How much is measured.
 
 /// How many calls wait where many do, unless the command line says it.
-pub const MANY: u64 = 64_000;
+pub(crate) const MANY: u64 = 64_000;
 
 /// How much is measured, and whether times are printed.
 #[derive(Drop)]
-pub struct Plan {
+pub(crate) struct Plan {
     /// Whether times are printed, or counts alone.
     pub times: bool,
     /// How many batches a measurement has.
@@ -30,7 +30,7 @@ pub struct Plan {
 
 impl Plan {
     /// Counts alone.
-    pub fn small() -> Plan {
+    pub(crate) fn small() -> Plan {
         Plan {
             times: false,
             batches: 2,
@@ -46,7 +46,7 @@ impl Plan {
     }
 
     /// Times, with so many calls that wait where many do.
-    pub fn full(many: u64) -> Plan {
+    pub(crate) fn full(many: u64) -> Plan {
         Plan {
             times: true,
             batches: 25,

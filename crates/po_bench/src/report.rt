@@ -5,7 +5,7 @@ use crate::plan::Plan;
 use std::io::{self, Print};
 
 /// Prints a measurement: its name, its commands, the nanoseconds of one, and their ratio to those of the unit.
-pub fn line<R: Print>(
+pub(crate) fn line<R: Print>(
     rt: &R,
     plan: &Plan,
     name: &str,
@@ -27,7 +27,7 @@ pub fn line<R: Print>(
 }
 
 /// Prints a measurement at two sizes. The ratio of the second line is the second to the first.
-pub fn pair<R: Print + AllocGlobal>(
+pub(crate) fn pair<R: Print + AllocGlobal>(
     rt: &R,
     plan: &Plan,
     name: &str,

@@ -136,7 +136,7 @@ fn measure<R: Clock + AllocGlobal>(rt: &R, plan: &Plan, calls: u64) -> io::Resul
 }
 
 /// Measures the commands while few and while many calls wait, and prints what they take.
-pub fn print<R: Print + Clock + AllocGlobal>(rt: &R, plan: &Plan) -> io::Result<()> {
+pub(crate) fn print<R: Print + Clock + AllocGlobal>(rt: &R, plan: &Plan) -> io::Result<()> {
     let few = measure(rt, plan, plan.few)?;
     let many = measure(rt, plan, plan.many)?;
     for (name, few, many) in [
