@@ -1,6 +1,6 @@
 -- Where a call is, by what the table keeps of it, and what stays once it is collected.
-use Rattle.std.proofs.Common.{◌≡◌, ℕ, zero, suc, true, eqb, List, [], ◌∷◌, map, Option, Some, None, refl, sym, ap, ◌∙◌, subst, inl, inr, if◌then◌else◌}
-use Rattle.std.specs.List.{find, slice_index_or}
+use Rattle.std.proofs.Common.{◌≡◌, ℕ, true, eqb, List, Option, Some, None, refl, sym, ap, ◌∙◌, subst, inl, inr, if◌then◌else◌}
+use Rattle.std.specs.List.{find}
 use Rattle.std.specs.Prelude.{option_map}
 use Rattle.std.proofs.lemmas.Bool.{cases_Bool, cases_eq, eqb-true}
 use Rattle.slab.specs.Slab.{Slab, get, Updates}
@@ -10,27 +10,18 @@ use Rattle.po_calls.specs.declared.end.End.{End}
 use Rattle.po_calls.specs.declared.end.Place.TheVariants.{Unknown}
 use Rattle.po_calls.specs.declared.kept.Kept.{Kept}
 use Rattle.po_calls.specs.declared.ticket.Ticket.{Ticket}
-use Rattle.po_calls.specs.Calls.{CallTable, waiting_call, with_number, kept, place_of, place_with_end, end_of}
+use Rattle.po_calls.specs.Calls.{CallTable, waiting_call, with_number, kept, place_of, place_with_end, end_of, numbers_of}
 use Rattle.po_actions.specs.declared.ended.Ended.{Ended}
 use Rattle.po_queues.specs.Arrived.{Arrived, EntryQueuesView, arrived_keys}
 use Rattle.po_actions.specs.Step.{IsFound, has_ended}
 use Rattle.po_actions.specs.WaitingCalls.{has_number}
-use Rattle.po_actions.specs.Tickets.{number_at, is_number, is_live, place_by, end_at}
-use Rattle.po_actions.specs.Calls.{call_at, waiting_in, of_key, numbers_in, IsQueued, IsKeptWell, IsInHand}
+use Rattle.po_actions.specs.Tickets.{is_number, place_by, place_among, end_at}
+use Rattle.po_actions.specs.Calls.{call_at, waiting_in, of_key, IsQueued, IsKeptWell, IsInHand}
 use Rattle.po_actions.proofs.HandSteps.{no_hand}
+use Rattle.po_actions.proofs.KeptSteps.{number_kept}
 use Rattle.po_actions.proofs.CallReads.{number_call, waiting_kept, queued_kept}
 
 module _ {V : Type 0} where
-  mapped_at : (slots : List (Option (Kept V))) (k : ℕ)
-      → slice_index_or (map (option_map (λ c. c.call.number)) slots) k None ≡ option_map (λ c. c.call.number) (slice_index_or slots k None)
-  mapped_at [] k = refl
-  mapped_at (o ∷ os) zero = refl
-  mapped_at (o ∷ os) (suc k) = mapped_at os k
-
-  -- the number at a key is that of the call that is kept there
-  number_kept : (calls : Slab (Kept V)) (k : ℕ) → number_at (numbers_in calls) k ≡ option_map (λ c. c.call.number) (get calls k)
-  number_kept calls k = mapped_at calls.slots k
-
   place_found : (calls : Slab (Kept V)) (index : ℕ → Option ℕ) (queues : EntryQueuesView) (ended : List (Ended V)) (k : ℕ) (c : Kept V) (o : Option (Ended V))
       → IsQueued (call_at calls) index queues None → IsKeptWell calls index ended → get calls k ≡ Some c
       → find (has_ended c.call.number) ended ≡ o
@@ -61,10 +52,10 @@ module _ {V : Type 0} where
   pub place_is : (table : CallTable V) (index : ℕ → Option ℕ) (queues : EntryQueuesView) (hand : Option ℕ) (ended : List (Ended V)) (ticket : Ticket)
       → IsQueued (call_at table.calls) index queues hand → of_key (call_at table.calls) hand ≡ None
       → IsKeptWell table.calls index ended
-      → place_of (kept table ticket) ≡ (if is_live (numbers_in table.calls) ticket then place_by (find (has_ended ticket.number) ended) (find (has_number ticket.number) (waiting_in (call_at table.calls) queues.items)) else Unknown)
+      → place_of (kept table ticket) ≡ place_among (waiting_in (call_at table.calls) queues.items) ended (numbers_of table) ticket
   place_is table index queues hand ended ticket q free w =
       let none = no_hand (call_at table.calls) index queues hand q free in
-      rw (number_kept table.calls ticket.key) (placed table.calls index queues ended ticket (get table.calls ticket.key) (subst (IsQueued (call_at table.calls) index queues) none q) w refl)
+      rw (number_kept table ticket.key) (placed table.calls index queues ended ticket (get table.calls ticket.key) (subst (IsQueued (call_at table.calls) index queues) none q) w refl)
 
   end_with : (o : Option (End V)) → o ≡ end_at (place_with_end o)
   end_with None = refl

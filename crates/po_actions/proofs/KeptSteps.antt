@@ -5,16 +5,16 @@ use Rattle.std.specs.List.{find, slice_get, slice_index_or, All}
 use Rattle.std.proofs.lemmas.Bool.{cases_Bool, cases_eq, eq-eqb, ne_eqb, le-ltb}
 use Rattle.std.proofs.lemmas.List.Elements.{All-head, All-tail}
 use Rattle.slab.specs.Slab.{Slab, get, Updates}
-use Rattle.po_calls.specs.Calls.{CallTable, IsAbove, waiting_call, with_number, kept}
+use Rattle.po_calls.specs.Calls.{CallTable, IsAbove, waiting_call, with_number, kept, numbers_of}
 use Rattle.po_calls.specs.declared.call.Call.{Call}
 use Rattle.po_calls.specs.declared.end.End.{End}
 use Rattle.po_calls.specs.declared.kept.Kept.{Kept}
 use Rattle.po_actions.specs.declared.ended.Ended.{Ended}
 use Rattle.po_actions.specs.Step.{has_ended, ended_as}
-use Rattle.po_actions.specs.Tickets.{SetsTicket}
+use Rattle.po_actions.specs.Tickets.{SetsTicket, number_at}
 use Rattle.po_queues.specs.QueuedKeys.{occurs}
 use Rattle.po_queues.specs.Arrived.{EntryQueuesView, AreInOrder, arrived_keys, without_arrived}
-use Rattle.po_actions.specs.Calls.{IsQueued, IsKeptWell, KeepsCalls, HasCallRoom, key_of, call_at, numbers_in, hands}
+use Rattle.po_actions.specs.Calls.{IsQueued, IsKeptWell, KeepsCalls, HasCallRoom, key_of, call_at, hands}
 use Rattle.po_actions.proofs.Held.{length_removed}
 use Rattle.po_actions.proofs.HandSteps.{widened, removed}
 
@@ -152,17 +152,21 @@ module _ {V : Type 0} where
       some_same : (j k : ℕ) → Some j ≡ Some k → j ≡ k
       some_same j k e = cc
 
-  number_of : (slots : List (Option (Kept V))) (k : ℕ) → slice_index_or (map (option_map (λ x. x.call.number)) slots) k None ≡ option_map (λ x. x.call.number) (slice_index_or slots k None)
-  number_of [] k = refl
-  number_of (o ∷ os) zero = refl
-  number_of (o ∷ os) (suc k) = number_of os k
+  number_in_slot : (slots : List (Option (Kept V))) (k : ℕ) → slice_index_or (map (option_map (λ x. x.call.number)) slots) k None ≡ option_map (λ x. x.call.number) (slice_index_or slots k None)
+  number_in_slot [] k = refl
+  number_in_slot (o ∷ os) zero = refl
+  number_in_slot (o ∷ os) (suc k) = number_in_slot os k
+
+  -- The number at a key is that of the call that is kept there.
+  pub number_kept : (table : CallTable V) (k : ℕ) → number_at (numbers_of table) k ≡ option_map (λ x. x.call.number) (get table.calls k)
+  number_kept table k = number_in_slot table.calls.slots k
 
   -- The tickets change at the key at which the table changes.
-  pub ticket_set : (old new : Slab (Kept V)) (k : ℕ) (now : Option (Kept V)) → Updates old new k now
-      → SetsTicket (numbers_in old) (numbers_in new) k (option_map (λ x. x.call.number) now)
+  pub ticket_set : (old new : CallTable V) (k : ℕ) (now : Option (Kept V)) → Updates old.calls new.calls k now
+      → SetsTicket (numbers_of old) (numbers_of new) k (option_map (λ x. x.call.number) now)
   ticket_set old new k now u = record {
-    changed = number_of new.slots k ∙ ap (option_map (λ x. x.call.number)) u.changed;
-    others = λ j ne. number_of new.slots j ∙ ap (option_map (λ x. x.call.number)) (u.others j ne) ∙ sym (number_of old.slots j);
+    changed = number_kept new k ∙ ap (option_map (λ x. x.call.number)) u.changed;
+    others = λ j ne. number_kept new j ∙ ap (option_map (λ x. x.call.number)) (u.others j ne) ∙ sym (number_kept old j);
   }
 
 module _ {V : Type 0} where

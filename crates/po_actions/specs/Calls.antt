@@ -9,15 +9,11 @@ use Rattle.po_queues.specs.Arrived.{Arrived, EntryQueuesView, arrived_keys}
 use Rattle.po_calls.specs.declared.call.Call.{Call}
 use Rattle.po_calls.specs.declared.call.Deadline.{Deadline}
 use Rattle.po_calls.specs.declared.call.Deadline.TheVariants.{Never, At}
-use Rattle.po_calls.specs.declared.end.Place.{Place}
-use Rattle.po_calls.specs.declared.end.Place.TheVariants.{Unknown}
 use Rattle.po_calls.specs.declared.kept.Kept.{Kept}
-use Rattle.po_calls.specs.declared.ticket.Ticket.{Ticket}
 use Rattle.po_calls.specs.Calls.{CallTable, waiting_call, IsAbove}
 use Rattle.po_actions.specs.declared.ended.Ended.{Ended}
 use Rattle.po_actions.specs.WaitingCalls.{has_number}
 use Rattle.po_actions.specs.Step.{IsFound, has_ended}
-use Rattle.po_actions.specs.Tickets.{is_live, place_by}
 
 -- What contracts see of the calls.
 pub record CallsView (V : Type 0) : Type 0 where
@@ -37,11 +33,12 @@ pub record CallsView (V : Type 0) : Type 0 where
   -- whether there is room for one more call
   pub has_room : Bool
 
--- the time at which a call expires, if it does: one that a requeue without abort queued doesn't (9.5.4, 9.7.2)
+-- the time of a deadline, if it has one (9.7.2)
 abbrev pub time_of : Deadline → Option ℕ
 time_of Never = None
 time_of (At time) = Some time
 
+-- the time at which a call expires, if it does: one that a requeue without abort queued doesn't (9.5.4, 9.7.2)
 abbrev pub expires_at : {V : Type 0} → Call V → Option ℕ
 expires_at x = if x.sealed then None else time_of x.deadline
 
@@ -79,10 +76,6 @@ module _ {V : Type 0} where
   abbrev pub of_key : (ℕ → Option (Call V)) → Option ℕ → Option (Call V)
   of_key call None = None
   of_key call (Some k) = call k
-
-  -- by key the number of the call that is kept there
-  abbrev pub numbers_in : Slab (Kept V) → List (Option ℕ)
-  numbers_in calls = map (option_map (λ k. k.call.number)) calls.slots
 
   -- The call is queued as it says: on its entry, and to expire at its time; and its number leads to the key.
   pub record IsQueuedAs (index : ℕ → Option ℕ) (i : Arrived) (x : Call V) : Type 0 where
@@ -133,13 +126,6 @@ module _ {V : Type 0} where
     pub each : vec_len ended + length queues.items + hands hand ≡ vec_len keys
     pub for_ended : vec_len keys + (if has_room then 1 else 0) ≤ vec_capacity ended
     pub room : has_room ≡ true → HasCallRoom table.calls queues.reserved keys
-
--- where the call of a ticket is, by what is known of the tickets, the waiting and the ended calls
-abbrev pub place_in : {V : Type 0} → CallsView V → Ticket → Place V
-place_in calls ticket =
-    if is_live calls.tickets ticket
-    then place_by (find (has_ended ticket.number) calls.ended) (find (has_number ticket.number) calls.waiting)
-    else Unknown
 
 -- What all calls keep: no number is twice among the waiting ones, each is below the next one, and each waiting call has
 -- its place.

@@ -8,7 +8,6 @@ use Rattle.po_calls.specs.declared.end.Place.{Place}
 use Rattle.po_calls.specs.declared.end.Place.TheVariants.{Unknown, Waiting, Ended as HasEnded}
 use Rattle.po_calls.specs.declared.ticket.Ticket.{Ticket}
 use Rattle.po_actions.specs.WaitingCalls.{has_number}
-use Rattle.po_actions.specs.ObjectState.{ObjectState}
 use Rattle.po_actions.specs.Step.{has_ended}
 use Rattle.po_actions.specs.View.{View}
 
@@ -47,18 +46,17 @@ end_at Unknown = None
 end_at Waiting = None
 end_at (HasEnded end) = Some end
 
+-- where the call of a ticket is, by the waiting and the ended calls: Unknown where it isn't of an uncollected call
+abbrev pub place_among : {V : Type 0} → List (Call V) → List (Ended V) → List (Option ℕ) → Ticket → Place V
+place_among waiting ended tickets ticket =
+    if is_live tickets ticket
+    then place_by (find (has_ended ticket.number) ended) (find (has_number ticket.number) waiting)
+    else Unknown
+
 module _ {S V : Type 0} where
-  -- where the call with number n is
-  abbrev pub place_of : ObjectState S V → ℕ → Place V
-  place_of s n = place_by (find (has_ended n) s.ended) (find (has_number n) s.waiting)
-
-  -- where the call of a ticket is, by the state and the tickets: Unknown where it isn't of an uncollected call
-  abbrev pub place_of_number : ObjectState S V → List (Option ℕ) → Ticket → Place V
-  place_of_number s tickets ticket = if is_live tickets ticket then place_of s ticket.number else Unknown
-
   -- where the call of a ticket is
   abbrev pub place_of_ticket : CoreView S V → Ticket → Place V
-  place_of_ticket core ticket = place_of_number core.object.state core.tickets ticket
+  place_of_ticket core ticket = place_among core.object.state.waiting core.object.state.ended core.tickets ticket
 
   -- the end of the call of a ticket, if it has ended and isn't collected
   abbrev pub end_of_ticket : CoreView S V → Ticket → Option (End V)

@@ -6,7 +6,7 @@ ghost use Rattle.po_actions.specs.WaitingCalls.{has_number, is_of};
 ghost use Rattle.po_actions.specs.ObjectState.{IsAtRest, counts_in};
 ghost use Rattle.po_actions.specs.Step.{step, has_ended, MayBegin, IsFound};
 ghost use Rattle.po_actions.specs.Pick.{pick, served_last, weight};
-ghost use Rattle.po_actions.specs.View.{next_place, last_served, ended_now, opening_view};
+ghost use Rattle.po_actions.specs.View.{next_place, last_served, base_state, ended_now, opening_view};
 ghost use Rattle.po_actions.specs.Progress.{Settles, Begins, Happens, IsSameCommand};
 ghost use Rattle.po_actions.specs.ProtectedAction.{settled, without_event};
 ghost use Rattle.po_actions.specs.Tickets.{place_of_ticket, end_of_ticket, number_at, SetsTicket};
@@ -339,5 +339,12 @@ impl<U: Unit> Action<U> {
         ensures { result.now ≡ ended_now self.now.object }
     {
         &self.state.ended()[self.ended_before..]
+    }
+
+    /// The calls that had ended at the base, in that order.
+    pub(crate) fn ended_at_base(&self) -> &[Ended<U::Value>]
+        ensures { result.now ≡ (base_state self.now.object).ended }
+    {
+        &self.state.ended()[..self.base.ended]
     }
 }

@@ -9,8 +9,8 @@ use std::alloc::{AllocError, Global};
 use std::marker::Model;
 
 /// The picture of an object that all events before the present ones led to: at first the opening of the object, then the
-/// picture at the last cut of its history. The ends of the calls that had ended by then are the outcomes that the object
-/// still gives.
+/// picture at the last cut of its history. The ends of the calls that had ended by then stay with the object:
+/// `Core::ended_at_base` gives them.
 #[derive(Drop)]
 pub struct Base<U: Unit> {
     pub(crate) unit: U,

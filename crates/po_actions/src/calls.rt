@@ -5,10 +5,10 @@ ghost use Rattle.po_queues.specs.QueuedKeys.{QueuesView};
 ghost use Rattle.po_calls.specs.declared.end.End.TheVariants.{ProgramError};
 ghost use Rattle.po_actions.specs.WaitingCalls.{is_on, is_of, has_number, is_due, counts_of};
 ghost use Rattle.po_actions.specs.Step.{without_first, ended_as, mark};
-ghost use Rattle.po_actions.specs.Tickets.{number_at, SetsTicket, end_at};
+ghost use Rattle.po_actions.specs.Tickets.{number_at, SetsTicket, place_among, end_at};
 ghost use Rattle.std.specs.List.{slice_get};
 ghost use Rattle.po_queues.specs.Arrived.{AreInOrder};
-ghost use Rattle.po_actions.specs.Calls.{CallsView, AreCallsSound, IsKeyOf, call_at, places_without, place_in, key_of};
+ghost use Rattle.po_actions.specs.Calls.{CallsView, AreCallsSound, IsKeyOf, call_at, expires_at as time_of_expiration, places_without, key_of};
 
 use crate::arrival::Arrival;
 use crate::ended::Ended;
@@ -38,7 +38,8 @@ pub(crate) struct Calls<V: Copy> {
 
 impl<V: Copy> Model for Calls<V> {
     ghost use Rattle.std.specs.Prelude.{◌+◌, map, vec_len};
-    ghost use Rattle.po_actions.specs.Calls.{CallsView, KeepsCalls, call_at, waiting_in, of_key, numbers_in};
+    ghost use Rattle.po_actions.specs.Calls.{CallsView, KeepsCalls, call_at, waiting_in, of_key};
+    ghost use Rattle.po_calls.specs.Calls.{numbers_of};
 
     ghost Value = { CallsView V };
 
@@ -47,7 +48,7 @@ impl<V: Copy> Model for Calls<V> {
       places = map (λ i. i.stamp) c.queues.items;
       hand = of_key (call_at c.table.calls) c.hand;
       ended = c.ended.items;
-      tickets = numbers_in c.table.calls;
+      tickets = numbers_of c.table;
       total = c.queues.total;
       next = c.first + vec_len c.keys;
       clock = c.queues.clock;
@@ -59,7 +60,7 @@ impl<V: Copy> Model for Calls<V> {
 
 /// When a call expires, if it does: one that a requeue without abort queued doesn't (9.5.4, 9.7.2).
 fn expires_at<V: Copy>(call: &Call<V>) -> Option<u64>
-    ensures { result ≡ Rattle.po_actions.specs.Calls.expires_at call.now }
+    ensures { result ≡ time_of_expiration call.now }
 {
     match call.deadline {
         Deadline::At(time) if !call.sealed => Some(time),
@@ -335,7 +336,7 @@ impl<V: Copy> Calls<V> {
     /// Where the call of the ticket is.
     pub(crate) fn place(&self, ticket: Ticket) -> Place<V>
         requires { self.now.hand ≡ None }
-        ensures { result ≡ place_in self.now ticket }
+        ensures { result ≡ place_among self.now.waiting self.now.ended self.now.tickets ticket }
     {
         self.table.place(ticket)
     }
@@ -343,7 +344,7 @@ impl<V: Copy> Calls<V> {
     /// Takes the end of the call of the ticket, if it has ended, and makes the ticket Unknown for good.
     pub(crate) fn collect(&mut self, ticket: Ticket) -> Option<End<V>>
         requires { self.old.hand ≡ None }
-        ensures end { result ≡ end_at (place_in self.old ticket) }
+        ensures end { result ≡ end_at (place_among self.old.waiting self.old.ended self.old.tickets ticket) }
         ensures taken { OnSome result (SetsTicket self.old.tickets self.new.tickets ticket.key None) }
         ensures rest { self.new ≡ record self.old { tickets = self.new.tickets; has_room = self.new.has_room } }
         ensures left { IfNone result (self.new ≡ self.old) }

@@ -344,6 +344,13 @@ impl<U: Unit> Core<U> {
         self.action.base()
     }
 
+    /// The calls that had ended at the base, in the order in which they ended.
+    pub fn ended_at_base(&self) -> &[Ended<U::Value>]
+        ensures { result.now ≡ (base_state self.now.object).ended }
+    {
+        self.action.ended_at_base()
+    }
+
     /// Where the call of a ticket is.
     pub fn end_of(&self, ticket: Ticket) -> Place<U::Value>
         ensures { result ≡ place_of_ticket self.now ticket }

@@ -6,7 +6,7 @@ ghost use Rattle.po_actions.specs.ObjectState.{opening_state, counts_in, gate_in
 ghost use Rattle.po_actions.specs.Pick.{turn_of as turn_at, examined, first_some, pick, owed, Fits};
 ghost use Rattle.po_actions.specs.Step.{enter, cancel, abort, advance, finalize, run_procedure, end_call, end_all, queue, land, run_body, take_out, step, arrive, has_ended};
 ghost use Rattle.po_actions.specs.Arrival.{AreAt, noted, call_of};
-ghost use Rattle.po_actions.specs.Tickets.{number_at, SetsTicket, place_of_number, end_at};
+ghost use Rattle.po_actions.specs.Tickets.{number_at, SetsTicket, place_among, end_at};
 ghost use Rattle.po_actions.specs.Calls.{places_without, NamesEntry};
 
 use crate::arrival::Arrival;
@@ -484,7 +484,7 @@ impl<U: Unit> State<U> {
     /// Where the call of the ticket is.
     pub(crate) fn place(&self, ticket: Ticket) -> Place<U::Value>
         requires { self.now.hand ≡ None }
-        ensures { result ≡ place_of_number self.now.state self.now.tickets ticket }
+        ensures { result ≡ place_among self.now.state.waiting self.now.state.ended self.now.tickets ticket }
     {
         self.calls.place(ticket)
     }
@@ -492,7 +492,7 @@ impl<U: Unit> State<U> {
     /// Takes the end of the call of the ticket, if it has ended, and makes the ticket Unknown for good.
     pub(crate) fn collect(&mut self, ticket: Ticket) -> Option<End<U::Value>>
         requires { self.old.hand ≡ None }
-        ensures end { result ≡ end_at (place_of_number self.old.state self.old.tickets ticket) }
+        ensures end { result ≡ end_at (place_among self.old.state.waiting self.old.state.ended self.old.tickets ticket) }
         ensures taken { OnSome result (SetsTicket self.old.tickets self.new.tickets ticket.key None) }
         ensures rest { self.new ≡ record self.old { tickets = self.new.tickets; has_room = self.new.has_room } }
         ensures left { IfNone result (self.new ≡ self.old) }

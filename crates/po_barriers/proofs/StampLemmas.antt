@@ -4,7 +4,7 @@ use Rattle.std.proofs.Common.{Bool, true, false, cond, ltb, eqb, Option, Some, N
 use Rattle.std.specs.List.{All}
 use Rattle.std.proofs.lemmas.Bool.{cases_lt, cases_eq, cases_Bool, lt-ltb, le-ltb, eq-eqb, ne_eqb, eqb-true}
 use Rattle.std.proofs.lemmas.List.Elements.{All-nil, All-cons, All-head, All-tail}
-use Rattle.po_queues.specs.QueuedKeys.{QueuedKey, queue_of, first_of, StampsRise}
+use Rattle.po_queues.specs.QueuedKeys.{QueuedKey, queue_of, first_of, RiseBy}
 use Rattle.po_barriers.specs.declared.look.Look.{Look}
 use Rattle.po_barriers.specs.declared.look.Look.TheVariants.{Quiet, Ready, Broken}
 use Rattle.po_barriers.specs.declared.stamped.Stamped.{Stamped}
@@ -92,7 +92,7 @@ module _ (f : ℕ → Look) where
       (first_later s p xs (All-tail (λ (y : QueuedKey). s < y.stamp) x xs all))
 
   -- the first turn up to one entry more is the older one of two, where there is nothing between
-  older_more : (next e : ℕ) (items : List QueuedKey) → next ≤ e → StampsRise items
+  older_more : (next e : ℕ) (items : List QueuedKey) → next ≤ e → RiseBy (λ x. x.stamp) items
       → All (λ x. next ≤ x.entry → e ≤ x.entry) items
       → first_stamped (λ i. ltb i (e + 1)) f items
       ≡ older (first_stamped (λ i. ltb i next) f items) (first_stamped (λ i. eqb i e) f items)
@@ -124,7 +124,7 @@ module _ (f : ℕ → Look) where
       ]
 
   -- so is the older of what is found and of what one entry has
-  pub older_step : (next e : ℕ) (items : List QueuedKey) → next ≤ e → StampsRise items
+  pub older_step : (next e : ℕ) (items : List QueuedKey) → next ≤ e → RiseBy (λ x. x.stamp) items
       → All (λ x. next ≤ x.entry → e ≤ x.entry) items → (found other both : Option Stamped) → both ≡ older found other
       → found ≡ first_stamped (λ i. ltb i next) f items → other ≡ first_stamped (λ i. eqb i e) f items
       → both ≡ first_stamped (λ i. ltb i (e + 1)) f items

@@ -7,7 +7,7 @@ use Rattle.std.proofs.lemmas.Bool.{cases_Bool, cases_eq, cases_lt, eqb-true, eq-
 use Rattle.po_queues.proofs.KeyLemmas.{free_same}
 use Rattle.po_queues.proofs.ItemLemmas.{item_without}
 use Rattle.po_queues.proofs.HoldLemmas.{without_none, keys_of-without, distinct_without}
-use Rattle.po_queues.specs.QueuedKeys.{QueuedKey, keys_of, item_of, without_key, AreDistinct, StampsRise}
+use Rattle.po_queues.specs.QueuedKeys.{QueuedKey, keys_of, item_of, without_key, AreDistinct, RiseBy}
 use Rattle.po_queues.specs.Links.{link_of_item, HoldsQueues}
 use Rattle.po_queues.specs.Arrivals.{insert_item, arrivals_from, arrivals}
 use Rattle.po_queues.specs.declared.link.Link.{Link}
@@ -30,7 +30,7 @@ after_without : (s k : ℕ) (items : List QueuedKey) → All (λ y. s < y.stamp)
 after_without s k items all = All-filter (λ x. not (eqb x.key k)) (λ y. s < y.stamp) items all
 
 -- stamps that rise do so without a key
-pub rising_without : (k : ℕ) (items : List QueuedKey) → StampsRise items → StampsRise (without_key k items)
+pub rising_without : (k : ℕ) (items : List QueuedKey) → RiseBy (λ x. x.stamp) items → RiseBy (λ x. x.stamp) (without_key k items)
 rising_without k [] r = r
 rising_without k (y ∷ ys) r = elim (cases_Bool (eqb y.key k)) [
   | inl equal ↦ simp equal (rising_without k ys r.1)
@@ -43,7 +43,7 @@ front x [] all = refl
 front x (y ∷ ys) all = simp (lt-ltb x.stamp y.stamp (All-head (λ y. x.stamp < y.stamp) y ys all)) refl
 
 -- an item that is taken out goes back to its place
-back : (k : ℕ) (items : List QueuedKey) (x : QueuedKey) → StampsRise items → AreDistinct (keys_of items)
+back : (k : ℕ) (items : List QueuedKey) (x : QueuedKey) → RiseBy (λ x. x.stamp) items → AreDistinct (keys_of items)
     → item_of k items ≡ Some x → insert_item x (without_key k items) ≡ items
 back k [] x r d found = let bad : None ≡ Some x = found in absurd (cc)
 back k (y ∷ ys) x r d found = elim (cases_Bool (eqb y.key k)) [
@@ -111,7 +111,7 @@ shifted : (k i : ℕ) → k + suc i ≡ k + 1 + i
 shifted k i = omega arith
 
 -- what is queued by the links from k on, where no key below k is queued
-unique_from : (k : ℕ) (links : List (Option Link)) (items : List QueuedKey) → StampsRise items
+unique_from : (k : ℕ) (links : List (Option Link)) (items : List QueuedKey) → RiseBy (λ x. x.stamp) items
     → AreDistinct (keys_of items) → ((j : ℕ) → j < k → item_of j items ≡ None)
     → ((i : ℕ) → entry_and_stamp (get_or links i None) ≡ item_entry_and_stamp (item_of (k + i) items))
     → arrivals_from k links ≡ items
@@ -148,7 +148,7 @@ link_entry_and_stamp items (Some x) = refl
 -- keys that the links hold are what they are read off as
 pub unique : (total : ℕ) (links : List (Option Link)) (firsts lasts : List (Option ℕ)) (counts : List ℕ)
     (items : List QueuedKey)
-    → HoldsQueues total links firsts lasts counts items → StampsRise items → arrivals links ≡ items
+    → HoldsQueues total links firsts lasts counts items → RiseBy (λ x. x.stamp) items → arrivals links ≡ items
 unique total links firsts lasts counts items h r = unique_from 0 links items r h.distinct
     (λ j lt. absurd (omega arith)) (λ i. ap entry_and_stamp (h.linked i)
     ∙ link_entry_and_stamp items (item_of i items) ∙ ap (λ n. item_entry_and_stamp (item_of n items)) (from_zero i))
@@ -157,8 +157,8 @@ unique total links firsts lasts counts items h r = unique_from 0 links items r h
     from_zero i = omega arith
 
 -- stamps that rise do so with a later one at the end
-pub rising_push : (items : List QueuedKey) (x : QueuedKey) → StampsRise items → All (λ y. y.stamp < x.stamp) items
-    → StampsRise (items ++ x ∷ [])
+pub rising_push : (items : List QueuedKey) (x : QueuedKey) → RiseBy (λ x. x.stamp) items → All (λ y. y.stamp < x.stamp) items
+    → RiseBy (λ x. x.stamp) (items ++ x ∷ [])
 rising_push [] x r before = (All-nil (λ y. x.stamp < y.stamp), tt)
 rising_push (y ∷ ys) x r before =
     let first = All-head (λ y. y.stamp < x.stamp) y ys before in (

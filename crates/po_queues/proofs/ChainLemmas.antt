@@ -10,8 +10,8 @@ use Rattle.po_queues.proofs.KeyLemmas.{tail_free, tail_has}
 use Rattle.po_queues.proofs.ItemLemmas.{item_has}
 use Rattle.po_queues.proofs.HoldLemmas.{item_entry}
 use Rattle.po_queues.specs.QueuedKeys.{QueuedKey, queue_of, keys_of, occurs, item_of, key_after, after_item}
-use Rattle.po_queues.specs.QueuedKeys.{key_after_in_queue, without_key, StampsRise, first_of, first_key}
-use Rattle.po_queues.specs.Expiring.{Expiring, expiring_keys, without_expiring, ArrivalsRise}
+use Rattle.po_queues.specs.QueuedKeys.{key_after_in_queue, without_key, RiseBy, first_of, first_key}
+use Rattle.po_queues.specs.Expiring.{Expiring, expiring_keys, without_expiring}
 use Rattle.po_queues.specs.Passing.{with_time, with_times}
 
 -- the keys are those of the chain
@@ -102,7 +102,7 @@ times_without times k (x ∷ xs) = elim (cases_Bool (eqb x.key k)) [
 ]
 
 -- the stamps are those of the chain
-pub rising_with : (times : List ℕ) (items : List QueuedKey) → StampsRise items → ArrivalsRise (with_times times items)
+pub rising_with : (times : List ℕ) (items : List QueuedKey) → RiseBy (λ x. x.stamp) items → RiseBy (λ x. x.stamp) (with_times times items)
 rising_with times [] r = tt
 rising_with times (x ∷ xs) r =
     (All-map (λ y. x.stamp < y.stamp) (with_time times) xs r.0, rising_with times xs r.1)

@@ -7,13 +7,13 @@ use Rattle.std.proofs.lemmas.List.Elements.{All-map, All-same, All-push, All-fil
 use Rattle.po_queues.proofs.LineLemmas.{queued_is, keys_are, arrival_keys, arrival_queue, first_key_is, next_arrival}
 use Rattle.po_queues.proofs.LineLemmas.{times_push, time_new, time_free, with_push, with_without, timed}
 use Rattle.po_queues.proofs.LineLemmas.{arrivals_without, expiring_without, expiring_free, expiring_below, first_due_is}
-use Rattle.po_queues.specs.QueuedKeys.{QueuedKey, QueuesView, IsSound, StampsRise, AreDistinct, queue_of, keys_of}
+use Rattle.po_queues.specs.QueuedKeys.{QueuedKey, QueuesView, IsSound, RiseBy, AreDistinct, queue_of, keys_of}
 use Rattle.po_queues.specs.QueuedKeys.{keys_on, occurs, first_key, first_of, key_after, key_after_in_queue, without_key}
 use Rattle.po_queues.specs.Expiring.{Expiring, ExpirationsView, expiring_keys, without_expiring}
 use Rattle.po_queues.specs.Expiring.{first_due as first_expiring}
-use Rattle.po_queues.specs.Arrived.{Arrived, EntryQueuesView, AreInOrder, ArrivalsRise, queued, all_queued}
+use Rattle.po_queues.specs.Arrived.{Arrived, EntryQueuesView, AreInOrder, queued, all_queued}
 use Rattle.po_queues.specs.Arrived.{arrived_keys, first_due, without_arrived}
-use Rattle.po_queues.specs.Lines.{with_times, as_arrival, expiring_at, expiring_of, KeepsLines}
+use Rattle.po_queues.specs.Lines.{with_expirations, as_arrival, expiring_at, expiring_of, KeepsLines}
 
 -- What is seen of entry queues that are kept so.
 abbrev pub lines_view : ℕ → QueuesView → ExpirationsView → EntryQueuesView
@@ -21,12 +21,12 @@ lines_view reserved by_entry expirations = record {
   total = by_entry.total;
   reserved = reserved;
   clock = expirations.clock;
-  items = with_times expirations.items by_entry.items;
+  items = with_expirations expirations.items by_entry.items;
 }
 
 -- Stamps rise, with times too.
-rising_with : (times : List Expiring) (items : List QueuedKey) → StampsRise items
-    → ArrivalsRise (with_times times items)
+rising_with : (times : List Expiring) (items : List QueuedKey) → RiseBy (λ x. x.stamp) items
+    → RiseBy (λ x. x.stamp) (with_expirations times items)
 rising_with times [] rises = tt
 rising_with times (x ∷ xs) rises = (
   All-map (λ (y : Arrived). x.stamp < y.stamp) _ xs rises.0,
@@ -40,9 +40,9 @@ expiring_with times x time = times ++ cons_option (expiring_at x.key x.stamp tim
 -- What is queued with times, where one key more is queued, with its time.
 timed_push : (times : List Expiring) (items : List QueuedKey) (x : QueuedKey) (time : Option ℕ)
     → occurs x.key (keys_of items) ≡ false → occurs x.key (expiring_keys times) ≡ false
-    → with_times (expiring_with times x time) (items ++ x ∷ []) ≡ with_times times items ++ timed x time ∷ []
+    → with_expirations (expiring_with times x time) (items ++ x ∷ []) ≡ with_expirations times items ++ timed x time ∷ []
 timed_push times items x None free unexpiring =
-    ap (λ l. with_times l (items ++ x ∷ [])) (append-nil times)
+    ap (λ l. with_expirations l (items ++ x ∷ [])) (append-nil times)
     ∙ with_push times items x None (time_free x.key times unexpiring)
 timed_push times items x (Some time) free unexpiring =
     let y : Expiring = record { key = x.key; time = time; stamp = x.stamp } in
@@ -100,7 +100,7 @@ module _ {reserved : ℕ} {by_entry arrivals : QueuesView} {expirations : Expira
       → first_expiring expirations ≡ first_due view
   seen_due seen =
       ap (λ items. first_expiring (record expirations { items = items })) lines.expiring
-      ∙ first_due_is expirations.clock (with_times expirations.items by_entry.items) ∙ ap first_due seen
+      ∙ first_due_is expirations.clock (with_expirations expirations.items by_entry.items) ∙ ap first_due seen
 
   -- What all entry queues keep.
   pub in_order : IsSound by_entry → AreInOrder (lines_view reserved by_entry expirations)
@@ -135,7 +135,7 @@ module _ {reserved : ℕ} {by_entry arrivals : QueuesView} {expirations : Expira
       → occurs k (expiring_keys expirations.items) ≡ false
   no_expiration k free =
       ap (λ (times : List Expiring). occurs k (expiring_keys times)) lines.expiring
-      ∙ expiring_free k (with_times expirations.items by_entry.items)
+      ∙ expiring_free k (with_expirations expirations.items by_entry.items)
       (ap (occurs k) (keys_are expirations.items by_entry.items) ∙ free)
 
   -- A stamp above those of all that is queued is above those of all arrivals.
@@ -146,7 +146,7 @@ module _ {reserved : ℕ} {by_entry arrivals : QueuesView} {expirations : Expira
   -- A stamp above those of all that is queued is above those of all that may expire.
   pub expirations_below : (n : ℕ) → All (λ x. x.stamp < n) by_entry.items → All (λ x. x.stamp < n) expirations.items
   expirations_below n below = All-same (λ (x : Expiring). x.stamp < n) _ _ lines.expiring
-      (expiring_below n (with_times expirations.items by_entry.items)
+      (expiring_below n (with_expirations expirations.items by_entry.items)
       (All-map (λ (x : Arrived). x.stamp < n) _ by_entry.items below))
 
   -- What is kept and seen once a key is queued that is seen to be queued nowhere.
@@ -157,9 +157,9 @@ module _ {reserved : ℕ} {by_entry arrivals : QueuesView} {expirations : Expira
   push_seen seen x time times within free_seen times_are =
       let items = by_entry.items in
       let more = items ++ x ∷ [] in
-      let before = with_times expirations.items items in
+      let before = with_expirations expirations.items items in
       let free = seen_free seen x.key free_seen in
-      let now : with_times times more ≡ before ++ timed x time ∷ [] = ap (λ l. with_times l more) times_are
+      let now : with_expirations times more ≡ before ++ timed x time ∷ [] = ap (λ l. with_expirations l more) times_are
       ∙ timed_push expirations.items items x time free (no_expiration x.key free) in
       record {
         keeps = record {
@@ -185,7 +185,7 @@ module _ {reserved : ℕ} {by_entry arrivals : QueuesView} {expirations : Expira
     one = lines.one;
     arrived = ap (without_key k) lines.arrived ∙ arrivals_without k by_entry.items;
     expiring = ap (without_expiring k) lines.expiring
-        ∙ sym (expiring_without k (with_times expirations.items by_entry.items))
+        ∙ sym (expiring_without k (with_expirations expirations.items by_entry.items))
         ∙ ap expiring_of (sym (with_without k expirations.items by_entry.items));
     keys = All-filter _ (λ x. x.key < reserved) by_entry.items lines.keys;
     entry_places = lines.entry_places;

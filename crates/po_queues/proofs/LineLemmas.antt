@@ -10,16 +10,16 @@ use Rattle.po_queues.specs.QueuedKeys.{QueuedKey, keys_of, queue_of, occurs, fir
 use Rattle.po_queues.specs.QueuedKeys.{key_after_in_queue, after_item, item_of, without_key}
 use Rattle.po_queues.specs.Expiring.{Expiring, expiring_keys, is_due, without_expiring}
 use Rattle.po_queues.specs.Arrived.{Arrived, all_queued, arrived_keys, has_come, without_arrived}
-use Rattle.po_queues.specs.Lines.{time_of, with_times, as_arrival, expiring_at, expiring_of}
+use Rattle.po_queues.specs.Lines.{expiration_of, with_expirations, as_arrival, expiring_at, expiring_of}
 
 -- Times change nothing that is queued.
-pub queued_is : (times : List Expiring) (items : List QueuedKey) → all_queued (with_times times items) ≡ items
+pub queued_is : (times : List Expiring) (items : List QueuedKey) → all_queued (with_expirations times items) ≡ items
 queued_is times [] = refl
 queued_is times (x ∷ xs) = ap (λ l. x ∷ l) (queued_is times xs)
 
 -- Times change no key.
 pub keys_are : (times : List Expiring) (items : List QueuedKey)
-    → arrived_keys (with_times times items) ≡ keys_of items
+    → arrived_keys (with_expirations times items) ≡ keys_of items
 keys_are times [] = refl
 keys_are times (x ∷ xs) = ap (λ l. x.key ∷ l) (keys_are times xs)
 
@@ -64,25 +64,25 @@ next_arrival k items = after_found k items items ∙ after_none k (keys_of items
 
 -- The time of a key stays when another key is put at the end.
 time_push : (k : ℕ) (times : List Expiring) (x : Expiring) → eqb x.key k ≡ false
-    → time_of (times ++ x ∷ []) k ≡ time_of times k
+    → expiration_of (times ++ x ∷ []) k ≡ expiration_of times k
 time_push k [] x differ = simp differ refl
 time_push k (y ∷ ys) x differ = elim (cases_Bool (eqb y.key k))
     [ inl equal ↦ simp equal refl | inr other ↦ simp other (time_push k ys x differ) ]
 
 -- A new key at the end has its time.
 pub time_new : (times : List Expiring) (x : Expiring) → occurs x.key (expiring_keys times) ≡ false
-    → time_of (times ++ x ∷ []) x.key ≡ Some x.time
+    → expiration_of (times ++ x ∷ []) x.key ≡ Some x.time
 time_new [] x free = simp (eq-eqb x.key x.key refl) refl
 time_new (y ∷ ys) x free = let t = tail_free x.key y.key (expiring_keys ys) free in simp t.0 (time_new ys x t.1)
 
 -- A key with no time has none.
-pub time_free : (k : ℕ) (times : List Expiring) → occurs k (expiring_keys times) ≡ false → time_of times k ≡ None
+pub time_free : (k : ℕ) (times : List Expiring) → occurs k (expiring_keys times) ≡ false → expiration_of times k ≡ None
 time_free k [] free = refl
 time_free k (y ∷ ys) free = let t = tail_free k y.key (expiring_keys ys) free in simp t.0 (time_free k ys t.1)
 
 -- The time of a key stays when another key is taken out.
 time_without : (k j : ℕ) (times : List Expiring) → eqb k j ≡ false
-    → time_of (without_expiring j times) k ≡ time_of times k
+    → expiration_of (without_expiring j times) k ≡ expiration_of times k
 time_without k j [] apart = refl
 time_without k j (y ∷ ys) apart = elim (cases_Bool (eqb y.key k)) [
   | inl equal ↦ simp (not_both y.key k j apart equal, equal) refl
@@ -98,7 +98,7 @@ timed x time = record { entry = x.entry; key = x.key; stamp = x.stamp; expires =
 
 -- The times of what is queued stay when a key that isn't queued is put at the end.
 pub times_push : (times : List Expiring) (x : Expiring) (items : List QueuedKey)
-    → occurs x.key (keys_of items) ≡ false → with_times (times ++ x ∷ []) items ≡ with_times times items
+    → occurs x.key (keys_of items) ≡ false → with_expirations (times ++ x ∷ []) items ≡ with_expirations times items
 times_push times x [] free = refl
 times_push times x (y ∷ ys) free =
     let t = tail_free x.key y.key (keys_of ys) free in
@@ -107,14 +107,14 @@ times_push times x (y ∷ ys) free =
 
 -- What is queued with times, where one key more is queued.
 pub with_push : (times : List Expiring) (items : List QueuedKey) (x : QueuedKey) (time : Option ℕ)
-    → time_of times x.key ≡ time
-    → with_times times (items ++ x ∷ []) ≡ with_times times items ++ timed x time ∷ []
+    → expiration_of times x.key ≡ time
+    → with_expirations times (items ++ x ∷ []) ≡ with_expirations times items ++ timed x time ∷ []
 with_push times [] x time is = ap (λ t. timed x t ∷ []) is
-with_push times (y ∷ ys) x time is = ap (λ l. timed y (time_of times y.key) ∷ l) (with_push times ys x time is)
+with_push times (y ∷ ys) x time is = ap (λ l. timed y (expiration_of times y.key) ∷ l) (with_push times ys x time is)
 
 -- What is queued with times, once a key is taken out.
 pub with_without : (k : ℕ) (times : List Expiring) (items : List QueuedKey)
-    → with_times (without_expiring k times) (without_key k items) ≡ without_arrived k (with_times times items)
+    → with_expirations (without_expiring k times) (without_key k items) ≡ without_arrived k (with_expirations times items)
 with_without k times [] = refl
 with_without k times (x ∷ xs) = elim (cases_Bool (eqb x.key k)) [
   | inl equal ↦ simp equal (with_without k times xs)

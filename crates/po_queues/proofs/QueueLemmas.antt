@@ -13,7 +13,7 @@ use Rattle.po_queues.proofs.HoldLemmas.{first_some}
 use Rattle.po_queues.proofs.ArrivalLemmas.{unique, rising_push, rising_without}
 use Rattle.po_queues.proofs.BusyLemmas.{WritesBit, marks_push, marks_without}
 use Rattle.po_queues.specs.QueuedKeys.{QueuedKey, QueuesView, IsSound, queue_of, first_of, keys_of, keys_on, item_of}
-use Rattle.po_queues.specs.QueuedKeys.{without_key, occurs, AreDistinct, StampsRise, is_this, is_missing}
+use Rattle.po_queues.specs.QueuedKeys.{without_key, occurs, AreDistinct, RiseBy, is_this, is_missing}
 use Rattle.po_queues.specs.Links.{HoldsQueues, link_with, link_of, write_after, write_before, put_after}
 use Rattle.po_queues.specs.Links.{put_before}
 use Rattle.po_queues.specs.Busy.{MarksBusy, bit_when}
@@ -27,7 +27,7 @@ view_of links counts = record { total = length counts; reserved = length links; 
 -- queues that are held as these keys are queued have these keys
 pub packed : (links : List (Option Link)) (firsts lasts : List (Option ℕ)) (counts words : List ℕ) (queued : ℕ)
     (items : List QueuedKey)
-    → HoldsQueues (length counts) links firsts lasts counts items → StampsRise items → length firsts ≡ length counts
+    → HoldsQueues (length counts) links firsts lasts counts items → RiseBy (λ x. x.stamp) items → length firsts ≡ length counts
     → length lasts ≡ length counts → length counts < 2 ^ 16 → MarksBusy (length counts) words items
     → queued ≡ length items → (arrivals links ≡ items) × KeepsQueues links firsts lasts counts words queued
 packed links firsts lasts counts words queued items h r firsts_len lasts_len few busy queued_is =

@@ -1,6 +1,6 @@
 -- The queued keys in order of arrival, read off the links.
 use Rattle.std.specs.Prelude.{ℕ, ◌≡◌, ◌+◌, ◌<◌, ◌^◌, nat_lt, List, [], ◌∷◌, length, Option, Some, None, if◌then◌else◌}
-use Rattle.po_queues.specs.QueuedKeys.{QueuedKey, StampsRise}
+use Rattle.po_queues.specs.QueuedKeys.{QueuedKey, RiseBy}
 use Rattle.po_queues.specs.Links.{HoldsQueues}
 use Rattle.po_queues.specs.Busy.{MarksBusy}
 use Rattle.po_queues.specs.declared.link.Link.{Link}
@@ -25,7 +25,7 @@ arrivals links = arrivals_from 0 links
 pub record KeepsQueues (links : List (Option Link)) (firsts lasts : List (Option ℕ)) (counts words : List ℕ)
     (queued : ℕ) : Type 0 where
   pub holds : HoldsQueues (length counts) links firsts lasts counts (arrivals links)
-  pub rising : StampsRise (arrivals links)
+  pub rising : RiseBy (λ x. x.stamp) (arrivals links)
   pub firsts_len : length firsts ≡ length counts
   pub lasts_len : length lasts ≡ length counts
   pub few : length counts < 2 ^ 16

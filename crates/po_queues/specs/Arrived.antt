@@ -1,8 +1,7 @@
 -- What is queued on the entries of an object, in order of arrival, with the times at which calls expire.
-use Rattle.std.specs.Prelude.{ℕ, ◌<◌, ◌==◌, nat_le, Bool, false, not, List, [], ◌∷◌, map, Option, Some, None}
-use Rattle.std.specs.Prelude.{option_map}
+use Rattle.std.specs.Prelude.{ℕ, ◌<◌, ◌==◌, nat_le, Bool, false, not, List, map, Option, Some, None, option_map}
 use Rattle.std.specs.List.{filter, find, All}
-use Rattle.po_queues.specs.QueuedKeys.{QueuedKey, AreDistinct}
+use Rattle.po_queues.specs.QueuedKeys.{QueuedKey, AreDistinct, RiseBy}
 
 -- A key that is queued on an entry, with the stamp of its arrival there, and the time at which its call expires, if it
 -- does (9.5.3, 9.7.2).
@@ -45,14 +44,9 @@ first_due view = option_map (λ x. x.key) (find (λ x. has_come view.clock x.exp
 abbrev pub without_arrived : ℕ → List Arrived → List Arrived
 without_arrived k items = filter (λ x. not (x.key == k)) items
 
--- Each stamp is above all before it.
-abbrev pub ArrivalsRise : List Arrived → Type 0
-ArrivalsRise [] = Unit {0}
-ArrivalsRise (x ∷ xs) = All (λ y. x.stamp < y.stamp) xs × ArrivalsRise xs
-
 -- What all entry queues keep: each key is queued once at most, on an entry that there is, and stamps rise (9.5.3).
 pub record AreInOrder (view : EntryQueuesView) : Type 0 where
   pub distinct : AreDistinct (arrived_keys view.items)
-  pub rising : ArrivalsRise view.items
+  pub rising : RiseBy (λ x. x.stamp) view.items
   pub entries : All (λ x. x.entry < view.total) view.items
   pub keys : All (λ x. x.key < view.reserved) view.items

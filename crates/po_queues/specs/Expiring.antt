@@ -1,7 +1,7 @@
 -- The waiting calls that may be cancelled when their time comes, beside the clock (9.7.2).
-use Rattle.std.specs.Prelude.{ℕ, ◌<◌, ◌==◌, nat_le, Bool, not, List, [], ◌∷◌, map, Option, option_map}
+use Rattle.std.specs.Prelude.{ℕ, ◌<◌, ◌==◌, nat_le, Bool, not, List, map, Option, option_map}
 use Rattle.std.specs.List.{filter, find, All}
-use Rattle.po_queues.specs.QueuedKeys.{AreDistinct}
+use Rattle.po_queues.specs.QueuedKeys.{AreDistinct, RiseBy}
 
 -- A key with the time at which its call expires (9.7.2), and the stamp of its arrival (9.5.3).
 pub record Expiring : Type 0 where
@@ -31,13 +31,8 @@ first_due v = option_map (λ x. x.key) (find (is_due v.clock) v.items)
 abbrev pub without_expiring : ℕ → List Expiring → List Expiring
 without_expiring key items = filter (λ x. not (x.key == key)) items
 
--- Each stamp is above all before it: the order is that of arrival (9.5.3).
-abbrev pub ArrivalsRise : List Expiring → Type 0
-ArrivalsRise [] = Unit {0}
-ArrivalsRise (x ∷ xs) = All (λ y. x.stamp < y.stamp) xs × ArrivalsRise xs
-
 -- What all expirations keep: each key stands once, stamps rise, and each key has a place (this project's own).
 pub record AreSound (view : ExpirationsView) : Type 0 where
   pub distinct : AreDistinct (expiring_keys view.items)
-  pub rising : ArrivalsRise view.items
+  pub rising : RiseBy (λ x. x.stamp) view.items
   pub keys : All (λ x. x.key < view.reserved) view.items

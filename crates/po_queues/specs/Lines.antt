@@ -6,13 +6,13 @@ use Rattle.po_queues.specs.Expiring.{Expiring, ExpirationsView}
 use Rattle.po_queues.specs.Arrived.{Arrived}
 
 -- The time at which the call of a key expires, if it does.
-abbrev pub time_of : List Expiring → ℕ → Option ℕ
-time_of expiring k = option_map (λ x. x.time) (find (λ x. x.key == k) expiring)
+abbrev pub expiration_of : List Expiring → ℕ → Option ℕ
+expiration_of expiring k = option_map (λ x. x.time) (find (λ x. x.key == k) expiring)
 
 -- What is queued, with the times at which calls expire.
-abbrev pub with_times : List Expiring → List QueuedKey → List Arrived
-with_times expiring items =
-    map (λ x. record { entry = x.entry; key = x.key; stamp = x.stamp; expires = time_of expiring x.key }) items
+abbrev pub with_expirations : List Expiring → List QueuedKey → List Arrived
+with_expirations expiring items =
+    map (λ x. record { entry = x.entry; key = x.key; stamp = x.stamp; expires = expiration_of expiring x.key }) items
 
 -- The same, as queued on the one entry of all arrivals.
 abbrev pub as_arrival : QueuedKey → QueuedKey
@@ -32,7 +32,7 @@ expiring_of items = filter_map (λ x. expiring_at x.key x.stamp x.expires) items
 pub record KeepsLines (reserved : ℕ) (by_entry arrivals : QueuesView) (expirations : ExpirationsView) : Type 0 where
   pub one : arrivals.total ≡ 1
   pub arrived : arrivals.items ≡ map as_arrival by_entry.items
-  pub expiring : expirations.items ≡ expiring_of (with_times expirations.items by_entry.items)
+  pub expiring : expirations.items ≡ expiring_of (with_expirations expirations.items by_entry.items)
   pub keys : All (λ x. x.key < reserved) by_entry.items
   pub entry_places : reserved ≤ by_entry.reserved
   pub arrival_places : reserved ≤ arrivals.reserved

@@ -101,15 +101,15 @@ abbrev pub AreDistinct : List ℕ → Type 0
 AreDistinct [] = Unit {0}
 AreDistinct (x ∷ xs) = (occurs x xs ≡ false) × AreDistinct xs
 
--- Each stamp is above all before it.
-abbrev pub StampsRise : List QueuedKey → Type 0
-StampsRise [] = Unit {0}
-StampsRise (x ∷ xs) = All (λ y. x.stamp < y.stamp) xs × StampsRise xs
+-- The stamps of these rise: each is above all before it (9.5.3).
+abbrev pub RiseBy : {X : Type 0} → (X → ℕ) → List X → Type 0
+RiseBy stamp [] = Unit {0}
+RiseBy stamp (x ∷ xs) = All (λ y. stamp x < stamp y) xs × RiseBy stamp xs
 
 -- What all queues keep: each key is queued once at most, on an entry that there is, and stamps rise (9.5.3).
 pub record IsSound (queues : QueuesView) : Type 0 where
   pub distinct : AreDistinct (keys_of queues.items)
-  pub rising : StampsRise queues.items
+  pub rising : RiseBy (λ x. x.stamp) queues.items
   pub entries : All (λ x. x.entry < queues.total) queues.items
   pub keys : All (λ x. x.key < queues.reserved) queues.items
   pub few : queues.total < 2 ^ 16

@@ -29,7 +29,7 @@ pub struct EntryQueues {
 
 impl Model for EntryQueues {
     ghost use Rattle.po_queues.specs.Arrived.{EntryQueuesView};
-    ghost use Rattle.po_queues.specs.Lines.{with_times, KeepsLines};
+    ghost use Rattle.po_queues.specs.Lines.{with_expirations, KeepsLines};
 
     ghost Value = { EntryQueuesView };
 
@@ -37,7 +37,7 @@ impl Model for EntryQueues {
       total = q.by_entry.total;
       reserved = q.reserved;
       clock = q.expirations.clock;
-      items = with_times q.expirations.items q.by_entry.items;
+      items = with_expirations q.expirations.items q.by_entry.items;
     } };
 
     ghost invariant = { λ q. KeepsLines q.reserved q.by_entry q.arrivals q.expirations };

@@ -3,10 +3,11 @@ use Rattle.std.specs.Prelude.{ℕ, List, [], ◌++◌, Bool, true, false, Option
 use Rattle.po_index.specs.declared.decl.EntryRef.{EntryRef}
 use Rattle.po_index.specs.Numbering.{entry_references}
 use Rattle.po_unit.specs.Meaning.{Meaning}
-use Rattle.po_history.specs.declared.event.Event.TheVariants.{Issue, Ran, Tick as TickEvent, Final}
+use Rattle.po_history.specs.declared.event.Event.TheVariants.{Ran, Tick as TickEvent, Final}
 use Rattle.po_actions.specs.declared.refusal.Refusal.{Refusal}
 use Rattle.po_actions.specs.declared.refusal.Refusal.TheVariants.{OutOfMemory}
 use Rattle.po_actions.specs.ObjectState.{counts_in}
+use Rattle.po_actions.specs.Commands.{issue_of, reply_of}
 use Rattle.po_actions.specs.View.{View, ended_now}
 use Rattle.po_actions.specs.ProtectedAction.{after_action, after_abort, abort_answer}
 use Rattle.po_actions.specs.Refusals.{entry_of, issue_refusal, run_refusal, read_refusal, abort_refusal, finalized_refusal}
@@ -42,10 +43,8 @@ module _ {S : Type 0} where
 
   -- the object after an operation that isn't refused; the owner of each call and procedure is 0
   abbrev pub done : Meaning S ℕ → View S ℕ → Operation → View S ℕ
-  done m view (Call entry value deadline) =
-      after_action m view (Issue view.state.next 0 (entry_of view.making.shape entry) value deadline)
-  done m view (Run op value) =
-      after_action m view (Ran 0 op value (m.procedure view.state.unit op value (counts_in m view.state)).1)
+  done m view (Call entry value deadline) = after_action m view (issue_of view 0 entry value deadline)
+  done m view (Run op value) = after_action m view (Ran 0 op value (reply_of m view op value))
   done m view (Read op value) = view
   done m view (Abort n) = after_abort m view n
   done m view (Tick time) = after_action m view (TickEvent time)
@@ -71,7 +70,7 @@ module _ {S : Type 0} where
   done_lines m view (Call entry value deadline) =
       ticket_line view.state.next ++ ended_lines (ended_now (done m view (Call entry value deadline)))
   done_lines m view (Run op value) =
-      reply_line (m.procedure view.state.unit op value (counts_in m view.state)).1 ++ ended_lines (ended_now (done m view (Run op value)))
+      reply_line (reply_of m view op value) ++ ended_lines (ended_now (done m view (Run op value)))
   done_lines m view (Read op value) = value_line (m.function view.state.unit op value (counts_in m view.state))
   done_lines m view (Abort n) = abort_line (abort_answer view n) ++ ended_lines (ended_now (done m view (Abort n)))
   done_lines m view (Tick time) =

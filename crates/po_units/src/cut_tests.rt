@@ -109,7 +109,7 @@ fn a_cut_shows_what_the_last_command_ended(rt: HostRuntime) -> Result<(), Fail> 
         &rt,
         buffer(rt.alloc())?,
         &steps,
-        "#1; final, 1 program_error; volume 0: Issue Final ; base 2: ended 1 next 2 clock 0 ran 0 last None finalized true; ended, 1 program_error; ",
+        "#1; final, 1 program_error; volume 0: Issue Final ; base 2: ended 1, 1 program_error next 2 clock 0 ran 0 last None finalized true; ended, 1 program_error; ",
         "",
     )
 }

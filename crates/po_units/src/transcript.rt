@@ -237,10 +237,13 @@ impl<U: Unit<Value = u64> + Drop> Transcript<U> {
         for arrival in base.waiting() {
             write!(self.text, "{} at {} ", arrival.call.number, arrival.place)?;
         }
+        write!(self.text, "ended {}", base.ended())?;
+        for ended in self.core.ended_at_base() {
+            end(&mut self.text, ended.number, ended.end)?;
+        }
         write!(
             self.text,
-            "ended {} next {} clock {} ran {} last {:?} finalized {}; ",
-            base.ended(),
+            " next {} clock {} ran {} last {:?} finalized {}; ",
             base.next(),
             base.clock(),
             base.ran(),

@@ -58,4 +58,4 @@ returns-clause-after g c =
 pub returns-clause-ticket : goal.returns-clause-ticket
 returns-clause-ticket g c =
     let s = c.self.inside in
-    rw (← c.self.view_is) (ticket_set s.table.calls c.put-ticket.new.self.calls c.put-ticket.result.key _ c.put-ticket.ensures.updates)
+    rw (← c.self.view_is) (ticket_set s.table c.put-ticket.new.self c.put-ticket.result.key _ c.put-ticket.ensures.updates)

@@ -42,7 +42,7 @@ returns-clause-end g c =
 
 pub returns-clause-taken : goal.returns-clause-taken
 returns-clause-taken g c =
-    rw (← c.self.view_is) (ticket_set c.self.inside.table.calls c.collect.new.self.calls c.args.ticket.key None c.in_ok-end.ensures.updates)
+    rw (← c.self.view_is) (ticket_set c.self.inside.table c.collect.new.self c.args.ticket.key None c.in_ok-end.ensures.updates)
 
 pub returns-clause-rest : goal.returns-clause-rest
 returns-clause-rest g c =
