@@ -7,7 +7,8 @@ use Rattle.po_unit.specs.Meaning.{Meaning}
 use Rattle.po_calls.specs.declared.call.Call.{Call}
 use Rattle.po_history.specs.declared.event.Event.{Event}
 use Rattle.po_history.specs.declared.event.Event.TheVariants.{Abort}
-use Rattle.po_actions.specs.WaitingCalls.{below, is_on, has_number, is_due, counts_of}
+use Rattle.po_barriers.specs.Turns.{below}
+use Rattle.po_actions.specs.WaitingCalls.{is_on, has_number, is_due, counts_of}
 use Rattle.po_actions.specs.ObjectState.{ObjectState, gate_in, IsAtRest}
 use Rattle.po_actions.specs.Step.{mark, step, replay, IsFound}
 use Rattle.po_actions.specs.Pick.{ArePicks, weight}

@@ -1,10 +1,8 @@
 -- What is read off the waiting calls, by what is queued of them.
-use Rattle.std.proofs.Common.{◌≡◌, ◌==◌, ℕ, zero, suc, ◌+◌, ◌<◌, ◌≤◌, Bool, true, false, not, cond, eqb, List, [], ◌∷◌, length, map, get_or, length-append, Option, Some, None, refl, sym, ap, ap₂, ◌∙◌, subst, inl, inr, arith, ◌&&◌, if◌then◌else◌}
+use Rattle.std.proofs.Common.{◌≡◌, ◌==◌, ℕ, suc, ◌+◌, ◌<◌, ◌≤◌, Bool, true, false, not, cond, eqb, List, [], ◌∷◌, length, map, Option, Some, None, refl, sym, ap, ap₂, ◌∙◌, subst, inl, inr, arith, ◌&&◌, if◌then◌else◌}
 use Rattle.std.specs.List.{filter, find, cons_option, count_by, All}
 use Rattle.std.specs.Prelude.{option_map}
-use Rattle.std.proofs.lemmas.Bool.{cases_Bool, cases_eq, eqb-true, eqb-false, ne_eqb}
-use Rattle.std.proofs.lemmas.List.{length-map, map-append, get_or_push, get_or_append_left}
-use Rattle.std.proofs.lemmas.Grind.{same_number_lists}
+use Rattle.std.proofs.lemmas.Bool.{cases_Bool, eqb-true, eqb-false, ne_eqb}
 use Rattle.std.proofs.lemmas.List.Sums.{length-filter, sum_by-cons}
 use Rattle.std.proofs.lemmas.List.Elements.{All-nil, All-cons}
 use Rattle.po_queues.specs.QueuedKeys.{queue_of, occurs, AreDistinct}
@@ -13,7 +11,7 @@ use Rattle.po_calls.specs.declared.call.Deadline.{Deadline}
 use Rattle.po_calls.specs.declared.call.Deadline.TheVariants.{Never, At}
 use Rattle.po_queues.specs.Arrived.{Arrived, all_queued, arrived_keys, has_come}
 use Rattle.po_actions.specs.Step.{IsFound}
-use Rattle.po_actions.specs.WaitingCalls.{below, is_on, has_number, is_past, is_due}
+use Rattle.po_actions.specs.WaitingCalls.{is_on, has_number, is_past, is_due}
 use Rattle.po_actions.proofs.Held.{tail_free, some_same, found_more, key_in, Agree, find_all, find_key}
 use Rattle.po_actions.proofs.HandSteps.{agree_number}
 use Rattle.po_actions.specs.Calls.{time_of, waiting_in, of_key, IsQueuedAs, AllQueued}
@@ -24,28 +22,6 @@ pub come : (clock : ℕ) (sealed : Bool) (deadline : Deadline)
 come clock true deadline = refl
 come clock false Never = refl
 come clock false (At time) = refl
-
-below_length : (n : ℕ) → length (below n) ≡ n
-below_length zero = refl
-below_length (suc n) = length-append (below n) (n ∷ []) ∙ omega (arith, below_length n)
-
-mapped_length : (h : ℕ → ℕ) (n : ℕ) → length (map h (below n)) ≡ n
-mapped_length h n = length-map (below n) h ∙ below_length n
-
-mapped_at : (h : ℕ → ℕ) (n e : ℕ) → e < n → get_or (map h (below n)) e 0 ≡ h e
-mapped_at h zero e lt = absurd (omega arith)
-mapped_at h (suc n) e lt = elim (cases_eq e n) [
-  | inl same ↦ rw (map-append h (below n) (n ∷ []), same) (get_or_push (map h (below n)) (h n) 0 n (mapped_length h n))
-  | inr other ↦
-      let before : e < length (map h (below n)) = omega (arith, mapped_length h n, lt, other) in
-      rw (map-append h (below n) (n ∷ [])) (get_or_append_left (map h (below n)) (h n ∷ []) 0 e before ∙ mapped_at h n e (omega (arith, lt, other)))
-]
-
--- a list of so many numbers, each what h gives at its place
-pub all_counts : (h : ℕ → ℕ) (total : ℕ) (xs : List ℕ) → length xs ≡ total → ((e : ℕ) → e < total → get_or xs e 0 ≡ h e)
-    → xs ≡ map h (below total)
-all_counts h total xs len each =
-    same_number_lists xs (map h (below total)) (len ∙ sym (mapped_length h total)) (λ e lt. let in_range : e < total = omega (arith, lt, len) in each e in_range ∙ sym (mapped_at h total e in_range))
 
 count_yes : {X : Type 0} (p : X → Bool) (x : X) (xs : List X) → p x ≡ true → count_by p (x ∷ xs) ≡ 1 + count_by p xs
 count_yes p x xs e = omega (arith, sum_by-cons (λ y. cond (p y) 1 0) x xs, ap {B = ℕ} (λ b. cond b 1 0) e)

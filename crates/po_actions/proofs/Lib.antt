@@ -24,6 +24,5 @@ pub mod Soundness
 pub mod Sums
 pub mod TicketLemmas
 pub mod Trails
-pub mod Turns
 pub mod VolumesStay
 pub mod Wells

@@ -1,12 +1,15 @@
 -- What a command leads to is what the function says.
-use Rattle.std.proofs.Common.{ℕ, zero, suc, ◌≡◌, ◌≤◌, ◌==◌, arith, List, [], ◌∷◌, ◌++◌, refl, ap, sym, subst, ◌∙◌, Bool, true, false, Ok, Option, Some, None, cond, length, ◌||◌, ◌&&◌, if◌then◌else◌, append-nil, MatchOption}
+use Rattle.std.proofs.Common.{ℕ, zero, suc, ◌≡◌, ◌≤◌, ◌==◌, arith, List, [], ◌∷◌, ◌++◌, map, get_or, refl, ap, sym, subst, ◌∙◌, Bool, true, false, Ok, Option, Some, None, cond, length, ◌||◌, ◌&&◌, if◌then◌else◌, append-nil, MatchOption}
 use Rattle.std.specs.List.{find, All, list_any}
 use Rattle.std.proofs.lemmas.List.Elements.{All-head, All-tail}
 use Rattle.std.proofs.lemmas.Bool.Decides.{nat_tests}
 use Rattle.po_unit.specs.Meaning.{Meaning}
 use Rattle.po_calls.specs.declared.call.Call.{Call}
 use Rattle.po_history.specs.declared.event.Event.{Event}
+use Rattle.po_barriers.specs.declared.look.Look.TheVariants.{Quiet}
 use Rattle.po_barriers.specs.declared.order.Order.{Order}
+use Rattle.po_barriers.specs.Turns.{turn, look_if, examined}
+use Rattle.po_barriers.proofs.ExaminedLemmas.{first_look_each}
 use Rattle.po_actions.specs.ObjectState.{ObjectState, gate_in, IsQuiet, IsAtRest}
 use Rattle.po_actions.specs.WaitingCalls.{has_number, is_on, is_due}
 use Rattle.po_actions.specs.Step.{replay, step}
@@ -14,10 +17,9 @@ use Rattle.po_actions.specs.Making.{Making}
 use Rattle.po_actions.specs.View.{View, last_served}
 use Rattle.po_actions.specs.Tickets.{CoreView}
 use Rattle.po_actions.specs.Base.{Base}
-use Rattle.po_actions.specs.declared.refusal.Aborted.TheVariants.{Kept, Cancelled}
 use Rattle.po_actions.specs.Progress.{Settles, IsSameCommand, Happens, Begins}
-use Rattle.po_actions.specs.ProtectedAction.{settling, inner_events, begun, settled, after_action, after_abort, after_abort_of, abort_answer, is_sealed, without_event}
-use Rattle.po_actions.specs.Pick.{if_any, turn, first_some, turn_of, examined, pick, ArePicks, served_last, last_from, weight}
+use Rattle.po_actions.specs.ProtectedAction.{settling, inner_events, begun, settled, after_action, after_abort, after_abort_of, without_event}
+use Rattle.po_actions.specs.Pick.{turn_of, next_turn, pick, ArePicks, served_last, last_from, weight}
 use Rattle.po_history.specs.declared.event.Event.TheVariants.{Abort}
 
 module _ {X : Type 0} (p : X → Bool) where
@@ -38,26 +40,28 @@ module _ {X : Type 0} (p : X → Bool) where
   any_has Q [] h k = cc
   any_has Q (x ∷ xs) h k = any_here Q (p x) x xs refl (All-head Q x xs h) k (any_has Q xs (All-tail Q x xs h))
 
-pub none_first : {X Y : Type 0} (f : X → Option Y) → ((x : X) → f x ≡ None) → (xs : List X) → first_some f xs ≡ None
-none_first f h [] = refl
-none_first f h (x ∷ xs) = rw (h x) (none_first f h xs)
-
 eq_of : (a b : ℕ) → (a == b) ≡ true → a ≡ b
 eq_of a b h = grind (arith, nat_tests)
 
 module _ {S V : Type 0} (m : Meaning S V) where
   -- an entry on which a call is queued is closed
-  no_turn : (p : ObjectState S V) (e : ℕ) (b : Bool) → list_any (is_on e) p.waiting ≡ b → IsQuiet m p → if_any b (turn {V = V} e (gate_in m p e)) ≡ None
+  no_turn : (p : ObjectState S V) (e : ℕ) (b : Bool) → list_any (is_on e) p.waiting ≡ b → IsQuiet m p → look_if b (turn e (gate_in m p e)) ≡ Quiet
   no_turn p e false h q = refl
   no_turn p e true h q =
       let y = any_has (is_on e) (λ x. gate_in m p x.entry ≡ Ok false) p.waiting q h in
       let shut : gate_in m p e ≡ Ok false = ap (gate_in m p) (sym (eq_of y.0.entry e y.1)) ∙ y.2 in
       rw shut refl
 
+  -- so no turn comes next
+  none_next : (order : Order) (last : Option ℕ) (p : ObjectState S V) → IsQuiet m p → next_turn m order last p ≡ Quiet
+  none_next order last p h =
+      let es = examined order last (m.entries p.unit) (map (λ x. x.entry) p.waiting) in
+      first_look_each (turn_of m p) (λ look. look ≡ Quiet) refl es (λ k d lt. no_turn p (get_or es k d) (list_any (is_on (get_or es k d)) p.waiting) refl h)
+
   -- at rest nothing follows
   pub rest_picks_none : (order : Order) (last : Option ℕ) (p : ObjectState S V) → IsAtRest m p → pick m order last p ≡ None
   rest_picks_none order last p r =
-      rw (none_first (turn_of m p) (λ e. no_turn p e (list_any (is_on e) p.waiting) refl r.quiet) (examined order last (m.entries p.unit) p.waiting), none_found (is_due p.clock) p.waiting r.none_due) refl
+      rw (none_next order last p r.quiet, none_found (is_due p.clock) p.waiting r.none_due) refl
 
   stops : (limit : Option ℕ) (order : Order) (last : Option ℕ) (k : ℕ) (p : ObjectState S V) → pick m order last p ≡ None → settling m limit order last k p ≡ []
   stops limit order last zero p h = refl
@@ -115,8 +119,5 @@ module _ {S V : Type 0} (m : Meaning S V) where
       same_view s (settled m s) refl refl (sym (append-nil s.events) ∙ ap (λ l. s.events ++ l) (sym none)) (ap (replay m limit s.state) (sym none)) refl
 
   -- by the call that is found
-  pub kept_as : (s : View S V) (n : ℕ) (x : Call V) → Some x ≡ find (has_number n) s.state.waiting → abort_answer s n ≡ (if x.sealed then Kept else Cancelled)
-  kept_as s n x h = ap (λ o. if is_sealed o then Kept else Cancelled) (sym h)
-
   pub aborted_as : (s : View S V) (n : ℕ) (x : Call V) → Some x ≡ find (has_number n) s.state.waiting → after_abort m s n ≡ (if x.sealed && x.aborted then without_event s else after_action m s (Abort n))
   aborted_as s n x h = ap (after_abort_of m s n) (sym h)

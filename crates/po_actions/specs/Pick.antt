@@ -1,44 +1,24 @@
--- Which inner event comes next, by the service order. The orders are this project's own, within what FIFO_Queuing (D.4) leaves open.
-use Rattle.std.specs.Prelude.{ℕ, ◌≡◌, ◌+◌, List, [], ◌∷◌, ◌++◌, map, take, drop, Bool, true, false, Result, Ok, Err, Option, Some, None, find, IsSome, ◌<◌, sum_by, option_map, if◌then◌else◌}
+-- Which inner event comes next, by the service order.
+use Rattle.std.specs.Prelude.{ℕ, ◌≡◌, ◌+◌, List, [], ◌∷◌, map, true, Ok, Err, Option, Some, None, find, IsSome, ◌<◌, sum_by, option_map, if◌then◌else◌}
 use Rattle.std.specs.List.{list_any}
+use Rattle.std.specs.Option.{option_or}
 use Rattle.po_unit.specs.Meaning.{Meaning}
-use Rattle.po_calls.specs.declared.call.Call.{Call}
+use Rattle.po_barriers.specs.declared.look.Look.{Look}
+use Rattle.po_barriers.specs.declared.look.Look.TheVariants.{Quiet, Ready, Broken}
 use Rattle.po_barriers.specs.declared.order.Order.{Order}
-use Rattle.po_barriers.specs.declared.order.Order.TheVariants.{Textual, Oldest, Rotating}
+use Rattle.po_barriers.specs.Turns.{turn, first_look, look_if, examined}
 use Rattle.po_history.specs.declared.event.Event.{Event}
 use Rattle.po_history.specs.declared.event.Event.TheVariants.{Issue, Ran, Abort, Tick, Final, Serve, Break, Expire}
-use Rattle.po_actions.specs.WaitingCalls.{below, has_number, is_on, is_due}
+use Rattle.po_actions.specs.WaitingCalls.{has_number, is_on, is_due}
 use Rattle.po_actions.specs.ObjectState.{ObjectState, gate_in, IsQuiet}
 use Rattle.po_actions.specs.Step.{step, IsFound}
 
--- the first, or the second where there is no first
-abbrev pub or_else : {X : Type 0} → Option X → Option X → Option X
-or_else None other = other
-or_else (Some x) other = Some x
-
--- what the first of the elements gives that gives something
-abbrev pub first_some : {X Y : Type 0} → (X → Option Y) → List X → Option Y
-first_some f [] = None
-first_some f (x ∷ xs) = or_else (f x) (first_some f xs)
-
--- what there is, if the test holds
-abbrev pub if_any : {X : Type 0} → Bool → Option X → Option X
-if_any true o = o
-if_any false o = None
-
--- the event of an entry on which a call is queued, by its barrier: an open one is served, a faulting one ends all calls (9.5.3)
-abbrev pub turn : {V : Type 0} → ℕ → Result Bool ℕ → Option (Event V)
-turn e (Ok true) = Some (Serve e)
-turn e (Ok false) = None
-turn e (Err k) = Some (Break e)
-
--- the entries in the order in which they are examined: by rising number; by the arrival of their first calls; or from
--- the one after the entry that was served last, and round to it
-abbrev pub examined : {V : Type 0} → Order → Option ℕ → ℕ → List (Call V) → List ℕ
-examined Textual last total calls = below total
-examined Oldest last total calls = map (λ x. x.entry) calls
-examined Rotating None total calls = below total
-examined Rotating (Some e) total calls = drop (e + 1) (below total) ++ take (e + 1) (below total)
+-- the event that services what a look tells: the one of an open entry is served, and a barrier that propagates an
+-- exception ends all calls (9.5.3)
+abbrev pub event_of : {V : Type 0} → Look → Option (Event V)
+event_of Quiet = None
+event_of (Ready e) = Some (Serve e)
+event_of (Broken e) = Some (Break e)
 
 -- the entry that was served last, after one more event
 abbrev pub served_last : {V : Type 0} → Option ℕ → Event V → Option ℕ
@@ -51,15 +31,21 @@ last_from last [] = last
 last_from last (event ∷ events) = last_from (served_last last event) events
 
 module _ {S V : Type 0} where
-  -- the event of entry e, if a call is queued on it and it isn't closed
-  abbrev pub turn_of : Meaning S V → ObjectState S V → ℕ → Option (Event V)
-  turn_of m s e = if_any (list_any (is_on e) s.waiting) (turn e (gate_in m s e))
+  -- the turn of entry e, if a call is queued on it and it isn't closed
+  abbrev pub turn_of : Meaning S V → ObjectState S V → ℕ → Look
+  turn_of m s e = look_if (list_any (is_on e) s.waiting) (turn e (gate_in m s e))
 
-  -- the inner event that follows, if one does: that of the first examined entry that isn't closed, and else the first
-  -- call that is due expires; last is the entry that was served last
+  -- the turn that comes next, if one does: that of the first examined entry that isn't closed; last is the entry that
+  -- was served last
+  abbrev pub next_turn : Meaning S V → Order → Option ℕ → ObjectState S V → Look
+  next_turn m order last s =
+      first_look (turn_of m s) (examined order last (m.entries s.unit) (map (λ x. x.entry) s.waiting))
+
+  -- the inner event that follows, if one does: that of the turn that comes next, and else the first call that is due
+  -- expires
   abbrev pub pick : Meaning S V → Order → Option ℕ → ObjectState S V → Option (Event V)
   pick m order last s =
-      or_else (first_some (turn_of m s) (examined order last (m.entries s.unit) s.waiting))
+      option_or (event_of (next_turn m order last s))
       (option_map (λ x. Expire x.number) (find (is_due s.clock) s.waiting))
 
   -- Each of the events is the one that follows.

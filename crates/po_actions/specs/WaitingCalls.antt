@@ -1,13 +1,9 @@
 -- Waiting calls, and how many of them are queued on each entry.
-use Rattle.std.specs.Prelude.{ℕ, zero, suc, ◌==◌, nat_le, List, [], ◌∷◌, ◌++◌, map, Bool, false, not, ◌&&◌, count_by}
+use Rattle.std.specs.Prelude.{ℕ, ◌==◌, nat_le, List, map, Bool, false, not, ◌&&◌, count_by}
 use Rattle.po_calls.specs.declared.call.Call.{Call}
 use Rattle.po_calls.specs.declared.call.Deadline.{Deadline}
 use Rattle.po_calls.specs.declared.call.Deadline.TheVariants.{Never, At}
-
--- the numbers below n, rising: the entries of an object that has n of them (9.5.2)
-abbrev pub below : ℕ → List ℕ
-below zero = []
-below (suc n) = below n ++ n ∷ []
+use Rattle.po_barriers.specs.Turns.{below}
 
 -- whether the call is queued on entry e (9.5.3)
 abbrev pub is_on : {V : Type 0} → ℕ → Call V → Bool

@@ -3,7 +3,7 @@
 ghost use Rattle.std.specs.Prelude.{◌≡◌, ◌<◌, ◌≤◌, ◌+◌, ◌∷◌, ◌++◌, [], ℕ, true, false, count_by, slice_index, map, All, Option, None, Some, IfOk, OnOk, OnErr, OnSome, IfNone, IsSome, find, option_map, if◌then◌else◌};
 ghost use Rattle.po_actions.specs.WaitingCalls.{is_on, is_of, has_number};
 ghost use Rattle.po_actions.specs.ObjectState.{opening_state, counts_in, gate_in};
-ghost use Rattle.po_actions.specs.Pick.{turn_of as turn_at, examined, first_some, pick, owed, Fits};
+ghost use Rattle.po_actions.specs.Pick.{event_of, next_turn, pick, owed, Fits};
 ghost use Rattle.po_actions.specs.Step.{enter, cancel, abort, advance, finalize, run_procedure, end_call, end_all, queue, land, run_body, take_out, step, arrive, has_ended};
 ghost use Rattle.po_actions.specs.Arrival.{AreAt, noted, call_of};
 ghost use Rattle.po_actions.specs.Tickets.{number_at, SetsTicket, place_among, end_at};
@@ -267,7 +267,7 @@ impl<U: Unit> State<U> {
 
     /// The inner event of the first entry that has one, in the order of the object.
     fn first_ready(&self, order: Order, last: Option<u16>) -> Option<Event<U::Value>>
-        ensures { result ≡ first_some (turn_at U.meaning self.now.state) (examined order last (U.meaning.entries self.now.state.unit) self.now.state.waiting) }
+        ensures { result ≡ event_of (next_turn U.meaning order last self.now.state) }
     {
         match examine(&self.unit, self.calls.by_entry(), order, last) {
             Look::Ready(e) => Some(Event::Serve(e)),

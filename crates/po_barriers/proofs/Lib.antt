@@ -1,3 +1,4 @@
+pub mod ExaminedLemmas
 pub mod RangeLemmas
 pub mod StampLemmas
 pub mod TellLemmas

@@ -5,14 +5,12 @@ use Rattle.std.proofs.Common.{refl, ap, ◌∙◌, sym, arith, true, false, inl,
 use Rattle.std.proofs.lemmas.Bool.{cases_eq, cases_lt}
 use Rattle.std.proofs.lemmas.Grind.{same_number_lists}
 use Rattle.std.proofs.lemmas.List.{get_or-append_right, get_or_append_left, get_or-map, length-map}
-use Rattle.po_queues.specs.QueuedKeys.{QueuesView, queue_of}
 use Rattle.po_barriers.specs.declared.look.Look.{Look}
 use Rattle.po_barriers.specs.declared.look.Look.TheVariants.{Quiet, Ready, Broken}
 use Rattle.po_barriers.specs.Turns.{below, tells_nothing, or_look, first_look}
-use Rattle.po_barriers.specs.Service.{counts_of}
 
 -- there are n numbers below n
-pub length-below : (n : ℕ) → length (below n) ≡ n
+length-below : (n : ℕ) → length (below n) ≡ n
 length-below zero = refl
 length-below (suc n) = omega (arith, length-append (below n) (n ∷ []), length-below n)
 
@@ -29,18 +27,18 @@ get_or-below (suc n) i lt = elim (cases_eq i n) [
     less : (k : ℕ) → k - k ≡ 0
     less k = omega arith
 
--- numbers that are the counts, each by its entry, are the counts
-pub counts_each : (queues : QueuesView) (counts : List ℕ) → length counts ≡ queues.total
-    → ((e : ℕ) → e < queues.total → get_or counts e 0 ≡ length (queue_of e queues.items))
-    → counts ≡ counts_of queues
-counts_each queues counts len each =
-    let f : ℕ → ℕ = λ e. length (queue_of e queues.items) in
-    let total = queues.total in
-    let long = length-below total in
-    same_number_lists counts (map f (below total)) (len ∙ sym (length-map (below total) f ∙ long)) (λ e lt.
+-- what f gives of the number at each place
+pub get_or-map-below : (f : ℕ → ℕ) (total e : ℕ) → e < total → get_or (map f (below total)) e 0 ≡ f e
+get_or-map-below f total e lt =
+    get_or-map f (below total) e 0 0 (omega (arith, length-below total, lt)) ∙ ap f (get_or-below total e lt)
+
+-- so many numbers, each what f gives of its place
+pub numbers_each : (f : ℕ → ℕ) (total : ℕ) (xs : List ℕ) → length xs ≡ total
+    → ((e : ℕ) → e < total → get_or xs e 0 ≡ f e) → xs ≡ map f (below total)
+numbers_each f total xs len each =
+    same_number_lists xs (map f (below total)) (len ∙ sym (length-map (below total) f ∙ length-below total)) (λ e lt.
     let within : e < total = omega (arith, len, lt) in
-    each e within ∙ sym (get_or-map f (below total) e 0 0 (omega (arith, long, within))
-    ∙ ap f (get_or-below total e within)))
+    each e within ∙ sym (get_or-map-below f total e within))
 
 -- one more number at the end
 drop_over : (k : ℕ) (xs : List ℕ) (x : ℕ) → k ≤ length xs → drop k (xs ++ x ∷ []) ≡ drop k xs ++ x ∷ []

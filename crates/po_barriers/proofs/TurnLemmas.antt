@@ -1,7 +1,7 @@
 -- The turns of entries with a queued key, and of those without one.
-use Rattle.std.proofs.Common.{◌≡◌, ℕ, ◌+◌, ◌<◌, ◌≤◌, List, [], ◌∷◌, length, drop, refl, ap, ◌∙◌, sym, arith}
+use Rattle.std.proofs.Common.{◌≡◌, ℕ, ◌<◌, ◌≤◌, List, [], ◌∷◌, length, drop, refl, ap, ◌∙◌, sym, arith}
 use Rattle.std.proofs.Common.{true, false, inl, inr}
-use Rattle.std.proofs.lemmas.Bool.{cases_lt, cases_eq}
+use Rattle.std.proofs.lemmas.Bool.{cases_lt}
 use Rattle.po_unit.specs.Meaning.{Meaning}
 use Rattle.po_queues.specs.QueuedKeys.{QueuesView, QueuedKey, queue_of, keys_of}
 use Rattle.po_queues.specs.Busy.{IsNextBusy, has_keys}
@@ -56,14 +56,6 @@ module _ {S V : Type 0} (m : Meaning S V) (u : S) (queues : QueuesView) where
   quiet_before from next e quiet found = λ i low high. elim (cases_lt i next) [
     | inl before ↦ quiet i low before
     | inr after ↦ idle_turn i (found.idle_before i after high)
-  ]
-
-  -- nor past it, if it has none
-  pub quiet_past : (from next e : ℕ) → AllQuiet from next → IsNextBusy queues next e
-      → turn_at m u queues e ≡ Quiet → AllQuiet from (e + 1)
-  quiet_past from next e quiet found none = λ i low high. elim (cases_eq i e) [
-    | inl same ↦ rw same none
-    | inr other ↦ quiet_before from next e quiet found i low (omega arith)
   ]
 
   -- the first busy entry that has its turn

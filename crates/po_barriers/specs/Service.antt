@@ -1,6 +1,5 @@
--- Which entry is serviced next. The orders are this project's own, within what FIFO_Queuing (D.4) leaves open.
-use Rattle.std.specs.Prelude.{ℕ, ◌≡◌, ◌+◌, ◌<◌, Bool, true, false, Result, Ok, Err, List, ◌++◌, length, map}
-use Rattle.std.specs.Prelude.{take, drop, Option, Some, None}
+-- Which entry is serviced next.
+use Rattle.std.specs.Prelude.{ℕ, ◌≡◌, ◌<◌, Bool, true, false, Result, Ok, Err, List, length, map, Option}
 use Rattle.std.specs.List.{All}
 use Rattle.po_unit.specs.Meaning.{Meaning}
 use Rattle.po_queues.specs.QueuedKeys.{QueuesView, queue_of, keys_on}
@@ -8,20 +7,11 @@ use Rattle.po_queues.specs.Busy.{has_keys}
 use Rattle.po_barriers.specs.declared.look.Look.{Look}
 use Rattle.po_barriers.specs.declared.look.Look.TheVariants.{Quiet, Ready, Broken}
 use Rattle.po_barriers.specs.declared.order.Order.{Order}
-use Rattle.po_barriers.specs.declared.order.Order.TheVariants.{Textual, Oldest, Rotating}
-use Rattle.po_barriers.specs.Turns.{below, turn, first_look, look_if}
+use Rattle.po_barriers.specs.Turns.{below, examined, turn, first_look, look_if}
 
 -- Of each entry, in the order of their numbers, how many keys are queued on it: the attribute Count (9.9).
 abbrev pub counts_of : QueuesView → List ℕ
 counts_of queues = map (λ e. length (queue_of e queues.items)) (below queues.total)
-
--- The entries in the order in which they are examined: by rising number; by the arrival of their first keys; or from
--- the one after the entry that was served last, and round to it.
-abbrev pub examined : Order → Option ℕ → QueuesView → List ℕ
-examined Textual last queues = below queues.total
-examined Oldest last queues = map (λ x. x.entry) queues.items
-examined Rotating None queues = below queues.total
-examined Rotating (Some e) queues = drop (e + 1) (below queues.total) ++ take (e + 1) (below queues.total)
 
 module _ {S V : Type 0} where
   -- Whether the entry is open, or the number of the exception that its barrier propagates (9.5.2, 9.5.3).
@@ -34,7 +24,8 @@ module _ {S V : Type 0} where
 
   -- Which entry is serviced next, if one is: the first of those that are examined that has its turn (9.5.3).
   abbrev pub serviced_next : Meaning S V → S → QueuesView → Order → Option ℕ → Look
-  serviced_next m u queues order last = first_look (turn_at m u queues) (examined order last queues)
+  serviced_next m u queues order last =
+      first_look (turn_at m u queues) (examined order last queues.total (map (λ x. x.entry) queues.items))
 
   -- A key is queued on the entry, whose gate is this.
   pub record IsQueuedAt (m : Meaning S V) (u : S) (queues : QueuesView) (e : ℕ) (gate : Result Bool ℕ) : Type 0 where

@@ -1,12 +1,25 @@
--- The turns of entries: what examining one tells, and which of some comes first.
-use Rattle.std.specs.Prelude.{ℕ, zero, suc, Bool, true, false, Result, Ok, Err, List, [], ◌∷◌, ◌++◌}
+-- The turns of entries: in which order they are examined, what examining one tells, and which of some comes first. The
+-- orders are this project's own, within what FIFO_Queuing (D.4) leaves open.
+use Rattle.std.specs.Prelude.{ℕ, zero, suc, ◌+◌, Bool, true, false, Result, Ok, Err, List, [], ◌∷◌, ◌++◌, take, drop}
+use Rattle.std.specs.Prelude.{Option, Some, None}
 use Rattle.po_barriers.specs.declared.look.Look.{Look}
 use Rattle.po_barriers.specs.declared.look.Look.TheVariants.{Quiet, Ready, Broken}
+use Rattle.po_barriers.specs.declared.order.Order.{Order}
+use Rattle.po_barriers.specs.declared.order.Order.TheVariants.{Textual, Oldest, Rotating}
 
 -- The numbers below n, rising: the entries of an object that has n of them (9.5.2).
 abbrev pub below : ℕ → List ℕ
 below zero = []
 below (suc n) = below n ++ n ∷ []
+
+-- The entries in the order in which they are examined, where these are the entries of what is queued, in order of
+-- arrival: by rising number; by the arrival of what is first on them; or from the one after the entry that was served
+-- last, and round to it.
+abbrev pub examined : Order → Option ℕ → ℕ → List ℕ → List ℕ
+examined Textual last total queued = below total
+examined Oldest last total queued = queued
+examined Rotating None total queued = below total
+examined Rotating (Some e) total queued = drop (e + 1) (below total) ++ take (e + 1) (below total)
 
 -- The turn of an entry on which a key is queued, by its barrier: an open one is served, and one whose barrier
 -- propagates an exception ends all calls (9.5.3).

@@ -1,9 +1,9 @@
 //! Which entry is serviced next: the entries on which keys are queued are examined in the service order (9.5.3).
 
-ghost use Rattle.std.specs.Prelude.{◌≡◌, ◌<◌, ◌≤◌, ◌==◌, drop, length};
+ghost use Rattle.std.specs.Prelude.{◌≡◌, ◌<◌, ◌≤◌, ◌==◌, drop, length, map};
 ghost use Rattle.po_queues.specs.QueuedKeys.{queue_of};
-ghost use Rattle.po_barriers.specs.Turns.{below, turn, first_look};
-ghost use Rattle.po_barriers.specs.Service.{counts_of, gate_at, turn_at, examined, serviced_next, Tells};
+ghost use Rattle.po_barriers.specs.Turns.{below, examined, turn, first_look};
+ghost use Rattle.po_barriers.specs.Service.{counts_of, gate_at, turn_at, serviced_next, Tells};
 ghost use Rattle.po_barriers.specs.Stamps.{first_stamped};
 
 use crate::look::Look;
@@ -32,7 +32,7 @@ pub fn examine<U: Unit>(unit: &U, queues: &Queues, order: Order, last: Option<u1
 fn rotating_turn<U: Unit>(unit: &U, queues: &Queues, last: Option<u16>) -> Look
     requires { U.meaning.entries unit.now ≡ queues.now.total }
     ensures { result ≡ first_look (turn_at U.meaning unit.now queues.now)
-        (examined Order.Rotating last queues.now) }
+        (examined Order.Rotating last queues.now.total (map (λ x. x.entry) queues.now.items)) }
 {
     let total = queues.total();
     let Some(last) = last else {
@@ -70,7 +70,7 @@ fn turn_from<U: Unit>(unit: &U, queues: &Queues, from: u16, to: u16) -> Look
 fn oldest_turn<U: Unit>(unit: &U, queues: &Queues) -> Look
     requires { U.meaning.entries unit.now ≡ queues.now.total }
     ensures { result ≡ first_look (turn_at U.meaning unit.now queues.now)
-        (examined Order.Oldest None queues.now) }
+        (examined Order.Oldest None queues.now.total (map (λ x. x.entry) queues.now.items)) }
 {
     queues.is_sound();
     let mut found = None;

@@ -1,7 +1,11 @@
 -- The numbers are the counts.
-use Rattle.po_barriers.proofs.RangeLemmas.{counts_each}
+use Rattle.std.proofs.Common.{length}
+use Rattle.po_queues.specs.QueuedKeys.{queue_of}
+use Rattle.po_barriers.proofs.RangeLemmas.{numbers_each}
 use Rattle.po_barriers.proofs.examination.counts_in.Goals as goal
 
 pub returns-clause-counts : goal.returns-clause-counts
 returns-clause-counts c =
-    counts_each c.args.queues.now c.counts.result.now c.counts.ensures.one_each c.counts.ensures.each
+    let queues = c.args.queues.now in
+    numbers_each (λ e. length (queue_of e queues.items)) queues.total c.counts.result.now c.counts.ensures.one_each
+    c.counts.ensures.each
