@@ -1,5 +1,5 @@
 -- The calls of an object as they are kept: in a table, on queues of its keys, and the ended ones.
-use Rattle.std.specs.Prelude.{ℕ, ◌≡◌, ◌<◌, ◌≤◌, ◌+◌, ◌-◌, nat_lt, Bool, true, false, List, [], ◌∷◌, map, length, Option, Some, None, option_map, vec_len, vec_capacity, Vec, if◌then◌else◌, find, count_by}
+use Rattle.std.specs.Prelude.{ℕ, ◌≡◌, ◌<◌, ◌≤◌, ◌+◌, ◌-◌, nat_lt, Bool, true, false, List, [], ◌∷◌, length, Option, Some, None, option_map, vec_len, vec_capacity, Vec, if◌then◌else◌, find, count_by}
 use Rattle.std.specs.List.{slice_get, filter_map, All}
 use Rattle.po_unit.specs.declared.outcome.Outcome.{Outcome}
 use Rattle.po_unit.specs.declared.outcome.Outcome.TheVariants.{Complete, Raise, Requeue}
