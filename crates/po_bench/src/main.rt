@@ -22,6 +22,7 @@ mod report;
 mod waiting;
 
 use plan::{MANY, Plan};
+use std::alloc::{AllocError, Global};
 use std::env::{Env, args};
 use std::io::{self, Eprint, Print};
 use std::process::ExitCode;
@@ -36,6 +37,9 @@ const USAGE: u8 = 2;
 
 /// The status where memory was wanting, or a write or a look at the clock failed.
 const NO_MEANS: u8 = 4;
+
+/// How many bytes the allocator is to keep.
+const PIECE: usize = 24 << 20;
 
 /// What is said of other words.
 const USAGE_TEXT: &str = "usage: po_bench [small | full [CALLS]]";
@@ -54,8 +58,16 @@ fn asked<R: Env + AllocGlobal>(rt: &R) -> io::Result<Option<Plan>> {
     }
 }
 
+/// Takes so much memory in one piece, and gives it back: from then on the allocator keeps what it is given back, so that
+/// batches go over memory that earlier ones touched, and don't pay for the system's pages.
+fn keep_memory(alloc: Global) -> Result<(), AllocError> {
+    let mut piece: Vec<u8> = Vec::new(alloc);
+    piece.reserve(PIECE)
+}
+
 /// Takes and prints all measurements.
 fn print_all<R: Print + Clock + Wait + AllocGlobal>(rt: &R, plan: &Plan) -> io::Result<()> {
+    keep_memory(rt.alloc())?;
     against_mutex::print(rt, plan)?;
     waiting::print(rt, plan)?;
     entries::print(rt, plan)?;

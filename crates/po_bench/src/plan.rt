@@ -50,7 +50,7 @@ impl Plan {
         Plan {
             times: true,
             batches: 25,
-            commands: 10_000,
+            commands: 2_000,
             waiting_commands: 400,
             few: 1_000,
             many,

@@ -137,6 +137,8 @@ fn measure<R: Clock + AllocGlobal>(rt: &R, plan: &Plan, calls: u64) -> io::Resul
 
 /// Measures the commands while few and while many calls wait, and prints what they take.
 pub(crate) fn print<R: Print + Clock + AllocGlobal>(rt: &R, plan: &Plan) -> io::Result<()> {
+    // For the memory alone, which the measurements then find touched.
+    measure(rt, plan, plan.many)?;
     let few = measure(rt, plan, plan.few)?;
     let many = measure(rt, plan, plan.many)?;
     for (name, few, many) in [
