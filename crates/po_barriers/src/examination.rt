@@ -119,6 +119,3 @@ fn counts_in(queues: &Queues) -> &[u64]
 {
     queues.counts()
 }
-
-#[cfg(test)]
-mod tests;

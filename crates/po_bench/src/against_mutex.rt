@@ -6,7 +6,7 @@ use crate::measure::Measure;
 use crate::plan::Plan;
 use crate::report::line;
 use po_actions::Core;
-use po_units::Trap;
+use po_classic_units::Trap;
 use std::alloc::{AllocError, Global};
 use std::io::{self, Print};
 use std::sync::{Mutex, Wait};

@@ -3,7 +3,7 @@
 use crate::measure::Measure;
 use po_actions::{Core, Deadline, End};
 use po_index::EntryRef;
-use po_units::Trap;
+use po_classic_units::Trap;
 use std::io;
 use std::time::{Clock, Instant};
 

@@ -8,7 +8,7 @@ use crate::plan::Plan;
 use crate::report::pair;
 use po_actions::{Core, Deadline, Order};
 use po_index::EntryRef;
-use po_units::Allocator;
+use po_classic_units::Allocator;
 use std::alloc::{AllocError, Global};
 use std::io::{self, Print};
 use std::time::{Clock, Instant};

@@ -10,7 +10,7 @@ use crate::measure::Measure;
 use crate::plan::Plan;
 use crate::report::pair;
 use po_actions::Core;
-use po_units::Trap;
+use po_classic_units::Trap;
 use std::io::{self, Print};
 use std::time::Clock;
 

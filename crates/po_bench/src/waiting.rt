@@ -7,7 +7,7 @@ use crate::plan::Plan;
 use crate::report::pair;
 use po_actions::{Aborted, Core, Deadline, Ticket};
 use po_index::EntryRef;
-use po_units::Trap;
+use po_classic_units::Trap;
 use std::io::{self, Print};
 use std::time::{Clock, Instant};
 

@@ -206,6 +206,3 @@ impl<V: Copy> Table<V> {
         }
     }
 }
-
-#[cfg(test)]
-mod tests;

@@ -204,6 +204,3 @@ impl<V: Copy> History<V> {
         Ok(Volume::new(first_place, events))
     }
 }
-
-#[cfg(test)]
-mod tests;

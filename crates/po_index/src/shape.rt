@@ -151,6 +151,3 @@ fn number_firsts(alloc: Global, decls: &[Decl]) -> Result<SmallVec<u16, 8>, Allo
     }
     Ok(firsts)
 }
-
-#[cfg(test)]
-mod tests;

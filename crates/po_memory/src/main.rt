@@ -5,7 +5,7 @@
 use po_actions::{Core, Deadline, End, MakeFault, Order, Place, Ticket};
 use po_index::{EntryRef, Shape, ShapeFault};
 use po_unit::Unit;
-use po_units::{Allocator, Buffer, Trap};
+use po_classic_units::{Allocator, Buffer, Trap};
 use std::alloc::Global;
 use std::io::{self, Eprint, Print};
 

@@ -196,6 +196,3 @@ impl EntryQueues {
         self.by_entry.is_sound();
     }
 }
-
-#[cfg(test)]
-mod tests;

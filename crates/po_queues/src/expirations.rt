@@ -182,6 +182,3 @@ fn cursor_without(chain: &Queues, cursor: Option<usize>, key: usize) -> Option<u
         cursor
     }
 }
-
-#[cfg(test)]
-mod tests;

@@ -241,6 +241,3 @@ impl Queues {
         self.links.get(key).copied().flatten()
     }
 }
-
-#[cfg(test)]
-mod tests;

@@ -3,7 +3,7 @@ use Rattle.std.specs.Prelude.{codes, ℕ, ℤ, Bool, false, ◌&&◌, nat_le, �
 use Rattle.std.specs.Option.{option_map, option_and_then}
 use Rattle.std.specs.Str.{bytes_eq}
 use Rattle.po_script.specs.Words.{words, number_of, is_name, entry_parts}
-use Rattle.po_units.specs.Names.{place_of_name}
+use Rattle.po_classic_units.specs.Names.{place_of_name}
 use Rattle.po_script.specs.Names.{entry_names, procedure_names, function_names}
 use Rattle.po_index.specs.declared.decl.EntryRef.{EntryRef}
 use Rattle.po_calls.specs.declared.call.Deadline.{Deadline}

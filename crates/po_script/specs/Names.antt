@@ -1,13 +1,13 @@
 -- The names that scripts use for what a unit declares.
 use Rattle.std.specs.Prelude.{ℕ, List}
-use Rattle.po_units.specs.Buffer.{buffer_entry_names, buffer_procedure_names, buffer_function_names}
-use Rattle.po_units.specs.Signal.{signal_entry_names, signal_procedure_names, signal_function_names}
-use Rattle.po_units.specs.Broadcast.{broadcast_entry_names, broadcast_procedure_names, broadcast_function_names}
-use Rattle.po_units.specs.Pulse.{pulse_entry_names, pulse_procedure_names, pulse_function_names}
-use Rattle.po_units.specs.Meeting.{meeting_entry_names, meeting_procedure_names, meeting_function_names}
-use Rattle.po_units.specs.Allocator.{allocator_entry_names, allocator_procedure_names, allocator_function_names}
-use Rattle.po_units.specs.Relay.{relay_entry_names, relay_procedure_names, relay_function_names}
-use Rattle.po_units.specs.Trap.{trap_entry_names, trap_procedure_names, trap_function_names}
+use Rattle.po_classic_units.specs.Buffer.{buffer_entry_names, buffer_procedure_names, buffer_function_names}
+use Rattle.po_classic_units.specs.Signal.{signal_entry_names, signal_procedure_names, signal_function_names}
+use Rattle.po_classic_units.specs.Broadcast.{broadcast_entry_names, broadcast_procedure_names, broadcast_function_names}
+use Rattle.po_classic_units.specs.Pulse.{pulse_entry_names, pulse_procedure_names, pulse_function_names}
+use Rattle.po_classic_units.specs.Meeting.{meeting_entry_names, meeting_procedure_names, meeting_function_names}
+use Rattle.po_classic_units.specs.Allocator.{allocator_entry_names, allocator_procedure_names, allocator_function_names}
+use Rattle.po_classic_units.specs.Relay.{relay_entry_names, relay_procedure_names, relay_function_names}
+use Rattle.po_classic_units.specs.Trap.{trap_entry_names, trap_procedure_names, trap_function_names}
 use Rattle.po_script.specs.declared.command.UnitChoice.{UnitChoice}
 use Rattle.po_script.specs.declared.command.UnitChoice.TheVariants.{Buffer, Signal, Broadcast, Pulse, Meeting, Allocator, Relay, Trap}
 

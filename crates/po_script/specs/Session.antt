@@ -5,14 +5,14 @@ use Rattle.po_index.specs.declared.decl.Decl.{Decl}
 use Rattle.po_barriers.specs.declared.order.Order.{Order}
 use Rattle.po_actions.specs.Making.{Making}
 use Rattle.po_actions.specs.View.{View, opening_view}
-use Rattle.po_units.specs.Buffer.{BufferState, new_buffer, buffer_declarations, buffer_meaning, buffer_entry_names}
-use Rattle.po_units.specs.Signal.{SignalState, new_signal, signal_declarations, signal_meaning, signal_entry_names}
-use Rattle.po_units.specs.Broadcast.{BroadcastState, new_broadcast, broadcast_declarations, broadcast_meaning, broadcast_entry_names}
-use Rattle.po_units.specs.Pulse.{PulseState, new_pulse, pulse_declarations, pulse_meaning, pulse_entry_names}
-use Rattle.po_units.specs.Meeting.{MeetingState, new_meeting, meeting_declarations, meeting_meaning, meeting_entry_names}
-use Rattle.po_units.specs.Allocator.{AllocatorState, new_allocator, allocator_declarations, allocator_meaning, allocator_entry_names}
-use Rattle.po_units.specs.Relay.{RelayState, new_relay, relay_declarations, relay_meaning, relay_entry_names}
-use Rattle.po_units.specs.Trap.{TrapState, new_trap, trap_declarations, trap_meaning, trap_entry_names}
+use Rattle.po_classic_units.specs.Buffer.{BufferState, new_buffer, buffer_declarations, buffer_meaning, buffer_entry_names}
+use Rattle.po_classic_units.specs.Signal.{SignalState, new_signal, signal_declarations, signal_meaning, signal_entry_names}
+use Rattle.po_classic_units.specs.Broadcast.{BroadcastState, new_broadcast, broadcast_declarations, broadcast_meaning, broadcast_entry_names}
+use Rattle.po_classic_units.specs.Pulse.{PulseState, new_pulse, pulse_declarations, pulse_meaning, pulse_entry_names}
+use Rattle.po_classic_units.specs.Meeting.{MeetingState, new_meeting, meeting_declarations, meeting_meaning, meeting_entry_names}
+use Rattle.po_classic_units.specs.Allocator.{AllocatorState, new_allocator, allocator_declarations, allocator_meaning, allocator_entry_names}
+use Rattle.po_classic_units.specs.Relay.{RelayState, new_relay, relay_declarations, relay_meaning, relay_entry_names}
+use Rattle.po_classic_units.specs.Trap.{TrapState, new_trap, trap_declarations, trap_meaning, trap_entry_names}
 use Rattle.po_script.specs.declared.command.UnitChoice.{UnitChoice}
 use Rattle.po_script.specs.declared.command.UnitChoice.TheVariants.{Buffer, Signal, Broadcast, Pulse, Meeting, Allocator, Relay, Trap}
 use Rattle.po_script.specs.declared.command.Operation.{Operation}

@@ -15,8 +15,6 @@ pub mod run;
 pub mod session;
 pub mod sink;
 pub mod source;
-#[cfg(test)]
-mod tests;
 mod tickets;
 mod unit_line;
 pub mod words;

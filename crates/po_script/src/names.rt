@@ -1,11 +1,11 @@
 //! The names that scripts use for what a unit declares.
 
 ghost use Rattle.std.specs.Prelude.{◌≡◌};
-ghost use Rattle.po_units.specs.Names.{place_of_name};
+ghost use Rattle.po_classic_units.specs.Names.{place_of_name};
 ghost use Rattle.po_script.specs.Names.{entry_names, procedure_names, function_names};
 
 use crate::command::UnitChoice;
-use po_units::{Allocator, Broadcast, Buffer, Meeting, Pulse, Relay, Signal, Trap};
+use po_classic_units::{Allocator, Broadcast, Buffer, Meeting, Pulse, Relay, Signal, Trap};
 
 /// The number of the unit's declaration of that name, or the number of its declarations.
 pub(crate) fn entry_named(unit: UnitChoice, name: &[u8]) -> u16

@@ -15,7 +15,7 @@ use crate::tickets::Tickets;
 use po_actions::{Core, MakeFault, Start};
 use po_index::{Shape, ShapeFault};
 use po_unit::Unit;
-use po_units::{Allocator, Broadcast, Buffer, Meeting, Pulse, Relay, Signal, Trap};
+use po_classic_units::{Allocator, Broadcast, Buffer, Meeting, Pulse, Relay, Signal, Trap};
 use std::alloc::Global;
 
 /// The object that a `unit` line made.

@@ -4,7 +4,7 @@ ghost use Rattle.std.specs.Prelude.{◌≡◌, ℕ, ◌<◌, ◌++◌, [], Some,
 ghost use Rattle.po_actions.specs.View.{ended_now};
 ghost use Rattle.po_index.specs.Numbering.{entry_count, entry_references};
 ghost use Rattle.po_index.specs.declared.decl.EntryRef.{EntryRef as Reference};
-ghost use Rattle.po_units.specs.Names.{texts_of};
+ghost use Rattle.po_classic_units.specs.Names.{texts_of};
 ghost use Rattle.po_script.specs.Operations.{after_operation, reply_lines, operation_lines, entry_line, entry_lines, show_lines, is_memory};
 ghost use Rattle.po_script.specs.Lines.{refused_line, ended_lines};
 ghost use Rattle.po_script.specs.Tickets.{Knows, IsCollected, HasEnded, AreCollected};

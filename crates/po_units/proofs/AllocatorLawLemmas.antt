@@ -18,9 +18,9 @@ use Rattle.po_actions.specs.Step.{step, Needs, replay, IsLegal}
 use Rattle.po_actions.specs.Making.{Making}
 use Rattle.po_actions.specs.Public.{NamesPublic, AllPublic}
 use Rattle.po_actions.proofs.Lists.{found_on}
-use Rattle.po_units.specs.Declarations.{public_entry, private_family}
+use Rattle.po_classic_units.specs.Declarations.{public_entry, private_family}
 use Rattle.po_units.specs.Completed.{opening, completed_by, all_values}
-use Rattle.po_units.specs.Allocator.{AllocatorState, IsNewAllocator, allocator_gate, is_beyond, allocator_body, release, allocator_meaning, allocator_declarations}
+use Rattle.po_classic_units.specs.Allocator.{AllocatorState, IsNewAllocator, allocator_gate, is_beyond, allocator_body, release, allocator_meaning, allocator_declarations}
 use Rattle.po_units.specs.AllocatorLaw.{AllocatorStaysWithin, values_released, with_release}
 use Rattle.po_units.proofs.HistoryLemmas.{value_from, values_between, Idles, Runs, DoesAtGate, does, found_holds, legal_front, public_front, HoldsRequeued, HoldsIssued, all_wait}
 

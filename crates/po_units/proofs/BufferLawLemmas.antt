@@ -13,7 +13,7 @@ use Rattle.po_actions.specs.Making.{Making}
 use Rattle.po_actions.proofs.Lists.{found_on}
 use Rattle.po_actions.proofs.Wells.{InRange, range-step}
 use Rattle.po_units.specs.Completed.{opening, completed_at, values_at}
-use Rattle.po_units.specs.Buffer.{BufferState, IsNewBuffer, has_room, buffer_gate, put, get, buffer_body, buffer_meaning, buffer_lawful}
+use Rattle.po_classic_units.specs.Buffer.{BufferState, IsNewBuffer, has_room, buffer_gate, put, get, buffer_body, buffer_meaning, buffer_lawful}
 use Rattle.po_units.specs.BufferLaw.{BufferIsFifo, values_put, values_got}
 use Rattle.po_units.proofs.HistoryLemmas.{value_from, values_between, Idles, Runs, DoesAtGate, does, found_holds, legal_front}
 

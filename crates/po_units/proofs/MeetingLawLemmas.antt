@@ -13,7 +13,7 @@ use Rattle.po_actions.specs.Step.{step, Needs, IsLegal, replay}
 use Rattle.po_actions.proofs.Runs.{replay-append}
 use Rattle.po_units.specs.Completed.{opening, state_after, completed_by}
 use Rattle.po_units.specs.Gathered.{servings, issued, with_own_value}
-use Rattle.po_units.specs.Meeting.{MeetingState, meeting_meaning, IsNewMeeting}
+use Rattle.po_classic_units.specs.Meeting.{MeetingState, meeting_meaning, IsNewMeeting}
 use Rattle.po_units.specs.MeetingLaw.{Gathers, BelongsToMeeting, MeetingGathers}
 use Rattle.po_units.proofs.MeetingStates.{m, State, begins_anew, legal_back}
 use Rattle.po_units.proofs.MeetingTrails.{AreLeaving, LetsGo, lets_go, only_serves}

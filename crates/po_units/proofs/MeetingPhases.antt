@@ -7,7 +7,7 @@ use Rattle.po_history.specs.declared.event.Event.TheVariants.{Issue, Serve}
 use Rattle.po_actions.specs.Step.{step, Needs, IsLegal, replay}
 use Rattle.po_actions.proofs.Runs.{replay-append}
 use Rattle.po_units.specs.Gathered.{servings, issued}
-use Rattle.po_units.specs.Meeting.{MeetingState, new_meeting}
+use Rattle.po_classic_units.specs.Meeting.{MeetingState, new_meeting}
 use Rattle.po_units.proofs.MeetingStates.{m, State, OnWait, one_longer}
 use Rattle.po_units.proofs.MeetingTrails.{AreLeaving, only_serves, leaving_on}
 use Rattle.po_units.proofs.MeetingQueues.{IsGathering, Fills, FillsBy, gathering_step, filled_leaves, one_more_waits}

@@ -18,7 +18,7 @@ use Rattle.po_actions.specs.Step.{step, arrive, queue, end_call, cancel, abort, 
 use Rattle.po_actions.proofs.Wells.{All-without}
 use Rattle.po_units.specs.Completed.{values_of, completed_by}
 use Rattle.po_units.specs.Gathered.{issued}
-use Rattle.po_units.specs.Meeting.{MeetingState, new_meeting}
+use Rattle.po_classic_units.specs.Meeting.{MeetingState, new_meeting}
 use Rattle.po_units.proofs.MeetingStates.{m, State, OnWait, gate_is, closed_below, not_both}
 use Rattle.po_units.proofs.MeetingTrails.{Opens, AreLeaving}
 

@@ -12,7 +12,7 @@ use Rattle.po_actions.specs.ObjectState.{ObjectState, gate_in}
 use Rattle.po_actions.specs.Step.{step, IsLegal, replay, IsFound}
 use Rattle.po_actions.proofs.Sums.{sum_by-cons}
 use Rattle.po_units.specs.Gathered.{BeginsAnew}
-use Rattle.po_units.specs.Meeting.{MeetingState, meeting_meaning, meeting_gate, new_meeting}
+use Rattle.po_classic_units.specs.Meeting.{MeetingState, meeting_meaning, meeting_gate, new_meeting}
 
 -- what a meeting means
 abbrev pub m : Meaning MeetingState ℕ

@@ -11,7 +11,7 @@ use Rattle.po_actions.specs.WaitingCalls.{is_on}
 use Rattle.po_actions.specs.ObjectState.{gate_in, IsQuiet, IsAtRest}
 use Rattle.po_actions.specs.Step.{step, serve, without_first, Needs, IsLegal, replay}
 use Rattle.po_units.specs.Gathered.{with_own_value, servings}
-use Rattle.po_units.specs.Meeting.{MeetingState, meeting_gate}
+use Rattle.po_classic_units.specs.Meeting.{MeetingState, meeting_gate}
 use Rattle.po_units.proofs.MeetingStates.{m, State, OnWait, on_wait, all_on_wait, gate_is, not_both, found_entry, one_longer}
 
 -- Wait is open for these calls, and closed once there are none.

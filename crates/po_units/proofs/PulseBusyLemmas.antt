@@ -14,7 +14,7 @@ use Rattle.po_actions.specs.WaitingCalls.{is_on}
 use Rattle.po_actions.specs.ObjectState.{ObjectState, gate_in, IsQuiet}
 use Rattle.po_actions.specs.Step.{without_first, take_out, serve, land, step, MayBegin, Needs, replay, end_call}
 use Rattle.po_actions.proofs.Sums.{sum_by-cons}
-use Rattle.po_units.specs.Pulse.{PulseState, pulse_meaning, pulse_body}
+use Rattle.po_classic_units.specs.Pulse.{PulseState, pulse_meaning, pulse_body}
 use Rattle.po_units.specs.Gathered.{servings, with_own_value}
 use Rattle.po_units.proofs.GatheredLemmas.{EndsAtRest}
 

@@ -18,7 +18,7 @@ use Rattle.po_actions.specs.Step.{end_call}
 use Rattle.po_actions.proofs.Sums.{sum_by-cons}
 use Rattle.po_units.specs.Completed.{values_of, completed_at}
 use Rattle.po_units.specs.Gathered.{issued}
-use Rattle.po_units.specs.Pulse.{PulseState, pulse_meaning, signal}
+use Rattle.po_classic_units.specs.Pulse.{PulseState, pulse_meaning, signal}
 use Rattle.po_units.proofs.PulseBusyLemmas.{PulseObject, IsOnWait, waits, pulse_gate_in, pulse_step, IsBusy, IsOver}
 use Rattle.po_units.proofs.PulseBusyLemmas.{waits-first, not_zero, found_entry}
 

@@ -14,7 +14,7 @@ use Rattle.po_actions.specs.ObjectState.{IsAtRest}
 use Rattle.po_actions.specs.Step.{Needs, IsLegal, replay}
 use Rattle.po_units.specs.Completed.{opening, state_after, completed_at}
 use Rattle.po_units.specs.Gathered.{servings, issued, with_own_value}
-use Rattle.po_units.specs.Pulse.{PulseState, IsNewPulse, pulse_meaning, pulse_declarations}
+use Rattle.po_classic_units.specs.Pulse.{PulseState, IsNewPulse, pulse_meaning, pulse_declarations}
 use Rattle.po_units.specs.PulseLaw.{ReleasesAll, BelongsToSignal, PulseReleasesAll}
 use Rattle.po_units.proofs.GatheredLemmas.{EndsAtRest, servings-push, ends_from, begins_anew, newly_ended-from}
 use Rattle.po_units.proofs.PulseBusyLemmas.{PulseObject, IsOnWait, IsBusy, IsOver, pulse_gate_in, pulse_step}

@@ -5,7 +5,7 @@ use Rattle.po_history.specs.declared.event.Event.TheVariants.{Ran}
 use Rattle.po_actions.specs.Making.{Making}
 use Rattle.po_actions.specs.Public.{AllPublic}
 use Rattle.po_units.specs.Completed.{opening, all_values}
-use Rattle.po_units.specs.Allocator.{AllocatorState, allocator_meaning, allocator_declarations}
+use Rattle.po_classic_units.specs.Allocator.{AllocatorState, allocator_meaning, allocator_declarations}
 
 -- the value of a Release that replied with a value, before others
 abbrev pub with_release : Event ℕ → List ℕ → List ℕ

@@ -3,7 +3,7 @@ use Rattle.std.specs.Prelude.{ℕ, ◌≡◌, ◌≤◌, ◌+◌, List, ◌++◌
 use Rattle.po_history.specs.declared.event.Event.{Event}
 use Rattle.po_actions.specs.Making.{Making}
 use Rattle.po_units.specs.Completed.{opening, values_at}
-use Rattle.po_units.specs.Buffer.{BufferState, buffer_meaning}
+use Rattle.po_classic_units.specs.Buffer.{BufferState, buffer_meaning}
 
 -- the values of the Puts that the events complete, in their order
 abbrev pub values_put : Making BufferState → List (Event ℕ) → List ℕ

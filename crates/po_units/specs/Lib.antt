@@ -1,16 +1,6 @@
-pub mod Allocator
 pub mod AllocatorLaw
-pub mod Broadcast
-pub mod Buffer
 pub mod BufferLaw
 pub mod Completed
-pub mod Declarations
 pub mod Gathered
-pub mod Meeting
 pub mod MeetingLaw
-pub mod Names
-pub mod Pulse
 pub mod PulseLaw
-pub mod Relay
-pub mod Signal
-pub mod Trap

@@ -8,7 +8,7 @@ use Rattle.po_actions.specs.Making.{Making}
 use Rattle.po_actions.specs.View.{newly_ended}
 use Rattle.po_units.specs.Completed.{state_after, completed_by}
 use Rattle.po_units.specs.Gathered.{BeginsAnew, servings, issued, with_own_value}
-use Rattle.po_units.specs.Meeting.{MeetingState, meeting_meaning}
+use Rattle.po_classic_units.specs.Meeting.{MeetingState, meeting_meaning}
 
 -- Behind the early events a call is issued, and its trail lets a meeting go: as many servings of Wait as the meeting is
 -- of complete the calls that wait, in order of arrival, and the issued call last.

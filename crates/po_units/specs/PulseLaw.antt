@@ -9,7 +9,7 @@ use Rattle.po_actions.specs.Public.{AllPublic}
 use Rattle.po_actions.specs.View.{newly_ended}
 use Rattle.po_units.specs.Completed.{state_after, completed_at}
 use Rattle.po_units.specs.Gathered.{BeginsAnew, servings, issued, with_own_value}
-use Rattle.po_units.specs.Pulse.{PulseState, pulse_meaning, pulse_declarations}
+use Rattle.po_classic_units.specs.Pulse.{PulseState, pulse_meaning, pulse_declarations}
 
 -- the servings behind a Signal that finds these calls on Wait: one of Wait for each, and then one of Reset; none where
 -- no call waits

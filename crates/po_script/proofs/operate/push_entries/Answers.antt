@@ -1,6 +1,6 @@
 use Rattle.std.proofs.Common.{◌∙◌, sym, ap, ◌++◌, append_assoc, string_bytes, take, flat_map}
 use Rattle.po_index.specs.Numbering.{entry_references}
-use Rattle.po_units.specs.Names.{texts_of}
+use Rattle.po_classic_units.specs.Names.{texts_of}
 use Rattle.po_script.specs.Operations.{entry_line}
 use Rattle.po_script.proofs.ShowLemmas.{flat_map_more}
 use Rattle.po_script.proofs.operate.push_entries.Goals as goal

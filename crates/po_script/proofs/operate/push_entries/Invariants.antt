@@ -1,6 +1,6 @@
 use Rattle.std.proofs.Common.{◌≡◌, ◌++◌, take, flat_map, string_bytes}
 use Rattle.po_index.specs.Numbering.{entry_references}
-use Rattle.po_units.specs.Names.{texts_of}
+use Rattle.po_classic_units.specs.Names.{texts_of}
 use Rattle.po_script.specs.Operations.{entry_line}
 use Rattle.po_script.proofs.operate.push_entries.Given as goal
 

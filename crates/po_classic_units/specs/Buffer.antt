@@ -1,0 +1,88 @@
+-- What a bounded buffer means: the entry Put adds a value, and the entry Get takes the first one.
+use Rattle.std.specs.Prelude.{◌≡◌, ℕ, ◌≤◌, List, [], ◌∷◌, ◌++◌, length, nat_lt, ◌==◌, Bool, true, false, Ok, refl, codes, if◌then◌else◌}
+use Rattle.po_index.specs.declared.decl.Decl.{Decl}
+use Rattle.po_unit.specs.Meaning.{Meaning, IsLawful, LowersRank}
+use Rattle.po_unit.specs.declared.outcome.Outcome.{Outcome}
+use Rattle.po_unit.specs.declared.outcome.Outcome.TheVariants.{Complete}
+use Rattle.po_classic_units.specs.Declarations.{public_entry}
+
+-- a buffer's values in the order in which they came, and how many there is room for
+pub record BufferState : Type 0 where
+  pub values : List ℕ
+  pub capacity : ℕ
+
+-- the buffer of this capacity as it is made
+abbrev pub new_buffer : ℕ → BufferState
+new_buffer capacity = record { values = []; capacity = capacity }
+
+-- a buffer that keeps to its capacity, where there is memory for this many values
+pub record HasRoomFor (memory : ℕ) (b : BufferState) : Type 0 where
+  pub values : length b.values ≤ b.capacity
+  pub some_room : 1 ≤ b.capacity
+  pub most_room : b.capacity ≤ 1024
+  pub reserved : b.capacity ≤ memory
+
+-- a buffer as it is made, of any capacity that it may have
+pub record IsNewBuffer (b : BufferState) : Type 0 where
+  pub no_values : b.values ≡ []
+  pub some_room : 1 ≤ b.capacity
+  pub most_room : b.capacity ≤ 1024
+
+-- whether there is room for one more value
+abbrev pub has_room : BufferState → Bool
+has_room b = nat_lt (length b.values) b.capacity
+
+-- Put, the entry 0, is open while there is room, and Get, the entry 1, while there is a value
+abbrev pub buffer_gate : BufferState → ℕ → Bool
+buffer_gate b e = if e == 0 then has_room b else nat_lt 0 (length b.values)
+
+-- Put adds the call's value as the last one, unless there is no room
+abbrev pub put : BufferState → ℕ → BufferState × Outcome ℕ
+put b v = (if has_room b then record b { values = b.values ++ v ∷ [] } else b, Complete v)
+
+-- Get takes the first of the values, and its call completes with it, or with its own value where there is none
+abbrev pub get : BufferState → List ℕ → ℕ → BufferState × Outcome ℕ
+get b [] v = (b, Complete v)
+get b (x ∷ xs) v = (record b { values = xs }, Complete x)
+
+abbrev pub buffer_body : BufferState → ℕ → ℕ → BufferState × Outcome ℕ
+buffer_body b e v = if e == 0 then put b v else get b b.values v
+
+abbrev pub buffer_meaning : Meaning BufferState ℕ
+buffer_meaning = record {
+  entries = λ b. 2;
+  procedures = λ b. 0;
+  functions = λ b. 1;
+  gate = λ b e c. Ok (buffer_gate b e);
+  body = λ b e v c. buffer_body b e v;
+  procedure = λ b op v c. (b, Ok v);
+  function = λ b op v c. Ok (length b.values);
+  rank = λ e v. 0;
+}
+
+-- the declarations of a buffer's entries, in the order of their numbers (9.5.2)
+abbrev pub buffer_declarations : List Decl
+buffer_declarations = public_entry ∷ public_entry ∷ []
+
+-- the names of a buffer's entries, procedures and functions, in the order of their numbers
+abbrev pub buffer_entry_names : List (List ℕ)
+buffer_entry_names = codes "Put" ∷ codes "Get" ∷ []
+
+abbrev pub buffer_procedure_names : List (List ℕ)
+buffer_procedure_names = []
+
+abbrev pub buffer_function_names : List (List ℕ)
+buffer_function_names = codes "State" ∷ []
+
+-- no body requeues
+completes : (puts : Bool) (b : BufferState) (xs : List ℕ) (e v : ℕ) → LowersRank buffer_meaning b e v (if puts then put b v else get b xs v).1
+completes true b xs e v = tt
+completes false b [] e v = tt
+completes false b (x ∷ xs) e v = tt
+
+pub buffer_lawful : IsLawful buffer_meaning
+buffer_lawful = record {
+  body_numbers = λ b e v c. record { entries = refl; procedures = refl; functions = refl };
+  procedure_numbers = λ b op v c. record { entries = refl; procedures = refl; functions = refl };
+  requeues = λ b e v c. completes (e == 0) b b.values e v;
+}

@@ -1,0 +1,10 @@
+pub mod Allocator
+pub mod Broadcast
+pub mod Buffer
+pub mod Declarations
+pub mod Meeting
+pub mod Names
+pub mod Pulse
+pub mod Relay
+pub mod Signal
+pub mod Trap

@@ -1,0 +1,26 @@
+//! The units that come with the machine: a bounded buffer, a signal, a broadcast, a pulse, a meeting, an allocator, a relay
+//! and a trap.
+//!
+//! Each head comment of a module shows its unit as an Ada protected type, over the one type of values
+//! `type Value is mod 2 ** 64;`.
+#![tactic(auto)]
+
+mod allocator;
+mod broadcast;
+mod buffer;
+mod declarations;
+mod meeting;
+mod names;
+mod pulse;
+mod relay;
+mod signal;
+mod trap;
+
+pub use allocator::Allocator;
+pub use broadcast::Broadcast;
+pub use buffer::Buffer;
+pub use meeting::Meeting;
+pub use pulse::Pulse;
+pub use relay::Relay;
+pub use signal::Signal;
+pub use trap::Trap;

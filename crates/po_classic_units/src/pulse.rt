@@ -1,0 +1,218 @@
+//! The pulse.
+//!
+//! ```ada
+//! protected type Pulse is
+//!    entry Wait (Item : in out Value);
+//!    entry Signal (Item : in out Value);
+//!    function State return Value;
+//! private
+//!    entry Reset (Item : in out Value);
+//!    Occurred : Boolean := False;
+//! end Pulse;
+//!
+//! protected body Pulse is
+//!    entry Wait (Item : in out Value) when Occurred is
+//!    begin
+//!       null;
+//!    end Wait;
+//!
+//!    entry Signal (Item : in out Value) when True is
+//!    begin
+//!       if Wait'Count > 0 then
+//!          Occurred := True;
+//!          requeue Reset;
+//!       end if;
+//!    end Signal;
+//!
+//!    entry Reset (Item : in out Value) when Wait'Count = 0 is
+//!    begin
+//!       Occurred := False;
+//!    end Reset;
+//!
+//!    function State return Value is (if Occurred then 1 else 0);
+//! end Pulse;
+//! ```
+ghost use Rattle.std.specs.Prelude.{◌≡◌, ◌≢◌, ◌↔◌, IfOk, IsTrue};
+ghost use Rattle.po_classic_units.specs.Pulse.{IsNewPulse, pulse_meaning};
+
+use crate::declarations::{PRIVATE_ENTRY, PUBLIC_ENTRY};
+use crate::names::place_of;
+use po_index::{Decl, Shape, ShapeFault};
+use po_unit::{Outcome, Unit};
+use std::alloc::{AllocError, Global};
+use std::marker::Model;
+
+/// The number of the entry `Wait`.
+const WAIT: u16 = 0;
+
+/// The number of the entry `Signal`.
+const SIGNAL: u16 = 1;
+
+/// The number of the entry `Reset`.
+const RESET: u16 = 2;
+
+const DECLARATIONS: [Decl; 3] = [PUBLIC_ENTRY, PUBLIC_ENTRY, PRIVATE_ENTRY];
+
+const ENTRY_NAMES: [&str; 3] = ["Wait", "Signal", "Reset"];
+
+const PROCEDURE_NAMES: [&str; 0] = [];
+
+const FUNCTION_NAMES: [&str; 1] = ["State"];
+
+/// A pulse that lets go all calls that wait for it: `Signal` opens `Wait`, and requeues on the private entry `Reset`
+/// (9.5.4), which closes `Wait` behind the last of them (9.9).
+#[derive(Debug, Drop)]
+pub struct Pulse {
+    occurred: bool,
+}
+
+impl Model for Pulse {
+    ghost use Rattle.po_classic_units.specs.Pulse.{PulseState};
+
+    ghost Value = { PulseState };
+
+    ghost view = { λ p. record { occurred = p.occurred } };
+}
+
+impl Pulse {
+    ghost use Rattle.po_index.specs.Numbering.{entry_count};
+    ghost use Rattle.po_classic_units.specs.Names.{place_of_name, texts_of};
+    ghost use Rattle.po_classic_units.specs.Pulse.{IsNewPulse, new_pulse, pulse_declarations, pulse_meaning, pulse_entry_names, pulse_procedure_names, pulse_function_names};
+
+    /// A pulse that did not occur yet.
+    pub fn new() -> Pulse
+        ensures { result ≡ new_pulse }
+    {
+        Pulse { occurred: false }
+    }
+
+    /// Whether the state is the one that `new` makes: no pulse lets calls go.
+    pub fn is_new(&self) -> bool
+        ensures { IsTrue result ↔ IsNewPulse self.now }
+    {
+        !self.occurred
+    }
+
+    /// The shape that the entries' declarations make (9.5.2). Only memory can be missing.
+    pub fn shape(&self, alloc: Global) -> Result<Shape, ShapeFault>
+        ensures shape { IfOk result (λ shape. shape ≡ pulse_declarations) }
+        ensures counted { IfOk result (λ shape. entry_count shape ≡ pulse_meaning.entries self.now) }
+        ensures within_limits { result ≢ Err ShapeFault.TooManyEntries }
+    {
+        Shape::new(alloc, &DECLARATIONS)
+    }
+
+    /// The names of the entries, in the order of their declarations (9.5.2).
+    pub fn entry_names() -> &'static [&'static str]
+        ensures { texts_of result.now ≡ pulse_entry_names }
+    {
+        &ENTRY_NAMES
+    }
+
+    /// The names of the protected procedures, of which there are none (9.5.1).
+    pub fn procedure_names() -> &'static [&'static str]
+        ensures { texts_of result.now ≡ pulse_procedure_names }
+    {
+        &PROCEDURE_NAMES
+    }
+
+    /// The names of the protected functions, in the order of their numbers (9.5.1).
+    pub fn function_names() -> &'static [&'static str]
+        ensures { texts_of result.now ≡ pulse_function_names }
+    {
+        &FUNCTION_NAMES
+    }
+
+    /// The place of the entry's declaration, or how many declarations there are where no entry has this name.
+    pub fn entry_named(word: &[u8]) -> u16
+        ensures { result ≡ place_of_name pulse_entry_names word.now }
+    {
+        place_of(&ENTRY_NAMES, word)
+    }
+
+    /// The number of the procedure, or how many there are where none has this name: always 0.
+    pub fn procedure_named(word: &[u8]) -> u16
+        ensures { result ≡ place_of_name pulse_procedure_names word.now }
+    {
+        place_of(&PROCEDURE_NAMES, word)
+    }
+
+    /// The number of the function, or how many there are where none has this name.
+    pub fn function_named(word: &[u8]) -> u16
+        ensures { result ≡ place_of_name pulse_function_names word.now }
+    {
+        place_of(&FUNCTION_NAMES, word)
+    }
+}
+
+impl Unit for Pulse {
+    type Value = u64;
+
+    ghost use Rattle.po_classic_units.specs.Pulse.{pulse_meaning, pulse_lawful};
+
+    ghost meaning = { pulse_meaning };
+
+    fn entries(&self) -> u16 {
+        3
+    }
+
+    fn procedures(&self) -> u16 {
+        0
+    }
+
+    fn functions(&self) -> u16 {
+        1
+    }
+
+    fn barrier(&self, e: u16, counts: &[u64]) -> Result<bool, u32> {
+        Ok(match e {
+            WAIT => self.occurred,
+            SIGNAL => true,
+            _ => counts[WAIT as usize] == 0,
+        })
+    }
+
+    fn body(&mut self, e: u16, v: u64, counts: &[u64]) -> Outcome<u64> {
+        match e {
+            WAIT => {}
+            SIGNAL if counts[WAIT as usize] > 0 => {
+                self.occurred = true;
+                return Outcome::Requeue {
+                    target: RESET,
+                    with_abort: false,
+                    value: v,
+                };
+            }
+            SIGNAL => {}
+            _ => self.occurred = false,
+        }
+        Outcome::Complete(v)
+    }
+
+    /// There is no procedure to call, so this says of any number what the meaning does: nothing changes.
+    fn procedure(&mut self, _op: u16, v: u64, _counts: &[u64]) -> Result<u64, u32>
+        ensures { (self.new, result) ≡ pulse_meaning.procedure self.old _op v _counts.now }
+    {
+        Ok(v)
+    }
+
+    fn function(&self, _op: u16, _v: u64, _counts: &[u64]) -> Result<u64, u32> {
+        Ok(u64::from(self.occurred))
+    }
+
+    fn rank(e: u16, _v: u64) -> u8 {
+        u8::from(e == SIGNAL)
+    }
+
+    fn copy(&self) -> Result<Pulse, AllocError> {
+        Ok(Pulse {
+            occurred: self.occurred,
+        })
+    }
+
+    ghost lawful = { pulse_lawful };
+
+    ghost use Rattle.std.proofs.Common.{rules};
+
+    ghost equality = { Prim.search rules };
+}

@@ -1,0 +1,222 @@
+//! Readers and writers of the tests' own.
+
+ghost use Rattle.std.specs.Prelude.{◌≡◌, false, None};
+
+use po_script::{IoFailed, Sink, Source};
+use std::alloc::Global;
+use std::io;
+use std::io::{Read, Write};
+
+/// Gives its bytes in pieces of one size, and ends or fails where they end.
+#[derive(Drop)]
+pub struct Pieces<'a> {
+    bytes: &'a [u8],
+    size: usize,
+    fails: bool,
+    failed: bool,
+    ended: bool,
+}
+
+impl<'a> Pieces<'a> {
+    pub fn new(bytes: &'a [u8], size: usize, fails: bool) -> Pieces<'a>
+        ensures fine { result.failed ≡ false }
+        ensures fresh { result.ended ≡ false }
+    {
+        Pieces {
+            bytes,
+            size,
+            fails,
+            failed: false,
+            ended: false,
+        }
+    }
+}
+
+impl Source for Pieces<'_> {
+    ghost left = { λ _. None };
+
+    ghost failed = { λ s. s.failed };
+
+    ghost ended = { λ s. s.ended };
+
+    fn read(&mut self, buffer: &mut [u8]) -> Result<usize, IoFailed> {
+        if self.bytes.is_empty() && self.fails {
+            self.failed = true;
+            return Err(IoFailed);
+        }
+        let count = self.size.min(self.bytes.len()).min(buffer.len());
+        let (piece, rest) = self.bytes.split_at(count);
+        buffer[..count].copy_from_slice(piece);
+        self.bytes = rest;
+        if count == 0 {
+            self.ended = true;
+        }
+        Ok(count)
+    }
+}
+
+/// Gives so many comments of 4,096 bytes, and then so many bytes of another line.
+#[derive(Drop)]
+pub struct Comments {
+    comments: u64,
+    more: usize,
+    ended: bool,
+}
+
+impl Comments {
+    pub fn new(comments: u64, more: usize) -> Comments
+        ensures { result.ended ≡ false }
+    {
+        Comments {
+            comments,
+            more,
+            ended: false,
+        }
+    }
+}
+
+impl Source for Comments {
+    ghost left = { λ _. None };
+
+    ghost failed = { λ _. false };
+
+    ghost ended = { λ s. s.ended };
+
+    fn read(&mut self, buffer: &mut [u8]) -> Result<usize, IoFailed> {
+        buffer.fill(b'#');
+        if self.comments > 0 && buffer.len() == 4096 {
+            self.comments -= 1;
+            buffer[4095] = b'\n';
+            return Ok(4096);
+        }
+        let count = self.more.min(buffer.len());
+        self.more -= count;
+        if count == 0 {
+            self.ended = true;
+        }
+        Ok(count)
+    }
+}
+
+/// Gives so many newlines in pieces of one size.
+#[derive(Drop)]
+pub struct Newlines {
+    lines: usize,
+    size: usize,
+    ended: bool,
+}
+
+impl Newlines {
+    pub fn new(lines: usize, size: usize) -> Newlines
+        ensures { result.ended ≡ false }
+    {
+        Newlines {
+            lines,
+            size,
+            ended: false,
+        }
+    }
+}
+
+impl Source for Newlines {
+    ghost left = { λ _. None };
+
+    ghost failed = { λ _. false };
+
+    ghost ended = { λ s. s.ended };
+
+    fn read(&mut self, buffer: &mut [u8]) -> Result<usize, IoFailed> {
+        let count = self.size.min(self.lines).min(buffer.len());
+        buffer[..count].fill(b'\n');
+        self.lines -= count;
+        if count == 0 {
+            self.ended = true;
+        }
+        Ok(count)
+    }
+}
+
+/// Gives newlines for ever, one a read.
+#[derive(Clone, Copy)]
+pub struct Endless;
+
+impl Source for Endless {
+    ghost left = { λ _. None };
+
+    ghost failed = { λ _. false };
+
+    ghost ended = { λ _. false };
+
+    fn read(&mut self, buffer: &mut [u8]) -> Result<usize, IoFailed> {
+        buffer[0] = b'\n';
+        Ok(1)
+    }
+}
+
+/// Takes at most so many bytes a call, has room for so many, and then fails or takes none.
+#[derive(Drop)]
+pub struct Narrow {
+    pub bytes: Vec<u8>,
+    size: usize,
+    room: usize,
+    fails: bool,
+    failed: bool,
+    stuck: bool,
+}
+
+impl Narrow {
+    pub fn new(alloc: Global, size: usize, room: usize, fails: bool) -> Narrow
+        ensures fine { result.failed ≡ false }
+        ensures fresh { result.stuck ≡ false }
+    {
+        Narrow {
+            bytes: Vec::new(alloc),
+            size,
+            room,
+            fails,
+            failed: false,
+            stuck: false,
+        }
+    }
+}
+
+impl Sink for Narrow {
+    ghost taken = { λ _. None };
+
+    ghost failed = { λ s. s.failed };
+
+    ghost stuck = { λ s. s.stuck };
+
+    fn write(&mut self, bytes: &[u8]) -> Result<usize, IoFailed> {
+        let count = self.size.min(self.room).min(bytes.len());
+        if count == 0 && self.fails || self.bytes.extend_from_slice(&bytes[..count]).is_err() {
+            self.failed = true;
+            return Err(IoFailed);
+        }
+        self.room -= count;
+        if count == 0 {
+            self.stuck = true;
+        }
+        Ok(count)
+    }
+}
+
+/// A reader and writer of std that fails.
+#[derive(Clone, Copy)]
+pub struct Broken;
+
+impl Read for Broken {
+    fn read(&mut self, _buf: &mut [u8]) -> io::Result<usize> {
+        Err(io::Error::from(io::ErrorKind::TimedOut))
+    }
+}
+
+impl Write for Broken {
+    fn write(&mut self, _buf: &[u8]) -> io::Result<usize> {
+        Err(io::Error::from(io::ErrorKind::TimedOut))
+    }
+
+    fn flush(&mut self) -> io::Result<()> {
+        Ok(())
+    }
+}
