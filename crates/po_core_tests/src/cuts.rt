@@ -1,10 +1,10 @@
 //! Cores whose histories are cut, against values worked out by hand.
 
-use crate::transcript::{Step, Transcript, compare};
+use crate::transcript::{Step, compare};
 use po_actions::{Core, Order, Start};
 use po_classic_units::{Buffer, Relay, Signal};
 use po_index::EntryRef;
-use std::alloc::Global;
+use std::process::Abort;
 use std::test::Fail;
 
 /// The single entry of a declaration.
@@ -12,50 +12,69 @@ fn single(entry: u16) -> EntryRef {
     EntryRef { entry, index: None }
 }
 
-fn buffer(alloc: Global) -> Result<Transcript<Buffer>, Fail> {
-    let unit = Buffer::new(alloc, 1)?;
-    let shape = unit.shape(alloc)?;
-    let core = Core::new(alloc, unit, shape, Order::Textual, 1)?;
-    Ok(Transcript::of(alloc, core))
+/// Compares what a new buffer with room for one value answers.
+fn on_buffer<R: Abort + AllocGlobal>(
+    rt: &R,
+    steps: &[Step],
+    text: &str,
+    events: &str,
+) -> Result<(), Fail> {
+    let unit = Buffer::new(rt.alloc(), 1)?;
+    let shape = unit.shape(rt.alloc())?;
+    let core = Core::new(rt.alloc(), unit, shape, Order::Textual, 1)?;
+    compare(rt, core, steps, text, events)
 }
 
-fn relay(alloc: Global, order: Order, first_place: u64) -> Result<Transcript<Relay>, Fail> {
+/// From where an object starts whose first event gets this place.
+fn from_place(first_place: u64) -> Start {
+    Start {
+        first_number: 1,
+        first_place,
+        max_queue: None,
+    }
+}
+
+/// Compares what a new relay answers, in rotating order, whose first event gets this place.
+fn on_relay<R: Abort + AllocGlobal>(
+    rt: &R,
+    first_place: u64,
+    steps: &[Step],
+    text: &str,
+    events: &str,
+) -> Result<(), Fail> {
     let unit = Relay::new();
-    let shape = unit.shape(alloc)?;
-    let start = Start {
-        first_number: 1,
-        first_place,
-        max_queue: None,
-    };
-    let core = Core::start(alloc, unit, shape, order, start)?;
-    Ok(Transcript::of(alloc, core))
+    let shape = unit.shape(rt.alloc())?;
+    let start = from_place(first_place);
+    let core = Core::start(rt.alloc(), unit, shape, Order::Rotating, start)?;
+    compare(rt, core, steps, text, events)
 }
 
-fn signal(alloc: Global, first_place: u64) -> Result<Transcript<Signal>, Fail> {
+/// Compares what a new signal answers, whose first event gets this place.
+fn on_signal<R: Abort + AllocGlobal>(
+    rt: &R,
+    first_place: u64,
+    steps: &[Step],
+    text: &str,
+    events: &str,
+) -> Result<(), Fail> {
     let unit = Signal::new();
-    let shape = unit.shape(alloc)?;
-    let start = Start {
-        first_number: 1,
-        first_place,
-        max_queue: None,
-    };
-    let core = Core::start(alloc, unit, shape, Order::Textual, start)?;
-    Ok(Transcript::of(alloc, core))
+    let shape = unit.shape(rt.alloc())?;
+    let start = from_place(first_place);
+    let core = Core::start(rt.alloc(), unit, shape, Order::Textual, start)?;
+    compare(rt, core, steps, text, events)
 }
 
 #[test]
 fn volumes_follow_one_another(rt: HostRuntime) -> Result<(), Fail> {
     let (get, put) = (Step::Call(single(1), 0), Step::Call(single(0), 7));
-    compare(
+    on_buffer(
         &rt,
-        buffer(rt.alloc())?,
         &[get, Step::Cut, put, Step::Outcome(1)],
         "#1; volume 0: Issue ; #2, 2 done 7, 1 done 7; some, 1 done 7; ",
         "Issue Serve(1) ",
     )?;
-    compare(
+    on_buffer(
         &rt,
-        buffer(rt.alloc())?,
         &[
             get,
             Step::Cut,
@@ -85,9 +104,9 @@ fn a_base_keeps_where_calls_arrived(rt: HostRuntime) -> Result<(), Fail> {
         Step::Base,
         Step::Place,
     ];
-    compare(
+    on_relay(
         &rt,
-        relay(rt.alloc(), Order::Rotating, 10)?,
+        10,
         &steps,
         "#1; clock 3; #2; base 10: ended 0 next 1 clock 0 ran 0 last None finalized false; volume 10: Issue Tick(3) Issue ; base 13: 1 at 10 2 at 12 ended 0 next 3 clock 3 ran 0 last None finalized false; done 1; volume 13: Ran Serve(1) Serve(1) ; base 16: 1 at 14 2 at 15 ended 0 next 3 clock 3 ran 1 last Some(1) finalized false; place 16; ",
         "",
@@ -103,9 +122,8 @@ fn a_cut_shows_what_the_last_command_ended(rt: HostRuntime) -> Result<(), Fail> 
         Step::Base,
         Step::EndOf(0),
     ];
-    compare(
+    on_buffer(
         &rt,
-        buffer(rt.alloc())?,
         &steps,
         "#1; final, 1 program_error; volume 0: Issue Final ; base 2: ended 1, 1 program_error next 2 clock 0 ran 0 last None finalized true; ended, 1 program_error; ",
         "",
@@ -124,9 +142,9 @@ fn places_are_spent_at_their_end(rt: HostRuntime) -> Result<(), Fail> {
         Step::Finalize,
         Step::Place,
     ];
-    compare(
+    on_signal(
         &rt,
-        signal(rt.alloc(), 18446744073709551614)?,
+        18446744073709551614,
         &steps,
         "done 0; refused 8; refused 8; clock 1; #1, 1 done 5; final; place 18446744073709551618; ",
         "Ran Tick(1) Issue Final ",

@@ -2,11 +2,11 @@
 
 ghost use Rattle.std.specs.Prelude.{◌≤◌};
 
-use crate::transcript::{Step, Transcript, compare};
+use crate::transcript::{Step, compare};
 use po_actions::{Core, MakeFault, Order, Start};
 use po_classic_units::{Buffer, Relay, Trap};
 use po_index::EntryRef;
-use std::alloc::Global;
+use std::process::Abort;
 use std::test::Fail;
 
 const ORDERS: [Order; 3] = [Order::Textual, Order::Oldest, Order::Rotating];
@@ -39,45 +39,92 @@ fn exact() -> EntryRef {
     single(2)
 }
 
-fn buffer(alloc: Global, capacity: u16, first_number: u64) -> Result<Transcript<Buffer>, Fail>
+/// Compares what a new buffer answers, whose first call gets this number.
+fn on_buffer<R: Abort + AllocGlobal>(
+    rt: &R,
+    capacity: u16,
+    first_number: u64,
+    steps: &[Step],
+    text: &str,
+    events: &str,
+) -> Result<(), Fail>
     requires at_least { 1 ≤ capacity }
     requires at_most { capacity ≤ 1024 }
 {
-    let unit = Buffer::new(alloc, capacity)?;
-    let shape = unit.shape(alloc)?;
-    let core = Core::new(alloc, unit, shape, Order::Textual, first_number)?;
-    Ok(Transcript::of(alloc, core))
+    let unit = Buffer::new(rt.alloc(), capacity)?;
+    let shape = unit.shape(rt.alloc())?;
+    let core = Core::new(rt.alloc(), unit, shape, Order::Textual, first_number)?;
+    compare(rt, core, steps, text, events)
 }
 
-fn relay_from(alloc: Global, order: Order, start: Start) -> Result<Transcript<Relay>, Fail> {
+/// Compares what a new relay answers.
+fn on_relay<R: Abort + AllocGlobal>(
+    rt: &R,
+    order: Order,
+    start: Start,
+    steps: &[Step],
+    text: &str,
+    events: &str,
+) -> Result<(), Fail> {
     let unit = Relay::new();
-    let shape = unit.shape(alloc)?;
-    let core = Core::start(alloc, unit, shape, order, start)?;
-    Ok(Transcript::of(alloc, core))
+    let shape = unit.shape(rt.alloc())?;
+    let core = Core::start(rt.alloc(), unit, shape, order, start)?;
+    compare(rt, core, steps, text, events)
 }
 
-fn relay(alloc: Global, order: Order, max_queue: Option<u64>) -> Result<Transcript<Relay>, Fail> {
-    let start = Start {
-        first_number: 1,
-        first_place: 0,
-        max_queue,
-    };
-    relay_from(alloc, order, start)
+/// Compares what new relays answer, one in each service order, whose queues have at most so many calls.
+fn on_relays<R: Abort + AllocGlobal>(
+    rt: &R,
+    max_queue: Option<u64>,
+    steps: &[Step],
+    text: &str,
+    events: &str,
+) -> Result<(), Fail> {
+    for order in ORDERS {
+        let start = Start {
+            first_number: 1,
+            first_place: 0,
+            max_queue,
+        };
+        on_relay(rt, order, start, steps, text, events)?;
+    }
+    Ok(())
 }
 
-fn trap(alloc: Global, order: Order) -> Result<Transcript<Trap>, Fail> {
+/// Compares what a new trap answers.
+fn on_trap<R: Abort + AllocGlobal>(
+    rt: &R,
+    order: Order,
+    steps: &[Step],
+    text: &str,
+    events: &str,
+) -> Result<(), Fail> {
     let unit = Trap::new();
-    let shape = unit.shape(alloc)?;
-    let core = Core::new(alloc, unit, shape, order, 1)?;
-    Ok(Transcript::of(alloc, core))
+    let shape = unit.shape(rt.alloc())?;
+    let core = Core::new(rt.alloc(), unit, shape, order, 1)?;
+    compare(rt, core, steps, text, events)
+}
+
+/// Compares what new traps answer, one in each service order.
+fn on_traps<R: Abort + AllocGlobal>(
+    rt: &R,
+    steps: &[Step],
+    text: &str,
+    events: &str,
+) -> Result<(), Fail> {
+    for order in ORDERS {
+        on_trap(rt, order, steps, text, events)?;
+    }
+    Ok(())
 }
 
 #[test]
 fn a_get_waits_for_a_put(rt: HostRuntime) -> Result<(), Fail> {
     let steps = [Step::Call(single(1), 0), Step::Call(single(0), 7)];
-    compare(
+    on_buffer(
         &rt,
-        buffer(rt.alloc(), 2, 1)?,
+        2,
+        1,
         &steps,
         "#1; #2, 2 done 7, 1 done 7; ",
         "Issue Issue Serve(1) ",
@@ -99,9 +146,10 @@ fn a_collected_ticket_is_unknown(rt: HostRuntime) -> Result<(), Fail> {
         Step::EndOf(0),
         Step::Outcome(1),
     ];
-    compare(
+    on_buffer(
         &rt,
-        buffer(rt.alloc(), 2, 1)?,
+        2,
+        1,
         &steps,
         "#1; waiting; none; #2, 2 done 7, 1 done 7; ended, 1 done 7; some, 1 done 7; none; unknown; #3, 3 done 8; unknown; some, 1 done 7; ",
         "Issue Issue Serve(1) Issue ",
@@ -111,11 +159,11 @@ fn a_collected_ticket_is_unknown(rt: HostRuntime) -> Result<(), Fail> {
 #[test]
 fn numbers_are_spent_at_their_end(rt: HostRuntime) -> Result<(), Fail> {
     let put = Step::Call(single(0), 7);
-    let spent = buffer(rt.alloc(), 1, 18446744073709551615)?;
-    compare(&rt, spent, &[put], "refused 8; ", "")?;
-    compare(
+    on_buffer(&rt, 1, 18446744073709551615, &[put], "refused 8; ", "")?;
+    on_buffer(
         &rt,
-        buffer(rt.alloc(), 1, 18446744073709551614)?,
+        1,
+        18446744073709551614,
         &[put, put],
         "#18446744073709551614, 18446744073709551614 done 7; refused 8; ",
         "Issue ",
@@ -138,31 +186,25 @@ fn a_call_is_relayed_over_two_actions(rt: HostRuntime) -> Result<(), Fail> {
         Step::Procedure(1),
         Step::Procedure(2),
     ];
-    for order in ORDERS {
-        compare(
-            &rt,
-            relay(rt.alloc(), order, None)?,
-            &steps,
-            "#1; done 1; done 2, 1 done 5; ",
-            "Issue Ran Serve(1) Ran Serve(2) ",
-        )?;
-    }
-    Ok(())
+    on_relays(
+        &rt,
+        None,
+        &steps,
+        "#1; done 1; done 2, 1 done 5; ",
+        "Issue Ran Serve(1) Ran Serve(2) ",
+    )
 }
 
 #[test]
 fn a_call_is_relayed_at_once(rt: HostRuntime) -> Result<(), Fail> {
     let steps = [Step::Call(single(0), 5), Step::Procedure(2)];
-    for order in ORDERS {
-        compare(
-            &rt,
-            relay(rt.alloc(), order, None)?,
-            &steps,
-            "#1; done 2, 1 done 5; ",
-            "Issue Ran Serve(1) Serve(2) ",
-        )?;
-    }
-    Ok(())
+    on_relays(
+        &rt,
+        None,
+        &steps,
+        "#1; done 2, 1 done 5; ",
+        "Issue Ran Serve(1) Serve(2) ",
+    )
 }
 
 #[test]
@@ -174,16 +216,13 @@ fn a_sealed_call_is_marked(rt: HostRuntime) -> Result<(), Fail> {
         Step::Procedure(2),
         Step::Cancel(1),
     ];
-    for order in ORDERS {
-        compare(
-            &rt,
-            relay(rt.alloc(), order, None)?,
-            &steps,
-            "#1; kept; kept; done 2, 1 cancelled; refused 6; ",
-            "Issue Abort(1) Ran Serve(1) ",
-        )?;
-    }
-    Ok(())
+    on_relays(
+        &rt,
+        None,
+        &steps,
+        "#1; kept; kept; done 2, 1 cancelled; refused 6; ",
+        "Issue Abort(1) Ran Serve(1) ",
+    )
 }
 
 #[test]
@@ -194,16 +233,13 @@ fn a_marked_call_shows_no_end_again(rt: HostRuntime) -> Result<(), Fail> {
         Step::Call(single(0), 6),
         Step::Cancel(1),
     ];
-    for order in ORDERS {
-        compare(
-            &rt,
-            relay(rt.alloc(), order, Some(1))?,
-            &steps,
-            "#1; kept; #2, 2 program_error; kept; ",
-            "Issue Abort(1) Issue ",
-        )?;
-    }
-    Ok(())
+    on_relays(
+        &rt,
+        Some(1),
+        &steps,
+        "#1; kept; #2, 2 program_error; kept; ",
+        "Issue Abort(1) Issue ",
+    )
 }
 
 #[test]
@@ -214,31 +250,25 @@ fn a_sealed_conditional_call_waits_on(rt: HostRuntime) -> Result<(), Fail> {
         Step::Timed(0, single(0), 5),
         Step::Procedure(2),
     ];
-    for order in ORDERS {
-        compare(
-            &rt,
-            relay(rt.alloc(), order, None)?,
-            &steps,
-            "#1; done 1, 1 cancelled; #2, 2 cancelled; done 2; ",
-            "Issue Ran Serve(1) Expire(1) Issue Serve(1) Expire(2) Ran ",
-        )?;
-    }
-    Ok(())
+    on_relays(
+        &rt,
+        None,
+        &steps,
+        "#1; done 1, 1 cancelled; #2, 2 cancelled; done 2; ",
+        "Issue Ran Serve(1) Expire(1) Issue Serve(1) Expire(2) Ran ",
+    )
 }
 
 #[test]
 fn a_sealed_conditional_call_may_complete(rt: HostRuntime) -> Result<(), Fail> {
     let steps = [Step::Timed(0, single(0), 5), Step::Procedure(2)];
-    for order in ORDERS {
-        compare(
-            &rt,
-            relay(rt.alloc(), order, None)?,
-            &steps,
-            "#1; done 2, 1 done 5; ",
-            "Issue Ran Serve(1) Serve(2) ",
-        )?;
-    }
-    Ok(())
+    on_relays(
+        &rt,
+        None,
+        &steps,
+        "#1; done 2, 1 done 5; ",
+        "Issue Ran Serve(1) Serve(2) ",
+    )
 }
 
 #[test]
@@ -256,16 +286,13 @@ fn a_full_queue_ends_the_arriving_call(rt: HostRuntime) -> Result<(), Fail> {
         Step::Procedure(1),
         Step::Procedure(2),
     ];
-    for order in ORDERS {
-        compare(
-            &rt,
-            relay(rt.alloc(), order, Some(1))?,
-            &steps,
-            "#1; #2, 2 program_error; kept; done 1, 1 cancelled; #3; #4, 4 program_error; done 0; #5; kept; done 1, 5 cancelled; done 2, 3 done 7; ",
-            "Issue Issue Abort(1) Ran Serve(1) Issue Serve(1) Issue Serve(1) Ran Issue Abort(5) Ran Serve(1) Ran Serve(2) ",
-        )?;
-    }
-    Ok(())
+    on_relays(
+        &rt,
+        Some(1),
+        &steps,
+        "#1; #2, 2 program_error; kept; done 1, 1 cancelled; #3; #4, 4 program_error; done 0; #5; kept; done 1, 5 cancelled; done 2, 3 done 7; ",
+        "Issue Issue Abort(1) Ran Serve(1) Issue Serve(1) Issue Serve(1) Ran Issue Abort(5) Ran Serve(1) Ran Serve(2) ",
+    )
 }
 
 #[test]
@@ -276,16 +303,12 @@ fn a_faulting_barrier_ends_all_queued_calls(rt: HostRuntime) -> Result<(), Fail>
         Step::Call(exact(), 3),
         Step::Procedure(13),
     ];
-    for order in ORDERS {
-        compare(
-            &rt,
-            trap(rt.alloc(), order)?,
-            &steps,
-            "#1; #2; #3; done 13, 1 program_error, 2 program_error, 3 program_error; ",
-            "Issue Issue Issue Ran Break(0) ",
-        )?;
-    }
-    Ok(())
+    on_traps(
+        &rt,
+        &steps,
+        "#1; #2; #3; done 13, 1 program_error, 2 program_error, 3 program_error; ",
+        "Issue Issue Issue Ran Break(0) ",
+    )
 }
 
 #[test]
@@ -297,16 +320,12 @@ fn a_faulting_barrier_ends_the_call_that_arrives(rt: HostRuntime) -> Result<(), 
         Step::Call(fail(), 9),
         Step::Call(wait(3), 6),
     ];
-    for order in ORDERS {
-        compare(
-            &rt,
-            trap(rt.alloc(), order)?,
-            &steps,
-            "#1; done 13; #2, 1 program_error, 2 program_error; #3, 3 raised 9; #4, 4 done 6; ",
-            "Issue Ran Issue Issue Issue ",
-        )?;
-    }
-    Ok(())
+    on_traps(
+        &rt,
+        &steps,
+        "#1; done 13; #2, 1 program_error, 2 program_error; #3, 3 raised 9; #4, 4 done 6; ",
+        "Issue Ran Issue Issue Issue ",
+    )
 }
 
 #[test]
@@ -318,16 +337,12 @@ fn due_calls_expire_one_at_a_time(rt: HostRuntime) -> Result<(), Fail> {
         Step::Tick(5),
         Step::Tick(4),
     ];
-    for order in ORDERS {
-        compare(
-            &rt,
-            trap(rt.alloc(), order)?,
-            &steps,
-            "#1; #2; done 1; clock 5, 1 cancelled, 2 done 2; clock 5; ",
-            "Issue Issue Ran Tick(5) Expire(1) Serve(4) Tick(4) ",
-        )?;
-    }
-    Ok(())
+    on_traps(
+        &rt,
+        &steps,
+        "#1; #2; done 1; clock 5, 1 cancelled, 2 done 2; clock 5; ",
+        "Issue Issue Ran Tick(5) Expire(1) Serve(4) Tick(4) ",
+    )
 }
 
 #[test]
@@ -337,16 +352,12 @@ fn a_call_expires_at_the_last_time(rt: HostRuntime) -> Result<(), Fail> {
         Step::Tick(18446744073709551614),
         Step::Tick(18446744073709551615),
     ];
-    for order in ORDERS {
-        compare(
-            &rt,
-            trap(rt.alloc(), order)?,
-            &steps,
-            "#1; clock 18446744073709551614; clock 18446744073709551615, 1 cancelled; ",
-            "Issue Tick(18446744073709551614) Tick(18446744073709551615) Expire(1) ",
-        )?;
-    }
-    Ok(())
+    on_traps(
+        &rt,
+        &steps,
+        "#1; clock 18446744073709551614; clock 18446744073709551615, 1 cancelled; ",
+        "Issue Tick(18446744073709551614) Tick(18446744073709551615) Expire(1) ",
+    )
 }
 
 #[test]
@@ -357,16 +368,12 @@ fn a_cancellation_is_followed_by_servicing(rt: HostRuntime) -> Result<(), Fail> 
         Step::Procedure(1),
         Step::Cancel(1),
     ];
-    for order in ORDERS {
-        compare(
-            &rt,
-            trap(rt.alloc(), order)?,
-            &steps,
-            "#1; #2; done 1; cancelled, 1 cancelled, 2 done 2; ",
-            "Issue Issue Ran Abort(1) Serve(4) ",
-        )?;
-    }
-    Ok(())
+    on_traps(
+        &rt,
+        &steps,
+        "#1; #2; done 1; cancelled, 1 cancelled, 2 done 2; ",
+        "Issue Issue Ran Abort(1) Serve(4) ",
+    )
 }
 
 #[test]
@@ -383,16 +390,12 @@ fn a_finalized_object_refuses(rt: HostRuntime) -> Result<(), Fail> {
         Step::Function(0),
         Step::Finalize,
     ];
-    for order in ORDERS {
-        compare(
-            &rt,
-            trap(rt.alloc(), order)?,
-            &steps,
-            "#1; #2; final, 1 program_error, 2 program_error; refused 7; refused 7; refused 6; refused 5; refused 7; refused 7; refused 7; ",
-            "Issue Issue Final ",
-        )?;
-    }
-    Ok(())
+    on_traps(
+        &rt,
+        &steps,
+        "#1; #2; final, 1 program_error, 2 program_error; refused 7; refused 7; refused 6; refused 5; refused 7; refused 7; refused 7; ",
+        "Issue Issue Final ",
+    )
 }
 
 #[test]
@@ -407,16 +410,13 @@ fn refusals_come_in_their_order(rt: HostRuntime) -> Result<(), Fail> {
         Step::Count(single(3)),
         Step::Count(single(1)),
     ];
-    for order in ORDERS {
-        compare(
-            &rt,
-            relay(rt.alloc(), order, None)?,
-            &steps,
-            "refused 1; refused 2; refused 5; refused 5; value 0; refused 3; refused 1; count 0; ",
-            "",
-        )?;
-    }
-    Ok(())
+    on_relays(
+        &rt,
+        None,
+        &steps,
+        "refused 1; refused 2; refused 5; refused 5; value 0; refused 3; refused 1; count 0; ",
+        "",
+    )
 }
 
 #[test]
@@ -426,16 +426,7 @@ fn a_bad_index_is_refused(rt: HostRuntime) -> Result<(), Fail> {
         Step::Call(wait(4), 1),
         Step::Call(single(0), 1),
     ];
-    for order in ORDERS {
-        compare(
-            &rt,
-            trap(rt.alloc(), order)?,
-            &steps,
-            "refused 3; refused 3; refused 3; ",
-            "",
-        )?;
-    }
-    Ok(())
+    on_traps(&rt, &steps, "refused 3; refused 3; refused 3; ", "")
 }
 
 #[test]
@@ -456,23 +447,11 @@ fn entries_are_served_in_the_order_of_the_object(rt: HostRuntime) -> Result<(), 
     let rotating =
         "#1; done 1, 1 done 10; done 0; #2; #3; #4; done 3, 4 done 25, 2 done 30, 3 done 20; ";
     let first = "Issue Ran Serve(0) Ran Issue Issue Issue Ran Serve(0) Serve(1) Serve(2) ";
-    compare(
-        &rt,
-        trap(rt.alloc(), Order::Textual)?,
-        &steps,
-        textual,
-        first,
-    )?;
+    on_trap(&rt, Order::Textual, &steps, textual, first)?;
     let first = "Issue Ran Serve(0) Ran Issue Issue Issue Ran Serve(2) Serve(0) Serve(1) ";
-    compare(&rt, trap(rt.alloc(), Order::Oldest)?, &steps, oldest, first)?;
+    on_trap(&rt, Order::Oldest, &steps, oldest, first)?;
     let first = "Issue Ran Serve(0) Ran Issue Issue Issue Ran Serve(1) Serve(2) Serve(0) ";
-    compare(
-        &rt,
-        trap(rt.alloc(), Order::Rotating)?,
-        &steps,
-        rotating,
-        first,
-    )
+    on_trap(&rt, Order::Rotating, &steps, rotating, first)
 }
 
 #[test]
@@ -490,9 +469,10 @@ fn procedures_are_refused_past_the_last_place(rt: HostRuntime) -> Result<(), Fai
         Step::Finalize,
         Step::Place,
     ];
-    compare(
+    on_relay(
         &rt,
-        relay_from(rt.alloc(), Order::Textual, start)?,
+        Order::Textual,
+        start,
         &steps,
         "done 0; refused 8; clock 1; #1; final, 1 program_error; place 18446744073709551618; ",
         "Ran Tick(1) Issue Final ",

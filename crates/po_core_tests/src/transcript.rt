@@ -34,7 +34,7 @@ pub(crate) enum Step {
 
 /// A core, the tickets of its calls, and what its commands answered: first the answer, then the calls that ended.
 #[derive(Drop)]
-pub(crate) struct Transcript<U: Unit<Value = u64> + Drop> {
+struct Transcript<U: Unit<Value = u64> + Drop> {
     core: Core<U>,
     tickets: Vec<Ticket>,
     text: String,
@@ -82,29 +82,25 @@ fn events_of(alloc: Global, events: &[Event<u64>]) -> Result<String, Fail> {
     Ok(text)
 }
 
-/// Carries out the steps, and compares what they answered and what the history then has.
+/// Carries out the steps on a core, and compares what they answered and what the history then has.
 pub(crate) fn compare<R: Abort + AllocGlobal, U: Unit<Value = u64> + Drop>(
     rt: &R,
-    run: Transcript<U>,
+    core: Core<U>,
     steps: &[Step],
     text: &str,
     events: &str,
 ) -> Result<(), Fail> {
-    let mut run = run;
+    let mut run = Transcript {
+        core,
+        tickets: Vec::new(rt.alloc()),
+        text: String::new(rt.alloc()),
+    };
     let compared = run.compare(rt, steps, text, events);
     drop(run);
     compared
 }
 
 impl<U: Unit<Value = u64> + Drop> Transcript<U> {
-    pub(crate) fn of(alloc: Global, core: Core<U>) -> Transcript<U> {
-        Transcript {
-            core,
-            tickets: Vec::new(alloc),
-            text: String::new(alloc),
-        }
-    }
-
     fn compare<R: Abort + AllocGlobal>(
         &mut self,
         rt: &R,
