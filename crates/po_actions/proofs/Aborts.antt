@@ -8,9 +8,10 @@ use Rattle.po_calls.specs.declared.call.Call.{Call}
 use Rattle.po_history.specs.declared.event.Event.{Event}
 use Rattle.po_history.specs.declared.event.Event.TheVariants.{Abort}
 use Rattle.po_barriers.specs.Turns.{below}
-use Rattle.po_actions.specs.WaitingCalls.{is_on, has_number, is_due, counts_of}
+use Rattle.po_accepted.specs.WaitingCalls.{is_on, has_number, is_due, counts_of, mark}
 use Rattle.po_actions.specs.ObjectState.{ObjectState, gate_in, IsAtRest}
-use Rattle.po_actions.specs.Step.{mark, step, replay, IsFound}
+use Rattle.po_actions.specs.Step.{step, replay}
+use Rattle.po_accepted.specs.Finding.{IsFound}
 use Rattle.po_actions.specs.Pick.{ArePicks, weight}
 use Rattle.po_actions.specs.View.{View, last_served}
 use Rattle.po_actions.specs.Progress.{Begins, Settles, IsSameCommand}

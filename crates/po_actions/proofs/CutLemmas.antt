@@ -11,7 +11,7 @@ use Rattle.po_calls.specs.declared.call.Call.{Call}
 use Rattle.po_history.specs.Histories.{HistoryView, VolumeView, joined}
 use Rattle.po_history.proofs.Volumes.{run_on-append, joined-append}
 use Rattle.po_actions.specs.ObjectState.{opening_state}
-use Rattle.po_actions.specs.WaitingCalls.{has_number}
+use Rattle.po_accepted.specs.WaitingCalls.{has_number}
 use Rattle.po_actions.specs.Step.{replay, IsLegal}
 use Rattle.po_actions.specs.Base.{Base, state_with, arrived, arrived_among, is_ran}
 use Rattle.po_actions.specs.Public.{NamesPublic}

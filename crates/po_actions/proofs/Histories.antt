@@ -6,9 +6,11 @@ use Rattle.std.proofs.lemmas.Bool.Decides.{nat_tests}
 use Rattle.po_unit.specs.Meaning.{Meaning}
 use Rattle.po_history.specs.declared.event.Event.{Event}
 use Rattle.po_actions.specs.ObjectState.{ObjectState, opening_state, gate_in, IsAtRest}
-use Rattle.po_actions.specs.WaitingCalls.{is_due, has_number}
-use Rattle.po_actions.specs.Tickets.{number_at, AreIssued}
-use Rattle.po_actions.specs.Step.{replay, IsLegal, Needs, step, has_ended}
+use Rattle.po_accepted.specs.WaitingCalls.{is_due, has_number}
+use Rattle.po_accepted.specs.Tickets.{number_at}
+use Rattle.po_actions.specs.Tickets.{AreIssued}
+use Rattle.po_actions.specs.Step.{replay, IsLegal, Needs, step}
+use Rattle.po_accepted.specs.Ending.{has_ended}
 use Rattle.po_actions.specs.Base.{Base, opening_base, state_with, state_at, is_ran}
 use Rattle.po_actions.specs.Making.{Making}
 use Rattle.po_actions.specs.View.{IsInOnePlace, opening_view}

@@ -1,15 +1,8 @@
 pub mod Aborts
-pub mod CallPlaces
-pub mod CallReads
-pub mod CallWalks
 pub mod CutLemmas
 pub mod Ends
 pub mod Falls
-pub mod HandSteps
-pub mod Held
 pub mod Histories
-pub mod KeptSteps
-pub mod Lists
 pub mod Looks
 pub mod Noted
 pub mod Orders

@@ -8,8 +8,8 @@ use Rattle.std.proofs.lemmas.List.Sums.{count_by_more_yes, sum_by-take-le}
 use Rattle.std.proofs.lemmas.Bool.Decides.{nat_tests}
 use Rattle.std.proofs.lemmas.Bool.{cases_eq}
 use Rattle.po_history.specs.Histories.{HistoryView, outcome_of}
-use Rattle.po_actions.specs.declared.ended.Ended.{Ended}
-use Rattle.po_actions.specs.Step.{has_ended}
+use Rattle.po_accepted.specs.declared.ended.Ended.{Ended}
+use Rattle.po_accepted.specs.Ending.{has_ended}
 use Rattle.po_actions.specs.Outcomes.{AreOutcomes}
 use Rattle.po_actions.proofs.Picks.{eq_self}
 use Rattle.po_actions.proofs.Sums.{sum_by-cons}

@@ -14,13 +14,13 @@ use Rattle.po_barriers.specs.Turns.{turn, look_if, examined}
 use Rattle.po_history.specs.declared.event.Event.{Event}
 use Rattle.po_history.specs.declared.event.Event.TheVariants.{Issue, Ran, Abort, Tick, Final, Serve, Break, Expire}
 use Rattle.po_actions.specs.ObjectState.{ObjectState, gate_in, IsQuiet, IsAtRest}
-use Rattle.po_actions.specs.WaitingCalls.{has_number, is_on, is_due}
+use Rattle.po_accepted.specs.WaitingCalls.{has_number, is_on, is_due}
 use Rattle.po_actions.specs.Step.{Needs}
 use Rattle.po_actions.specs.Public.{NamesPublic}
 use Rattle.po_actions.specs.Base.{is_ran}
 use Rattle.po_actions.specs.Pick.{event_of, turn_of, next_turn, pick, Fits}
 use Rattle.po_barriers.proofs.ExaminedLemmas.{mapped_each, examined_covers, examined_range, closed, none_each, first_look_each}
-use Rattle.po_actions.proofs.Lists.{found_passes}
+use Rattle.po_accepted.proofs.Lists.{found_passes}
 use Rattle.po_actions.proofs.Sums.{sum_by-cons}
 use Rattle.po_actions.proofs.Wells.{IsWell}
 

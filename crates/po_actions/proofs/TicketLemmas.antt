@@ -12,7 +12,8 @@ use Rattle.po_actions.specs.StateView.{StateView}
 use Rattle.po_actions.specs.History.{IsKept}
 use Rattle.po_actions.specs.View.{View}
 use Rattle.po_actions.specs.Progress.{Begins, Settles, IsSameCommand}
-use Rattle.po_actions.specs.Tickets.{CoreView, number_at, SetsTicket, AreIssued}
+use Rattle.po_actions.specs.Tickets.{CoreView, AreIssued}
+use Rattle.po_accepted.specs.Tickets.{number_at, SetsTicket}
 use Rattle.po_actions.specs.ProtectedAction.{settled}
 use Rattle.po_actions.proofs.Wells.{next_le, next_le_all, next-issue}
 

@@ -3,7 +3,7 @@ use Rattle.std.specs.Prelude.{ℕ, ◌≡◌, ◌<◌, ◌≤◌, List, [], leng
 use Rattle.po_unit.specs.Meaning.{Meaning}
 use Rattle.po_index.specs.Numbering.{entry_count}
 use Rattle.po_history.specs.declared.event.Event.{Event}
-use Rattle.po_actions.specs.declared.ended.Ended.{Ended}
+use Rattle.po_accepted.specs.declared.ended.Ended.{Ended}
 use Rattle.po_actions.specs.ObjectState.{ObjectState}
 use Rattle.po_actions.specs.Step.{replay, IsLegal}
 use Rattle.po_actions.specs.Base.{Base, state_at, arrived, is_ran}

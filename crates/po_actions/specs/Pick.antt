@@ -9,9 +9,10 @@ use Rattle.po_barriers.specs.declared.order.Order.{Order}
 use Rattle.po_barriers.specs.Turns.{turn, first_look, look_if, examined}
 use Rattle.po_history.specs.declared.event.Event.{Event}
 use Rattle.po_history.specs.declared.event.Event.TheVariants.{Issue, Ran, Abort, Tick, Final, Serve, Break, Expire}
-use Rattle.po_actions.specs.WaitingCalls.{has_number, is_on, is_due}
+use Rattle.po_accepted.specs.WaitingCalls.{has_number, is_on, is_due}
 use Rattle.po_actions.specs.ObjectState.{ObjectState, gate_in, IsQuiet}
-use Rattle.po_actions.specs.Step.{step, IsFound}
+use Rattle.po_actions.specs.Step.{step}
+use Rattle.po_accepted.specs.Finding.{IsFound}
 
 -- the event that services what a look tells: the one of an open entry is served, and a barrier that propagates an
 -- exception ends all calls (9.5.3)

@@ -1,10 +1,12 @@
 -- What contracts see of a state inside of this crate.
-use Rattle.std.specs.Prelude.{ℕ, ◌≤◌, List, Option, Bool}
+use Rattle.std.specs.Prelude.{ℕ, ◌<◌, ◌≤◌, List, Option, Bool}
 use Rattle.std.specs.List.{All}
 use Rattle.po_unit.specs.Meaning.{Meaning}
+use Rattle.po_unit.specs.declared.outcome.Outcome.{Outcome}
+use Rattle.po_unit.specs.declared.outcome.Outcome.TheVariants.{Complete, Raise, Requeue}
 use Rattle.po_calls.specs.declared.call.Call.{Call}
 use Rattle.po_actions.specs.ObjectState.{ObjectState}
-use Rattle.po_actions.specs.Calls.{CallsView}
+use Rattle.po_accepted.specs.Calls.{CallsView}
 
 -- What contracts see of a state beside it: where its calls arrived, its tickets, and whether there is room for a call.
 pub record StateView (S V : Type 0) : Type 0 where
@@ -16,6 +18,12 @@ pub record StateView (S V : Type 0) : Type 0 where
   -- by key the number of the uncollected call whose ticket has that key
   pub tickets : List (Option ℕ)
   pub has_room : Bool
+
+-- A requeue names an entry that there is.
+abbrev pub NamesEntry : {V : Type 0} → ℕ → Outcome V → Type 0
+NamesEntry total (Complete v) = Unit {0}
+NamesEntry total (Raise k) = Unit {0}
+NamesEntry total (Requeue target with_abort v) = target < total
 
 module _ {S V : Type 0} where
   -- the state of an object with this data and these calls

@@ -4,35 +4,15 @@ use Rattle.po_unit.specs.Meaning.{Meaning}
 use Rattle.po_unit.specs.declared.outcome.Outcome.{Outcome}
 use Rattle.po_unit.specs.declared.outcome.Outcome.TheVariants.{Complete, Raise, Requeue}
 use Rattle.po_calls.specs.declared.call.Call.{Call}
-use Rattle.po_actions.specs.declared.ended.Ended.{Ended}
+use Rattle.po_accepted.specs.declared.ended.Ended.{Ended}
 use Rattle.po_calls.specs.declared.end.End.{End}
 use Rattle.po_calls.specs.declared.end.End.TheVariants.{Completed, Raised, Cancelled, ProgramError}
 use Rattle.po_history.specs.declared.event.Event.{Event}
 use Rattle.po_history.specs.declared.event.Event.TheVariants.{Issue, Ran, Abort, Tick, Final, Serve, Break, Expire}
-use Rattle.po_actions.specs.WaitingCalls.{is_on, has_number, is_due}
+use Rattle.po_accepted.specs.Ending.{ended_as}
+use Rattle.po_accepted.specs.Finding.{without_first, IsFound}
+use Rattle.po_accepted.specs.WaitingCalls.{is_on, has_number, is_due, mark}
 use Rattle.po_actions.specs.ObjectState.{ObjectState, counts_in, gate_in, IsQuiet, IsAtRest}
-
--- the list without its first element that passes the test
-abbrev pub without_first : {X : Type 0} → (X → Bool) → List X → List X
-without_first test [] = []
-without_first test (x ∷ xs) = if test x then xs else x ∷ without_first test xs
-
--- There is one, and it meets the condition.
-abbrev pub IsFound : {X : Type 0} → (X → Type 0) → Option X → Type 0
-IsFound P None = ⊥
-IsFound P (Some x) = P x
-
--- the call, ended in this way
-abbrev pub ended_as : {V : Type 0} → End V → Call V → Ended V
-ended_as end x = record { number = x.number; owner = x.owner; end = end }
-
--- whether it is the end of the call with number n
-abbrev pub has_ended : {V : Type 0} → ℕ → Ended V → Bool
-has_ended n x = x.number == n
-
--- the call, marked as aborted if it has number n: an attempt was made to cancel it while it was sealed (9.5.3, 9.5.4)
-abbrev pub mark : {V : Type 0} → ℕ → Call V → Call V
-mark n x = if has_number n x then record x { aborted = true } else x
 
 -- whether so many queued calls are as many as the queue of an entry may have (D.7, Max_Entry_Queue_Length, here for an object)
 abbrev pub is_full : Option ℕ → ℕ → Bool

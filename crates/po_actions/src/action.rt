@@ -2,22 +2,25 @@
 
 ghost use Rattle.std.specs.Prelude.{◌≡◌, ◌≢◌, ◌<◌, ◌∷◌, [], None, Some, true, false, find, ◌&&◌, MatchOption, option_map, MatchBool, length, slice_index, IfOk, OnOk, OnErr, OnSome, IfNone};
 ghost use Rattle.po_index.specs.Numbering.{entry_count, is_public};
-ghost use Rattle.po_actions.specs.WaitingCalls.{has_number, is_of};
+ghost use Rattle.po_accepted.specs.WaitingCalls.{has_number, is_of};
 ghost use Rattle.po_actions.specs.ObjectState.{IsAtRest, counts_in};
-ghost use Rattle.po_actions.specs.Step.{step, has_ended, MayBegin, IsFound};
+ghost use Rattle.po_actions.specs.Step.{step, MayBegin};
+ghost use Rattle.po_accepted.specs.Ending.{has_ended};
+ghost use Rattle.po_accepted.specs.Finding.{IsFound};
 ghost use Rattle.po_actions.specs.Pick.{pick, served_last, weight};
 ghost use Rattle.po_actions.specs.View.{next_place, last_served, base_state, ended_now, opening_view};
 ghost use Rattle.po_actions.specs.Progress.{Settles, Begins, Happens, IsSameCommand};
 ghost use Rattle.po_actions.specs.ProtectedAction.{settled, without_event};
-ghost use Rattle.po_actions.specs.Tickets.{place_of_ticket, end_of_ticket, number_at, SetsTicket};
+ghost use Rattle.po_actions.specs.Tickets.{place_of_ticket, end_of_ticket};
+ghost use Rattle.po_accepted.specs.Tickets.{number_at, SetsTicket};
 ghost use Rattle.po_actions.specs.Headline.{IsSound};
 ghost use Rattle.po_actions.specs.Cutting.{cut, cut_off, AreVolumes, Leads};
 
 use crate::base::Base;
-use crate::ended::Ended;
 use crate::making::Making;
 use crate::noting::note;
 use crate::state::State;
+use po_accepted::Ended;
 use po_calls::{Deadline, End, Place, Ticket};
 use po_history::{Event, History, Volume};
 use po_unit::Unit;

@@ -3,7 +3,7 @@
 ghost use Rattle.std.specs.Prelude.{◌≡◌, map, IfOk};
 ghost use Rattle.po_actions.specs.Base.{opening_base};
 
-use crate::arrival::Arrival;
+use po_accepted::Arrival;
 use po_unit::Unit;
 use std::alloc::{AllocError, Global};
 use std::marker::Model;

@@ -2,10 +2,7 @@
 #![tactic(auto)]
 
 mod action;
-mod arrival;
 mod base;
-mod calls;
-mod ended;
 mod fault;
 mod making;
 mod noting;
@@ -14,10 +11,9 @@ mod refusal;
 mod start;
 mod state;
 
-pub use arrival::Arrival;
 pub use base::Base;
-pub use ended::Ended;
 pub use fault::MakeFault;
+pub use po_accepted::{Arrival, Ended};
 pub use po_barriers::Order;
 pub use po_calls::{Call, Deadline, End, Place, Ticket};
 pub use po_history::{Event, Volume};

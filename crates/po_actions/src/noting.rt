@@ -1,12 +1,12 @@
 //! An event is noted in the history, once the state has changed by it.
 
 ghost use Rattle.std.specs.Prelude.{◌≡◌, ◌<◌, ◌≤◌, ◌+◌, ◌-◌, ◌∷◌, ◌++◌, ℕ, [], All, count_by, length, take};
-ghost use Rattle.po_actions.specs.Step.{has_ended};
+ghost use Rattle.po_accepted.specs.Ending.{has_ended};
 ghost use Rattle.po_actions.specs.Pick.{owed};
 ghost use Rattle.po_actions.specs.Outcomes.{AreOutcomes, IsCallOf};
 
-use crate::ended::Ended;
 use crate::state::State;
+use po_accepted::Ended;
 use po_history::{Event, History};
 use po_unit::Unit;
 

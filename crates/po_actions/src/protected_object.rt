@@ -2,12 +2,13 @@
 
 ghost use Rattle.std.specs.Prelude.{◌≡◌, ◌≢◌, ◌∷◌, ◌++◌, [], ◌↔◌, slice_index, None, Some, find, option_map, unwrap_or, Option, List, true, IfOk, IfErr, IfNone, OnSome, MatchResult, OnOk, OnErr};
 ghost use Rattle.po_index.specs.Numbering.{entry_count, flat_number, is_public};
-ghost use Rattle.po_actions.specs.WaitingCalls.{is_of};
+ghost use Rattle.po_accepted.specs.WaitingCalls.{is_of};
 ghost use Rattle.po_actions.specs.ObjectState.{counts_in};
-ghost use Rattle.po_actions.specs.Step.{has_ended};
+ghost use Rattle.po_accepted.specs.Ending.{has_ended};
 ghost use Rattle.po_actions.specs.View.{next_place, ended_now, opening_view, base_state};
 ghost use Rattle.po_actions.specs.ProtectedAction.{IsProtectedAction, IsAbortOf, after_action, after_abort, abort_answer};
-ghost use Rattle.po_actions.specs.Tickets.{number_at, SetsTicket, place_of_ticket, end_of_ticket, AreIssued};
+ghost use Rattle.po_accepted.specs.Tickets.{number_at, SetsTicket};
+ghost use Rattle.po_actions.specs.Tickets.{place_of_ticket, end_of_ticket, AreIssued};
 ghost use Rattle.po_actions.specs.Refusals.{entry_of, entry_refusal, issue_refusal, run_refusal, read_refusal, abort_refusal, finalized_refusal, count_refusal, cut_refusal};
 ghost use Rattle.po_actions.specs.Commands.{issue_of, reply_of};
 ghost use Rattle.po_actions.specs.Headline.{Headline};
@@ -17,11 +18,11 @@ ghost use Rattle.po_actions.specs.declared.refusal.Refusal.{Refusal};
 
 use crate::action::Action;
 use crate::base::Base;
-use crate::ended::Ended;
 use crate::fault::MakeFault;
 use crate::making::Making;
 use crate::refusal::{Aborted, Refusal};
 use crate::start::Start;
+use po_accepted::Ended;
 use po_barriers::Order;
 use po_calls::{Deadline, End, Place, Ticket};
 use po_history::{Event, Volume};

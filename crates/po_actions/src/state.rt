@@ -1,17 +1,16 @@
 //! The state of a protected object: its data and its calls.
 
 ghost use Rattle.std.specs.Prelude.{◌≡◌, ◌<◌, ◌≤◌, ◌+◌, ◌∷◌, ◌++◌, [], ℕ, true, false, count_by, slice_index, map, All, Option, None, Some, IfOk, OnOk, OnErr, OnSome, IfNone, IsSome, find, option_map, if◌then◌else◌};
-ghost use Rattle.po_actions.specs.WaitingCalls.{is_on, is_of, has_number};
+ghost use Rattle.po_accepted.specs.WaitingCalls.{is_on, is_of, has_number};
 ghost use Rattle.po_actions.specs.ObjectState.{opening_state, counts_in, gate_in};
 ghost use Rattle.po_actions.specs.Pick.{event_of, next_turn, pick, owed, Fits};
-ghost use Rattle.po_actions.specs.Step.{enter, cancel, abort, advance, finalize, run_procedure, end_call, end_all, queue, land, run_body, take_out, step, arrive, has_ended};
+ghost use Rattle.po_actions.specs.Step.{enter, cancel, abort, advance, finalize, run_procedure, end_call, end_all, queue, land, run_body, take_out, step, arrive};
 ghost use Rattle.po_actions.specs.Arrival.{AreAt, noted, call_of};
-ghost use Rattle.po_actions.specs.Tickets.{number_at, SetsTicket, place_among, end_at};
-ghost use Rattle.po_actions.specs.Calls.{places_without, NamesEntry};
+ghost use Rattle.po_accepted.specs.Tickets.{number_at, SetsTicket, place_among, end_at};
+ghost use Rattle.po_accepted.specs.Calls.{places_without};
+ghost use Rattle.po_actions.specs.StateView.{NamesEntry};
 
-use crate::arrival::Arrival;
-use crate::calls::Calls;
-use crate::ended::Ended;
+use po_accepted::{Arrival, Calls, Ended};
 use po_barriers::{Look, Order, examine};
 use po_calls::{Call, Deadline, End, Place, Ticket};
 use po_history::Event;
@@ -229,7 +228,7 @@ impl<U: Unit> State<U> {
     }
 
     /// The first call on the entry is served.
-    #[tactic(auto, using(crate::proofs::Lists::found_on))]
+    #[tactic(auto, using(po_accepted::proofs::Lists::found_on))]
     fn serve(&mut self, limit: Option<u64>, e: u16, place: u128)
         requires hand { self.old.hand ≡ None }
         requires found { IsSome (find (is_on e) self.old.state.waiting) }
@@ -249,7 +248,7 @@ impl<U: Unit> State<U> {
     }
 
     /// A queued call is cancelled.
-    #[tactic(auto, using(crate::proofs::Lists::without_none))]
+    #[tactic(auto, using(po_accepted::proofs::Lists::without_none))]
     fn cancel(&mut self, n: u64)
         requires { self.old.hand ≡ None }
         ensures state { self.new ≡ record self.old {

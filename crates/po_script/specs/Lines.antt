@@ -2,7 +2,7 @@
 use Rattle.std.specs.Prelude.{codes, ℕ, ℤ, List, [], ◌∷◌, ◌++◌, flat_map, unwrap_or, slice_get, Result, Ok, Err, Option, Some, None}
 use Rattle.std.specs.Fmt.{decimal, signed_decimal}
 use Rattle.po_index.specs.declared.decl.EntryRef.{EntryRef}
-use Rattle.po_actions.specs.declared.ended.Ended.{Ended}
+use Rattle.po_accepted.specs.declared.ended.Ended.{Ended}
 use Rattle.po_calls.specs.declared.end.End.{End}
 use Rattle.po_calls.specs.declared.end.End.TheVariants.{Completed, Raised, Cancelled, ProgramError}
 use Rattle.po_actions.specs.declared.refusal.Refusal.{Refusal}

@@ -1,11 +1,12 @@
 -- The tickets that a script keeps, and that it collects the calls that have ended.
 use Rattle.std.specs.Prelude.{ℕ, ◌≡◌, ◌≢◌, ◌<◌, nat_eq, List, All, Option, Some, IsSome, find}
 use Rattle.std.specs.HashMap.{get, spare}
-use Rattle.po_actions.specs.declared.ended.Ended.{Ended}
+use Rattle.po_accepted.specs.declared.ended.Ended.{Ended}
 use Rattle.po_calls.specs.declared.ticket.Ticket.{Ticket}
-use Rattle.po_actions.specs.Step.{has_ended}
+use Rattle.po_accepted.specs.Ending.{has_ended}
 use Rattle.po_actions.specs.View.{View, ended_now}
-use Rattle.po_actions.specs.Tickets.{CoreView, number_at}
+use Rattle.po_actions.specs.Tickets.{CoreView}
+use Rattle.po_accepted.specs.Tickets.{number_at}
 use Rattle.po_script.specs.declared.object.Object.{Object}
 use Rattle.po_script.specs.declared.object.Object.TheVariants.{Buffer, Signal, Broadcast, Pulse, Meeting, Allocator, Relay, Trap}
 use Rattle.po_script.specs.declared.tickets.Tickets.{Tickets}

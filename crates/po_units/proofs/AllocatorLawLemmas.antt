@@ -12,12 +12,12 @@ use Rattle.po_unit.specs.declared.outcome.Outcome.TheVariants.{Raise, Requeue}
 use Rattle.po_calls.specs.declared.call.Call.{Call}
 use Rattle.po_history.specs.declared.event.Event.{Event}
 use Rattle.po_history.specs.declared.event.Event.TheVariants.{Issue, Ran, Abort, Tick, Final, Serve, Break, Expire}
-use Rattle.po_actions.specs.WaitingCalls.{is_on}
+use Rattle.po_accepted.specs.WaitingCalls.{is_on}
 use Rattle.po_actions.specs.ObjectState.{ObjectState, gate_in}
 use Rattle.po_actions.specs.Step.{step, Needs, replay, IsLegal}
 use Rattle.po_actions.specs.Making.{Making}
 use Rattle.po_actions.specs.Public.{NamesPublic, AllPublic}
-use Rattle.po_actions.proofs.Lists.{found_on}
+use Rattle.po_accepted.proofs.Lists.{found_on}
 use Rattle.po_classic_units.specs.Declarations.{public_entry, private_family}
 use Rattle.po_units.specs.Completed.{opening, completed_by, all_values}
 use Rattle.po_classic_units.specs.Allocator.{AllocatorState, IsNewAllocator, allocator_gate, is_beyond, allocator_body, release, allocator_meaning, allocator_declarations}

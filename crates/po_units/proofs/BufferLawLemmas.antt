@@ -6,11 +6,11 @@ use Rattle.std.proofs.lemmas.List.Elements.{All-nil}
 use Rattle.po_calls.specs.declared.call.Call.{Call}
 use Rattle.po_history.specs.declared.event.Event.{Event}
 use Rattle.po_history.specs.declared.event.Event.TheVariants.{Issue, Ran, Abort, Tick, Final, Serve, Break, Expire}
-use Rattle.po_actions.specs.WaitingCalls.{is_on}
+use Rattle.po_accepted.specs.WaitingCalls.{is_on}
 use Rattle.po_actions.specs.ObjectState.{ObjectState}
 use Rattle.po_actions.specs.Step.{step, Needs, replay, IsLegal}
 use Rattle.po_actions.specs.Making.{Making}
-use Rattle.po_actions.proofs.Lists.{found_on}
+use Rattle.po_accepted.proofs.Lists.{found_on}
 use Rattle.po_actions.proofs.Wells.{InRange, range-step}
 use Rattle.po_units.specs.Completed.{opening, completed_at, values_at}
 use Rattle.po_classic_units.specs.Buffer.{BufferState, IsNewBuffer, has_room, buffer_gate, put, get, buffer_body, buffer_meaning, buffer_lawful}

@@ -6,13 +6,14 @@ use Rattle.std.proofs.lemmas.Bool.Decides.{nat_tests}
 use Rattle.std.proofs.lemmas.List.Elements.{All-nil, All-cons, All-head, All-tail, All-push, All-weaker}
 use Rattle.po_unit.specs.declared.outcome.Outcome.TheVariants.{Complete}
 use Rattle.po_calls.specs.declared.call.Call.{Call}
-use Rattle.po_actions.specs.declared.ended.Ended.{Ended}
+use Rattle.po_accepted.specs.declared.ended.Ended.{Ended}
 use Rattle.po_calls.specs.declared.end.End.TheVariants.{Completed}
 use Rattle.po_history.specs.declared.event.Event.{Event}
 use Rattle.po_history.specs.declared.event.Event.TheVariants.{Issue, Ran, Abort, Tick, Final, Serve, Break, Expire}
-use Rattle.po_actions.specs.WaitingCalls.{is_on}
+use Rattle.po_accepted.specs.WaitingCalls.{is_on}
 use Rattle.po_actions.specs.ObjectState.{ObjectState, gate_in, IsQuiet}
-use Rattle.po_actions.specs.Step.{without_first, take_out, serve, land, step, MayBegin, Needs, replay, end_call}
+use Rattle.po_accepted.specs.Finding.{without_first}
+use Rattle.po_actions.specs.Step.{take_out, serve, land, step, MayBegin, Needs, replay, end_call}
 use Rattle.po_actions.proofs.Sums.{sum_by-cons}
 use Rattle.po_classic_units.specs.Pulse.{PulseState, pulse_meaning, pulse_body}
 use Rattle.po_units.specs.Gathered.{servings, with_own_value}

@@ -12,9 +12,9 @@ use Rattle.po_calls.specs.declared.call.Deadline.{Deadline}
 use Rattle.po_calls.specs.declared.end.End.TheVariants.{Completed, ProgramError}
 use Rattle.po_history.specs.declared.event.Event.{Event}
 use Rattle.po_history.specs.declared.event.Event.TheVariants.{Issue, Ran, Abort, Tick, Final, Serve, Break, Expire}
-use Rattle.po_actions.specs.WaitingCalls.{has_number, is_on}
-use Rattle.po_actions.specs.Step.{without_first, land, enter, is_full, arrive, queue, cancel, abort, mark, Needs}
-use Rattle.po_actions.specs.Step.{end_call}
+use Rattle.po_accepted.specs.WaitingCalls.{has_number, is_on, mark}
+use Rattle.po_accepted.specs.Finding.{without_first}
+use Rattle.po_actions.specs.Step.{land, enter, is_full, arrive, queue, cancel, abort, Needs, end_call}
 use Rattle.po_actions.proofs.Sums.{sum_by-cons}
 use Rattle.po_units.specs.Completed.{values_of, completed_at}
 use Rattle.po_units.specs.Gathered.{issued}

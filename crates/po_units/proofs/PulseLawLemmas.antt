@@ -9,7 +9,7 @@ use Rattle.po_history.specs.declared.event.Event.{Event}
 use Rattle.po_history.specs.declared.event.Event.TheVariants.{Issue, Ran, Abort, Tick, Final, Serve, Break, Expire}
 use Rattle.po_actions.specs.Making.{Making}
 use Rattle.po_actions.specs.Public.{NamesPublic, AllPublic}
-use Rattle.po_actions.specs.WaitingCalls.{has_number}
+use Rattle.po_accepted.specs.WaitingCalls.{has_number}
 use Rattle.po_actions.specs.ObjectState.{IsAtRest}
 use Rattle.po_actions.specs.Step.{Needs, IsLegal, replay}
 use Rattle.po_units.specs.Completed.{opening, state_after, completed_at}

@@ -1,7 +1,7 @@
 -- The values with which calls complete, read off a history from the opening of an object.
 use Rattle.std.specs.Prelude.{ℕ, ◌==◌, List, [], ◌∷◌, ◌++◌, Bool, false, Option, if◌then◌else◌}
 use Rattle.po_unit.specs.Meaning.{Meaning}
-use Rattle.po_actions.specs.declared.ended.Ended.{Ended}
+use Rattle.po_accepted.specs.declared.ended.Ended.{Ended}
 use Rattle.po_calls.specs.declared.end.End.{End}
 use Rattle.po_calls.specs.declared.end.End.TheVariants.{Completed}
 use Rattle.po_history.specs.declared.event.Event.{Event}

@@ -2,11 +2,11 @@
 use Rattle.std.specs.Prelude.{ℕ, zero, suc, ◌≡◌, List, [], ◌∷◌, Bool, true, false}
 use Rattle.po_calls.specs.declared.call.Call.{Call}
 use Rattle.po_calls.specs.declared.call.Deadline.{Deadline}
-use Rattle.po_actions.specs.declared.ended.Ended.{Ended}
+use Rattle.po_accepted.specs.declared.ended.Ended.{Ended}
 use Rattle.po_calls.specs.declared.end.End.TheVariants.{Completed}
 use Rattle.po_history.specs.declared.event.Event.{Event}
 use Rattle.po_history.specs.declared.event.Event.TheVariants.{Serve, Break, Expire}
-use Rattle.po_actions.specs.Step.{ended_as}
+use Rattle.po_accepted.specs.Ending.{ended_as}
 
 -- whether the event is an inner one (9.5.3)
 abbrev pub is_inner : {V : Type 0} → Event V → Bool

@@ -1,6 +1,6 @@
 use Rattle.std.proofs.Common.{◌≤◌, subst, sym}
 use Rattle.std.specs.List.{count_by}
-use Rattle.po_actions.specs.Step.{has_ended}
+use Rattle.po_accepted.specs.Ending.{has_ended}
 use Rattle.po_actions.proofs.noting.note.Goals as goal
 
 pub note_ends-requires-clause-once : goal.note_ends-requires-clause-once

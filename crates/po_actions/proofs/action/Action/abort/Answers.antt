@@ -1,11 +1,12 @@
 use Rattle.std.proofs.Common.{◌≡◌, sym, subst, ap, refl, arith, ◌&&◌, false}
 use Rattle.po_history.specs.declared.event.Event.TheVariants.{Abort}
-use Rattle.po_actions.specs.Step.{MayBegin, IsFound}
+use Rattle.po_actions.specs.Step.{MayBegin}
+use Rattle.po_accepted.specs.Finding.{IsFound}
 use Rattle.po_actions.proofs.Histories.{may_note_own, kept_begins}
 use Rattle.po_actions.proofs.PlacesKept.{arrived_by}
 use Rattle.std.specs.List.{find}
 use Rattle.po_index.specs.Numbering.{entry_count}
-use Rattle.po_actions.specs.WaitingCalls.{has_number}
+use Rattle.po_accepted.specs.WaitingCalls.{has_number}
 use Rattle.po_actions.proofs.Wells.{next_abort}
 use Rattle.po_actions.proofs.Falls.{owed_abort}
 use Rattle.po_actions.proofs.action.Action.abort.Goals as goal

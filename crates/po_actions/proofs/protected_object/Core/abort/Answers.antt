@@ -1,6 +1,6 @@
 use Rattle.std.proofs.Common.{◌≡◌, Some}
 use Rattle.std.specs.List.{find}
-use Rattle.po_actions.specs.WaitingCalls.{has_number}
+use Rattle.po_accepted.specs.WaitingCalls.{has_number}
 use Rattle.po_history.specs.declared.event.Event.TheVariants.{Abort}
 use Rattle.po_actions.specs.ProtectedAction.{after_abort}
 use Rattle.po_actions.proofs.TicketLemmas.{issued_action, issued_begun, same_core}

@@ -1,6 +1,6 @@
 use Rattle.std.proofs.Common.{◌≡◌, ap, sym, subst, ◌∙◌, ◌-◌, ◌≤◌, arith, Some}
 use Rattle.std.specs.List.{find, count_by}
-use Rattle.po_actions.specs.WaitingCalls.{has_number}
+use Rattle.po_accepted.specs.WaitingCalls.{has_number}
 use Rattle.po_actions.specs.Arrival.{AreAt}
 use Rattle.po_actions.specs.StateView.{state_with_calls, AreLow}
 use Rattle.po_actions.specs.Pick.{owed}

@@ -1,5 +1,5 @@
 use Rattle.std.proofs.Common.{ap, sym, subst, ◌∙◌}
-use Rattle.po_actions.specs.WaitingCalls.{has_number}
+use Rattle.po_accepted.specs.WaitingCalls.{has_number}
 use Rattle.po_actions.specs.Arrival.{AreAt}
 use Rattle.po_actions.specs.StateView.{state_with_calls}
 use Rattle.po_actions.proofs.Owing.{paid}

@@ -1,0 +1,43 @@
+use Rattle.std.proofs.Common.{refl, sym, ◌∙◌}
+use Rattle.po_accepted.specs.Calls.{call_at, key_of}
+use Rattle.po_accepted.proofs.HandSteps.{no_hand, no_number, number_taken}
+use Rattle.po_accepted.proofs.KeptSteps.{taken_in_hand}
+use Rattle.po_accepted.proofs.calls.Calls.take_number.Goals as goal
+
+pub returns-in_err-key-clause-found : goal.returns-in_err-key-clause-found
+returns-in_err-key-clause-found g c =
+    let s = c.self.inside in let i = c.self.invariant in
+    let f = call_at s.table.calls in let ix = key_of s.first s.keys.items in
+    let none = no_number f ix s.queues s.hand c.args.n i.queued c.in_err-key.ensures.none in
+    rw (c.from_residual.ensures, ← c.self.view_is) (sym none.found)
+
+pub returns-in_err-key-clause-taken : goal.returns-in_err-key-clause-taken
+returns-in_err-key-clause-taken g c =
+    let s = c.self.inside in let i = c.self.invariant in
+    let f = call_at s.table.calls in let ix = key_of s.first s.keys.items in
+    let r = rw (← c.self.view_is) at c.requires.hand in
+    let none = no_number f ix s.queues s.hand c.args.n i.queued c.in_err-key.ensures.none in
+    rw (c.from_residual.ensures, ← c.self.view_is) (rw (r, none.waiting, none.places) refl)
+
+pub invariant_of-self : goal.invariant_of-self
+invariant_of-self g c =
+    let s = c.self.inside in let i = c.self.invariant in
+    let f = call_at s.table.calls in let ix = key_of s.first s.keys.items in
+    let r = rw (← c.self.view_is) at c.requires.hand in
+    let none = no_hand f ix s.queues s.hand i.queued r in
+    let taken = number_taken f ix s.queues s.hand c.args.n c.in_ok-key.key c.queued_key.ensures.sound i.queued c.in_ok-key.ensures.found in
+    rw c.remove.ensures.others (taken_in_hand s.table s.queues s.keys s.ended s.first s.hand s.has_room c.in_ok-key.key c.queued_key.ensures.sound taken.has none i)
+
+pub returns-clause-found : goal.returns-clause-found
+returns-clause-found g c =
+    let s = c.self.inside in let i = c.self.invariant in
+    let f = call_at s.table.calls in let ix = key_of s.first s.keys.items in
+    let taken = number_taken f ix s.queues s.hand c.args.n c.in_ok-key.key c.queued_key.ensures.sound i.queued c.in_ok-key.ensures.found in
+    rw (← c.self.view_is) (c.in_hand.ensures ∙ taken.found)
+
+pub returns-clause-taken : goal.returns-clause-taken
+returns-clause-taken g c =
+    let s = c.self.inside in let i = c.self.invariant in
+    let f = call_at s.table.calls in let ix = key_of s.first s.keys.items in
+    let taken = number_taken f ix s.queues s.hand c.args.n c.in_ok-key.key c.queued_key.ensures.sound i.queued c.in_ok-key.ensures.found in
+    rw (c.in_hand.ensures, c.remove.ensures.others, ← c.self.view_is) (rw (taken.waiting, taken.places) refl)

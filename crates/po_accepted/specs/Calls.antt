@@ -1,0 +1,129 @@
+-- The calls of an object as they are kept: in a table, on queues of its keys, and the ended ones.
+use Rattle.std.specs.Prelude.{ℕ, ◌≡◌, ◌<◌, ◌≤◌, ◌+◌, ◌-◌, nat_lt, Bool, true, false, List, [], ◌∷◌, length, Option, Some, None, option_map, vec_len, vec_capacity, Vec, if◌then◌else◌, find, count_by}
+use Rattle.std.specs.List.{slice_get, filter_map, All}
+use Rattle.slab.specs.Slab.{Slab, get, HasRoomFor}
+use Rattle.po_queues.specs.QueuedKeys.{occurs}
+use Rattle.po_queues.specs.Arrived.{Arrived, EntryQueuesView, arrived_keys}
+use Rattle.po_calls.specs.declared.call.Call.{Call}
+use Rattle.po_calls.specs.declared.call.Deadline.{Deadline}
+use Rattle.po_calls.specs.declared.call.Deadline.TheVariants.{Never, At}
+use Rattle.po_calls.specs.declared.kept.Kept.{Kept}
+use Rattle.po_calls.specs.Calls.{CallTable, waiting_call, IsAbove}
+use Rattle.po_accepted.specs.declared.ended.Ended.{Ended}
+use Rattle.po_accepted.specs.WaitingCalls.{has_number}
+use Rattle.po_accepted.specs.Finding.{IsFound}
+use Rattle.po_accepted.specs.Ending.{has_ended}
+
+-- What contracts see of the calls.
+pub record CallsView (V : Type 0) : Type 0 where
+  -- the queued calls of all entries, in order of arrival
+  pub waiting : List (Call V)
+  -- of each of them the place in the history at which it arrived
+  pub places : List ℕ
+  -- the call that is being served: it isn't queued, and hasn't ended
+  pub hand : Option (Call V)
+  -- the calls that have ended, in that order
+  pub ended : List (Ended V)
+  -- by key the number of the uncollected call whose ticket has that key
+  pub tickets : List (Option ℕ)
+  pub total : ℕ
+  pub next : ℕ
+  pub clock : ℕ
+  -- whether there is room for one more call
+  pub has_room : Bool
+
+-- the time of a deadline, if it has one (9.7.2)
+abbrev pub time_of : Deadline → Option ℕ
+time_of Never = None
+time_of (At time) = Some time
+
+-- the time at which a call expires, if it does: one that a requeue without abort queued doesn't (9.5.4, 9.7.2)
+abbrev pub expires_at : {V : Type 0} → Call V → Option ℕ
+expires_at x = if x.sealed then None else time_of x.deadline
+
+-- the places, in the same order as the calls, but that of the first call that passes the test
+abbrev pub places_without : {V : Type 0} → (Call V → Bool) → List (Call V) → List ℕ → List ℕ
+places_without test [] places = places
+places_without test (x ∷ xs) [] = []
+places_without test (x ∷ xs) (k ∷ places) = if test x then places else k ∷ places_without test xs places
+
+-- the number of each call leads to its key, where the first call has this number
+abbrev pub key_of : ℕ → List ℕ → ℕ → Option ℕ
+key_of first keys n = if nat_lt n first then None else slice_get keys (n - first)
+
+-- how many calls are in hand
+abbrev pub hands : Option ℕ → ℕ
+hands None = 0
+hands (Some k) = 1
+
+module _ {V : Type 0} where
+  -- the waiting call that has this key
+  abbrev pub call_at : Slab (Kept V) → ℕ → Option (Call V)
+  call_at calls k = waiting_call (get calls k)
+
+  -- the calls of what is queued
+  abbrev pub waiting_in : (ℕ → Option (Call V)) → List Arrived → List (Call V)
+  waiting_in call items = filter_map (λ i. call i.key) items
+
+  -- the call of a key, if there is a key
+  abbrev pub of_key : (ℕ → Option (Call V)) → Option ℕ → Option (Call V)
+  of_key call None = None
+  of_key call (Some k) = call k
+
+  -- The call is queued as it says: on its entry, and to expire at its time; and its number leads to the key.
+  pub record IsQueuedAs (index : ℕ → Option ℕ) (i : Arrived) (x : Call V) : Type 0 where
+    pub entry : x.entry ≡ i.entry
+    pub expires : expires_at x ≡ i.expires
+    pub indexed : index x.number ≡ Some i.key
+
+  -- Each queued key has a waiting call that is queued as it says.
+  abbrev pub AllQueued : (ℕ → Option (Call V)) → (ℕ → Option ℕ) → List Arrived → Type 0
+  AllQueued call index [] = Unit {0}
+  AllQueued call index (i ∷ is) = IsFound (IsQueuedAs index i) (call i.key) × AllQueued call index is
+
+  -- The call in hand waits, and isn't queued.
+  abbrev pub IsInHand : (ℕ → Option (Call V)) → (ℕ → Option ℕ) → ℕ → List Arrived → Option ℕ → Type 0
+  IsInHand call index reserved items None = Unit {0}
+  IsInHand call index reserved items (Some k) = (k < reserved) × (occurs k (arrived_keys items) ≡ false) × IsFound (λ x. index x.number ≡ Some k) (call k)
+
+  -- The number leads to this key, which is queued, and whose call has the number.
+  pub record IsKeyOf (call : ℕ → Option (Call V)) (index : ℕ → Option ℕ) (items : List Arrived) (n k : ℕ) : Type 0 where
+    pub indexed : index n ≡ Some k
+    pub is_queued : occurs k (arrived_keys items) ≡ true
+    pub its : IsFound (λ x. x.number ≡ n) (call k)
+
+  -- What is queued are the waiting calls but the one in hand.
+  pub record IsQueued (call : ℕ → Option (Call V)) (index : ℕ → Option ℕ) (queues : EntryQueuesView) (hand : Option ℕ) : Type 0 where
+    pub queued : AllQueued call index queues.items
+    pub in_hand : IsInHand call index queues.reserved queues.items hand
+    pub only : (k : ℕ) (x : Call V) → call k ≡ Some x → occurs k (arrived_keys queues.items) ≡ false → hand ≡ Some k
+
+  -- What the table keeps of each call: the call's number leads to its key, and its end is the one that it ended with.
+  pub record IsKeptWell (calls : Slab (Kept V)) (index : ℕ → Option ℕ) (ended : List (Ended V)) : Type 0 where
+    pub indexed : (key : ℕ) (k : Kept V) → get calls key ≡ Some k → index k.call.number ≡ Some key
+    pub ends : (key : ℕ) (k : Kept V) → get calls key ≡ Some k → k.end ≡ option_map (λ x. x.end) (find (has_ended k.call.number) ended)
+
+  -- There is room for one more call, in the table, on the queues, and in the index.
+  pub record HasCallRoom {A : Type 0} (calls : Slab (Kept V)) (reserved : ℕ) (keys : Vec ℕ A) : Type 0 where
+    pub table : HasRoomFor calls 1
+    pub key : calls.vacant_key < reserved
+    pub index : vec_len keys + 1 ≤ vec_capacity keys
+
+  -- What calls keep.
+  pub record KeepsCalls {A B : Type 0} (table : CallTable V) (queues : EntryQueuesView) (keys : Vec ℕ A) (ended : Vec (Ended V) B) (first : ℕ) (hand : Option ℕ) (has_room : Bool) : Type 0 where
+    pub queued : IsQueued (call_at table.calls) (key_of first keys.items) queues hand
+    pub kept : IsKeptWell table.calls (key_of first keys.items) ended.items
+    pub last : IsAbove table.last (first + vec_len keys)
+    pub numbers : first + vec_len keys < 18_446_744_073_709_551_616
+    pub ended_before : All (λ x. x.number < first + vec_len keys) ended.items
+    pub each : vec_len ended + length queues.items + hands hand ≡ vec_len keys
+    pub for_ended : vec_len keys + (if has_room then 1 else 0) ≤ vec_capacity ended
+    pub room : has_room ≡ true → HasCallRoom table.calls queues.reserved keys
+
+-- What all calls keep: no number is twice among the waiting ones, each is below the next one, and each waiting call has
+-- its place.
+pub record AreCallsSound {V : Type 0} (calls : CallsView V) : Type 0 where
+  pub once : (n : ℕ) → count_by (has_number n) calls.waiting ≤ 1
+  pub below_next : All (λ x. x.number < calls.next) calls.waiting
+  pub placed : length calls.places ≡ length calls.waiting
+  pub few : length calls.waiting < 18_446_744_073_709_551_616
