@@ -13,9 +13,9 @@ use crate::operate::operate;
 use crate::session::OutOfMemory;
 use crate::tickets::Tickets;
 use po_actions::{Core, MakeFault, Start};
+use po_classic_units::{Allocator, Broadcast, Buffer, Meeting, Pulse, Relay, Signal, Trap};
 use po_index::{Shape, ShapeFault};
 use po_unit::Unit;
-use po_classic_units::{Allocator, Broadcast, Buffer, Meeting, Pulse, Relay, Signal, Trap};
 use std::alloc::Global;
 
 /// The object that a `unit` line made.

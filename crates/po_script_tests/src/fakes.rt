@@ -9,7 +9,7 @@ use std::io::{Read, Write};
 
 /// Gives its bytes in pieces of one size, and ends or fails where they end.
 #[derive(Drop)]
-pub struct Pieces<'a> {
+pub(crate) struct Pieces<'a> {
     bytes: &'a [u8],
     size: usize,
     fails: bool,
@@ -18,7 +18,7 @@ pub struct Pieces<'a> {
 }
 
 impl<'a> Pieces<'a> {
-    pub fn new(bytes: &'a [u8], size: usize, fails: bool) -> Pieces<'a>
+    pub(crate) fn new(bytes: &'a [u8], size: usize, fails: bool) -> Pieces<'a>
         ensures fine { result.failed ≡ false }
         ensures fresh { result.ended ≡ false }
     {
@@ -57,14 +57,14 @@ impl Source for Pieces<'_> {
 
 /// Gives so many comments of 4,096 bytes, and then so many bytes of another line.
 #[derive(Drop)]
-pub struct Comments {
+pub(crate) struct Comments {
     comments: u64,
     more: usize,
     ended: bool,
 }
 
 impl Comments {
-    pub fn new(comments: u64, more: usize) -> Comments
+    pub(crate) fn new(comments: u64, more: usize) -> Comments
         ensures { result.ended ≡ false }
     {
         Comments {
@@ -100,14 +100,14 @@ impl Source for Comments {
 
 /// Gives so many newlines in pieces of one size.
 #[derive(Drop)]
-pub struct Newlines {
+pub(crate) struct Newlines {
     lines: usize,
     size: usize,
     ended: bool,
 }
 
 impl Newlines {
-    pub fn new(lines: usize, size: usize) -> Newlines
+    pub(crate) fn new(lines: usize, size: usize) -> Newlines
         ensures { result.ended ≡ false }
     {
         Newlines {
@@ -138,7 +138,7 @@ impl Source for Newlines {
 
 /// Gives newlines for ever, one a read.
 #[derive(Clone, Copy)]
-pub struct Endless;
+pub(crate) struct Endless;
 
 impl Source for Endless {
     ghost left = { λ _. None };
@@ -155,8 +155,8 @@ impl Source for Endless {
 
 /// Takes at most so many bytes a call, has room for so many, and then fails or takes none.
 #[derive(Drop)]
-pub struct Narrow {
-    pub bytes: Vec<u8>,
+pub(crate) struct Narrow {
+    pub(crate) bytes: Vec<u8>,
     size: usize,
     room: usize,
     fails: bool,
@@ -165,7 +165,7 @@ pub struct Narrow {
 }
 
 impl Narrow {
-    pub fn new(alloc: Global, size: usize, room: usize, fails: bool) -> Narrow
+    pub(crate) fn new(alloc: Global, size: usize, room: usize, fails: bool) -> Narrow
         ensures fine { result.failed ≡ false }
         ensures fresh { result.stuck ≡ false }
     {
@@ -203,7 +203,7 @@ impl Sink for Narrow {
 
 /// A reader and writer of std that fails.
 #[derive(Clone, Copy)]
-pub struct Broken;
+pub(crate) struct Broken;
 
 impl Read for Broken {
     fn read(&mut self, _buf: &mut [u8]) -> io::Result<usize> {
