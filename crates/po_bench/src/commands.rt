@@ -2,8 +2,8 @@
 
 use crate::measure::Measure;
 use po_actions::{Core, Deadline, End};
-use po_index::EntryRef;
 use po_classic_units::Trap;
+use po_index::EntryRef;
 use std::io;
 use std::time::{Clock, Instant};
 

@@ -6,8 +6,8 @@ use crate::measure::Measure;
 use crate::plan::Plan;
 use crate::report::pair;
 use po_actions::{Aborted, Core, Deadline, Ticket};
-use po_index::EntryRef;
 use po_classic_units::Trap;
+use po_index::EntryRef;
 use std::io::{self, Print};
 use std::time::{Clock, Instant};
 

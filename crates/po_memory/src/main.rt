@@ -3,9 +3,9 @@
 #![tactic(auto)]
 
 use po_actions::{Core, Deadline, End, MakeFault, Order, Place, Ticket};
+use po_classic_units::{Allocator, Buffer, Trap};
 use po_index::{EntryRef, Shape, ShapeFault};
 use po_unit::Unit;
-use po_classic_units::{Allocator, Buffer, Trap};
 use std::alloc::Global;
 use std::io::{self, Eprint, Print};
 
