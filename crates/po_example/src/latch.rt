@@ -132,6 +132,7 @@ mod tests {
     use super::*;
     use po_actions::{Core, Deadline, End, Order, Place};
     use po_index::EntryRef;
+    use std::process::Abort;
     use std::test::Fail;
 
     /// The entry `Wait`.
@@ -152,9 +153,8 @@ mod tests {
         Ok(Core::new(alloc, latch, shape, Order::Textual, 1)?)
     }
 
-    #[test]
-    fn opens_at_the_last_arrival(rt: HostRuntime) -> Result<(), Fail> {
-        let mut core = latch_core(rt.alloc(), 2)?;
+    /// A call that waits goes with the last of two arrivals.
+    fn run_to_opening<R: Abort>(rt: &R, core: &mut Core<Latch>) -> Result<(), Fail> {
         let ticket = core.issue(0, WAIT, 7, Deadline::Never)?;
         assert_eq!(rt; core.run(0, ARRIVE, 0)?, Ok(1));
         assert_eq!(rt; core.end_of(ticket), Place::Waiting);
@@ -163,14 +163,23 @@ mod tests {
         Ok(())
     }
 
-    #[test]
-    fn stays_open(rt: HostRuntime) -> Result<(), Fail> {
-        let mut core = latch_core(rt.alloc(), 1)?;
+    /// After its only arrival, and a further one, a call goes at once.
+    fn run_past_opening<R: Abort>(rt: &R, core: &mut Core<Latch>) -> Result<(), Fail> {
         assert_eq!(rt; core.read(STATE, 0)?, Ok(1));
         assert_eq!(rt; core.run(0, ARRIVE, 0)?, Ok(0));
         assert_eq!(rt; core.run(0, ARRIVE, 0)?, Ok(0));
         let ticket = core.issue(0, WAIT, 7, Deadline::At(0))?;
         assert_eq!(rt; core.end_of(ticket), Place::Ended(End::Completed(7)));
         Ok(())
+    }
+
+    #[test]
+    fn opens_at_the_last_arrival(rt: HostRuntime) -> Result<(), Fail> {
+        run_to_opening(&rt, &mut latch_core(rt.alloc(), 2)?)
+    }
+
+    #[test]
+    fn stays_open(rt: HostRuntime) -> Result<(), Fail> {
+        run_past_opening(&rt, &mut latch_core(rt.alloc(), 1)?)
     }
 }

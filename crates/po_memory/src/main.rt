@@ -1,297 +1,37 @@
-//! Cores whose allocations are refused: every command that found no memory has changed nothing, and does its work when it
-//! is asked again. `rt try --fail-alloc` refuses them one after another, and each run has to print the same.
+//! A program for the gate: cores and scripts whose allocations are refused.
+//!
+//! It prints what the commands and the scripts answered, and last how often memory was wanting. Before that it takes and
+//! gives back a byte for each byte on standard input: where the allocation of some fixed number is refused, the length of
+//! the input says which one of those that count.
 #![tactic(auto)]
 
-use po_actions::{Core, Deadline, End, MakeFault, Order, Place, Ticket};
-use po_classic_units::{Allocator, Buffer, Trap};
-use po_index::{EntryRef, Shape, ShapeFault};
-use po_unit::Unit;
+mod cores;
+mod scripts;
+
 use std::alloc::Global;
-use std::io::{self, Eprint, Print};
+use std::io::{self, Input, Print, Read};
 
-/// How many tickets and entries a snapshot looks at.
-const MOST: usize = 6;
+/// How many bytes of standard input are looked at.
+const MOST: usize = 256;
 
-/// No ticket of any core.
-const STRANGE: Ticket = Ticket {
-    key: 4096,
-    number: 0,
-};
-
-/// The single entry of a declaration.
-fn single(entry: u16) -> EntryRef {
-    EntryRef { entry, index: None }
+/// Takes a byte of memory, if there is one, and gives it back.
+fn take_one(alloc: Global) {
+    let mut piece: Vec<u8> = Vec::new(alloc);
+    let _taken = piece.reserve(1);
 }
 
-/// The entry Wait of the trap with this index.
-fn wait(index: i32) -> EntryRef {
-    EntryRef {
-        entry: 0,
-        index: Some(index),
+/// Takes and gives back a byte for each byte on standard input.
+fn take_for_input<R: Input + AllocGlobal>(rt: &R) -> io::Result<()> {
+    let mut bytes = [0u8; MOST];
+    for _ in 0..rt.reader().read(&mut bytes)? {
+        take_one(rt.alloc());
     }
-}
-
-/// A core under test, with the tickets of its first calls.
-#[derive(Drop)]
-struct Trial<U: Unit<Value = u64> + Drop> {
-    core: Core<U>,
-    tickets: [Ticket; MOST],
-    issued: usize,
-}
-
-/// What a refused command may not change.
-#[derive(Clone, Copy, PartialEq, Eq)]
-struct Snapshot {
-    events: usize,
-    ended: usize,
-    next: u64,
-    clock: u64,
-    place: u128,
-    base: u64,
-    counts: [u64; MOST],
-    places: [Place<u64>; MOST],
-    first: Option<End<u64>>,
-}
-
-impl<U: Unit<Value = u64> + Drop> Trial<U> {
-    fn of(core: Core<U>) -> Trial<U> {
-        Trial {
-            core,
-            tickets: [STRANGE; MOST],
-            issued: 0,
-        }
-    }
-
-    /// How many calls are queued on the entries with the first flat numbers.
-    fn counts(&self) -> [u64; MOST] {
-        let mut counts = [0; MOST];
-        let shape = self.core.shape();
-        for (flat, count) in counts.iter_mut().enumerate() {
-            if (flat as u16) < shape.total() {
-                *count = self.core.count(shape.of_flat(flat as u16)).unwrap_or(0);
-            }
-        }
-        counts
-    }
-
-    /// Where the calls of the tickets are.
-    fn places(&self) -> [Place<u64>; MOST] {
-        let mut places = [Place::Unknown; MOST];
-        for (ticket, place) in self.tickets.iter().zip(places.iter_mut()) {
-            *place = self.core.end_of(*ticket);
-        }
-        places
-    }
-
-    /// What is seen of the core.
-    fn snapshot(&self) -> Snapshot {
-        Snapshot {
-            events: self.core.events().len(),
-            ended: self.core.ended_now().len(),
-            next: self.core.next(),
-            clock: self.core.clock(),
-            place: self.core.place(),
-            base: self.core.base().place(),
-            counts: self.counts(),
-            places: self.places(),
-            first: self.core.outcome(1),
-        }
-    }
-
-    /// Notes a refusal on standard error, and prints that the refused command changed something, if it did.
-    fn refused<R: Print + Eprint>(&self, rt: &R, before: Snapshot) -> io::Result<()> {
-        eprintln!(rt; "refused")?;
-        if before == self.snapshot() {
-            Ok(())
-        } else {
-            println!(rt; "changed")
-        }
-    }
-
-    /// Prints the answer of a command, and what it ended.
-    fn show<R: Print + Eprint>(&self, rt: &R, answer: u64) -> io::Result<()> {
-        println!(rt; "answer {answer} events {}", self.core.events().len())?;
-        for call in self.core.ended_now() {
-            println!(rt; "ended {} {:?}", call.number, call.end)?;
-        }
-        Ok(())
-    }
-
-    /// Issues a call, once more where memory was wanting.
-    fn issue<R: Print + Eprint>(
-        &mut self,
-        rt: &R,
-        entry: EntryRef,
-        value: u64,
-        deadline: Deadline,
-    ) -> io::Result<()> {
-        for _ in 0..2 {
-            let before = self.snapshot();
-            match self.core.issue(0, entry, value, deadline) {
-                Ok(ticket) => {
-                    if self.issued < MOST {
-                        self.tickets[self.issued] = ticket;
-                        self.issued += 1;
-                    }
-                    return self.show(rt, ticket.number);
-                }
-                Err(_) => self.refused(rt, before)?,
-            }
-        }
-        println!(rt; "refused twice")
-    }
-
-    /// Runs the procedure, once more where memory was wanting.
-    fn run<R: Print + Eprint>(&mut self, rt: &R, value: u64) -> io::Result<()> {
-        for _ in 0..2 {
-            let before = self.snapshot();
-            match self.core.run(0, 0, value) {
-                Ok(_) => return self.show(rt, value),
-                Err(_) => self.refused(rt, before)?,
-            }
-        }
-        println!(rt; "refused twice")
-    }
-
-    /// Raises the clock, once more where memory was wanting.
-    fn tick<R: Print + Eprint>(&mut self, rt: &R, time: u64) -> io::Result<()> {
-        for _ in 0..2 {
-            let before = self.snapshot();
-            match self.core.tick(time) {
-                Ok(clock) => return self.show(rt, clock),
-                Err(_) => self.refused(rt, before)?,
-            }
-        }
-        println!(rt; "refused twice")
-    }
-
-    /// Cuts the history, once more where memory was wanting.
-    fn cut<R: Print + Eprint>(&mut self, rt: &R) -> io::Result<()> {
-        for _ in 0..2 {
-            let before = self.snapshot();
-            match self.core.cut() {
-                Ok(volume) => {
-                    let events = volume.events().len();
-                    println!(rt; "volume {} of {events}", volume.first_place())?;
-                    return self.show(rt, self.core.base().place());
-                }
-                Err(_) => self.refused(rt, before)?,
-            }
-        }
-        println!(rt; "refused twice")
-    }
-
-    /// Attempts to cancel a call, which takes no memory.
-    fn cancel<R: Print + Eprint>(&mut self, rt: &R, n: u64) -> io::Result<()> {
-        match self.core.abort(n) {
-            Ok(how) => {
-                println!(rt; "{how:?}")?;
-                self.show(rt, n)
-            }
-            Err(_) => println!(rt; "not cancelled"),
-        }
-    }
-}
-
-/// A core of this unit, or none where memory was wanting.
-fn make<U: Unit<Value = u64> + Drop>(
-    alloc: Global,
-    unit: U,
-    shape: Result<Shape, ShapeFault>,
-    order: Order,
-) -> Option<Core<U>> {
-    Core::new(alloc, unit, shape.ok()?, order, 1).ok()
-}
-
-/// A core of the trap, or none where memory was wanting.
-fn make_trap(alloc: Global) -> Option<Core<Trap>> {
-    let unit = Trap::new();
-    let shape = unit.shape(alloc);
-    make(alloc, unit, shape, Order::Oldest)
-}
-
-/// A core of an allocator of 3, or none where memory was wanting.
-fn make_allocator(alloc: Global) -> Option<Core<Allocator>> {
-    let unit = Allocator::new(3);
-    let shape = unit.shape(alloc);
-    make(alloc, unit, shape, Order::Textual)
-}
-
-/// A core of a buffer of 2, or none where memory was wanting.
-fn make_buffer(alloc: Global) -> Option<Core<Buffer>> {
-    let unit = Buffer::new(alloc, 2).ok()?;
-    let shape = unit.shape(alloc);
-    make(alloc, unit, shape, Order::Textual)
-}
-
-/// Notes a refusal on standard error where nothing could be made.
-fn noted<R: Eprint, U: Unit<Value = u64> + Drop>(
-    rt: &R,
-    made: Option<Core<U>>,
-) -> io::Result<Option<Core<U>>> {
-    if made.is_none() {
-        eprintln!(rt; "refused")?;
-    }
-    Ok(made)
-}
-
-/// Calls that wait, expire and are served, in the order of arrival over the entries.
-fn on_the_trap<R: Print + Eprint>(rt: &R, trial: &mut Trial<Trap>) -> io::Result<()> {
-    trial.issue(rt, single(2), 1, Deadline::At(5))?;
-    trial.issue(rt, single(2), 2, Deadline::Never)?;
-    trial.issue(rt, wait(2), 3, Deadline::Never)?;
-    trial.run(rt, 1)?;
-    trial.tick(rt, 5)?;
-    trial.run(rt, 2)?;
-    trial.issue(rt, wait(3), 4, Deadline::At(0))?;
-    trial.run(rt, 13)
-}
-
-/// Calls that are cancelled and requeued.
-fn on_the_allocator<R: Print + Eprint>(rt: &R, trial: &mut Trial<Allocator>) -> io::Result<()> {
-    trial.issue(rt, single(0), 2, Deadline::Never)?;
-    trial.issue(rt, single(0), 2, Deadline::Never)?;
-    trial.cancel(rt, 2)?;
-    trial.issue(rt, single(1), 2, Deadline::Never)?;
-    trial.cancel(rt, 3)?;
-    trial.run(rt, 2)
-}
-
-/// A history that is cut while a call waits, when it doesn't any more, and when it has no event.
-fn on_the_buffer<R: Print + Eprint>(rt: &R, trial: &mut Trial<Buffer>) -> io::Result<()> {
-    trial.issue(rt, single(1), 0, Deadline::Never)?;
-    trial.cut(rt)?;
-    trial.issue(rt, single(0), 7, Deadline::Never)?;
-    trial.cut(rt)?;
-    trial.cut(rt)
-}
-
-fn try_the_trap<R: Print + Eprint + AllocGlobal>(rt: &R) -> io::Result<()> {
-    let made = noted(rt, make_trap(rt.alloc()))?;
-    match made.or_else(|| make_trap(rt.alloc())) {
-        Some(core) => on_the_trap(rt, &mut Trial::of(core)),
-        None => println!(rt; "no trap"),
-    }
-}
-
-fn try_the_allocator<R: Print + Eprint + AllocGlobal>(rt: &R) -> io::Result<()> {
-    let made = noted(rt, make_allocator(rt.alloc()))?;
-    match made.or_else(|| make_allocator(rt.alloc())) {
-        Some(core) => on_the_allocator(rt, &mut Trial::of(core)),
-        None => println!(rt; "no allocator"),
-    }
-}
-
-fn try_the_buffer<R: Print + Eprint + AllocGlobal>(rt: &R) -> io::Result<()> {
-    let made = noted(rt, make_buffer(rt.alloc()))?;
-    match made.or_else(|| make_buffer(rt.alloc())) {
-        Some(core) => on_the_buffer(rt, &mut Trial::of(core)),
-        None => println!(rt; "no buffer"),
-    }
+    Ok(())
 }
 
 fn main(rt: HostRuntime) -> io::Result<()> {
-    try_the_trap(&rt)?;
-    try_the_allocator(&rt)?;
-    try_the_buffer(&rt)
+    take_for_input(&rt)?;
+    let on_cores = cores::run(&rt)?;
+    let in_scripts = scripts::run_both(&rt)?;
+    println!(rt; "refused {}", on_cores.saturating_add(in_scripts))
 }

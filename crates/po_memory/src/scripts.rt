@@ -1,9 +1,8 @@
 //! Scripts whose allocations are refused: such a run ends for want of memory, and what it wrote is the answers of some
-//! number of first lines. `rt try --fail-alloc` refuses one after another, and each run has to print the same.
-#![tactic(auto)]
+//! number of first lines.
 
 use po_script::{OverStd, RunFault, run_script};
-use std::io::{self, Eprint, Print};
+use std::io::{self, Print};
 
 /// A script on the pulse.
 const PULSE: &str = "unit pulse\n\
@@ -80,29 +79,31 @@ fn run<R: AllocGlobal>(rt: &R, script: &str, text: &mut [u8]) -> (Result<(), Run
     (ran, most.saturating_sub(writer.into_inner().len()))
 }
 
-/// Runs the script, once more where memory was wanting, and prints what it wrote.
-fn print<R: Print + Eprint + AllocGlobal>(
-    rt: &R,
-    script: &str,
-    answers: &[&str],
-) -> io::Result<()> {
-    for _ in 0..2 {
+/// Runs the script, once more where memory was wanting, prints what it wrote, and answers how often memory was wanting.
+fn print<R: Print + AllocGlobal>(rt: &R, script: &str, answers: &[&str]) -> io::Result<u64> {
+    for refusals in 0..2 {
         let mut bytes = [0u8; MOST];
         let (ran, count) = run(rt, script, &mut bytes);
         let text = &bytes[..count.min(MOST)];
         match ran {
-            Ok(()) => return print!(rt; "{}", str::from_utf8(text).unwrap_or("no text\n")),
-            Err(RunFault::Memory) => eprintln!(rt; "refused")?,
-            Err(fault) => return println!(rt; "{fault}"),
+            Ok(()) => {
+                print!(rt; "{}", str::from_utf8(text).unwrap_or("no text\n"))?;
+                return Ok(refusals);
+            }
+            Err(RunFault::Memory) => {}
+            Err(fault) => println!(rt; "{fault}")?,
         }
         if !is_of_lines(text, answers) {
             println!(rt; "a line was answered in part")?;
         }
     }
-    println!(rt; "refused twice")
+    println!(rt; "refused twice")?;
+    Ok(2)
 }
 
-fn main(rt: HostRuntime) -> io::Result<()> {
-    print(&rt, PULSE, &PULSE_ANSWERS)?;
-    print(&rt, ALLOCATOR, &ALLOCATOR_ANSWERS)
+/// Runs both scripts, and answers how often memory was wanting.
+pub(crate) fn run_both<R: Print + AllocGlobal>(rt: &R) -> io::Result<u64> {
+    let pulse = print(rt, PULSE, &PULSE_ANSWERS)?;
+    let allocator = print(rt, ALLOCATOR, &ALLOCATOR_ANSWERS)?;
+    Ok(pulse.saturating_add(allocator))
 }
