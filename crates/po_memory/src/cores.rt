@@ -226,11 +226,6 @@ fn make_buffer(alloc: Global) -> Option<Core<Buffer>> {
     make(alloc, unit, shape, Order::Textual)
 }
 
-/// The number of refusals where this was made or not.
-fn refusals_of<U: Unit<Value = u64> + Drop>(made: &Option<Core<U>>) -> u64 {
-    if made.is_none() { 1 } else { 0 }
-}
-
 /// Calls that wait, expire and are served, in the order of arrival over the entries.
 fn on_the_trap<R: Print>(rt: &R, trial: &mut Trial<Trap>) -> io::Result<u64> {
     trial.issue(rt, single(2), 1, Deadline::At(5))?;
@@ -273,7 +268,7 @@ fn refused_twice<R: Print>(rt: &R, refusals: u64) -> io::Result<u64> {
 
 fn try_the_trap<R: Print + AllocGlobal>(rt: &R) -> io::Result<u64> {
     let made = make_trap(rt.alloc());
-    let refusals = refusals_of(&made);
+    let refusals = u64::from(made.is_none());
     match made.or_else(|| make_trap(rt.alloc())) {
         Some(core) => on_the_trap(rt, &mut Trial::of(core, refusals)),
         None => refused_twice(rt, refusals),
@@ -282,7 +277,7 @@ fn try_the_trap<R: Print + AllocGlobal>(rt: &R) -> io::Result<u64> {
 
 fn try_the_allocator<R: Print + AllocGlobal>(rt: &R) -> io::Result<u64> {
     let made = make_allocator(rt.alloc());
-    let refusals = refusals_of(&made);
+    let refusals = u64::from(made.is_none());
     match made.or_else(|| make_allocator(rt.alloc())) {
         Some(core) => on_the_allocator(rt, &mut Trial::of(core, refusals)),
         None => refused_twice(rt, refusals),
@@ -291,7 +286,7 @@ fn try_the_allocator<R: Print + AllocGlobal>(rt: &R) -> io::Result<u64> {
 
 fn try_the_buffer<R: Print + AllocGlobal>(rt: &R) -> io::Result<u64> {
     let made = make_buffer(rt.alloc());
-    let refusals = refusals_of(&made);
+    let refusals = u64::from(made.is_none());
     match made.or_else(|| make_buffer(rt.alloc())) {
         Some(core) => on_the_buffer(rt, &mut Trial::of(core, refusals)),
         None => refused_twice(rt, refusals),

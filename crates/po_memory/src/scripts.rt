@@ -91,7 +91,10 @@ fn print<R: Print + AllocGlobal>(rt: &R, script: &str, answers: &[&str]) -> io::
                 return Ok(refusals);
             }
             Err(RunFault::Memory) => {}
-            Err(fault) => println!(rt; "{fault}")?,
+            Err(fault) => {
+                println!(rt; "{fault}")?;
+                return Ok(refusals);
+            }
         }
         if !is_of_lines(text, answers) {
             println!(rt; "a line was answered in part")?;
