@@ -11,3 +11,5 @@ mod laws;
 mod runs;
 #[cfg(test)]
 mod transcript;
+#[cfg(test)]
+mod uncopied;

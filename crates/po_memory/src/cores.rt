@@ -1,5 +1,7 @@
 //! Cores whose allocations are refused: every command that found no memory has changed nothing, and does its work when it
-//! is asked again.
+//! is asked again; what takes no memory answers the same, whatever was refused.
+
+ghost use Rattle.std.specs.Prelude.{◌≤◌};
 
 use po_actions::{Core, Deadline, End, MakeFault, Order, Place, Ticket};
 use po_classic_units::{Allocator, Buffer, Trap};
@@ -193,6 +195,40 @@ impl<U: Unit<Value = u64> + Drop> Trial<U> {
             Err(_) => println!(rt; "not cancelled"),
         }
     }
+
+    /// Finalizes the object, which takes no memory.
+    fn finalize<R: Print>(&mut self, rt: &R) -> io::Result<()> {
+        match self.core.finalize() {
+            Ok(()) => self.show(rt, 0),
+            Err(_) => println!(rt; "not finalized"),
+        }
+    }
+
+    /// Prints what is seen of the core and its calls without memory.
+    fn look<R: Print>(&self, rt: &R) -> io::Result<()> {
+        println!(rt;
+            "reads {:?} counts {:?}",
+            self.core.read(0, 0),
+            self.counts()
+        )?;
+        for ticket in self.tickets.iter().take(self.issued) {
+            let outcome = self.core.outcome(ticket.number);
+            println!(rt;
+                "{} {:?} {outcome:?}",
+                ticket.number,
+                self.core.end_of(*ticket)
+            )?;
+        }
+        Ok(())
+    }
+
+    /// Collects the ends of the calls, which takes no memory.
+    fn collect<R: Print>(&mut self, rt: &R) -> io::Result<()> {
+        for n in 0..self.issued.min(MOST) {
+            println!(rt; "collected {:?}", self.core.collect(self.tickets[n]))?;
+        }
+        Ok(())
+    }
 }
 
 /// A core of this unit, or none where memory was wanting.
@@ -212,9 +248,12 @@ fn make_trap(alloc: Global) -> Option<Core<Trap>> {
     make(alloc, unit, shape, Order::Oldest)
 }
 
-/// A core of an allocator of 3, or none where memory was wanting.
-fn make_allocator(alloc: Global) -> Option<Core<Allocator>> {
-    let unit = Allocator::new(3);
+/// A core of an allocator of this size, or none where memory was wanting.
+fn make_allocator(alloc: Global, size: u16) -> Option<Core<Allocator>>
+    requires at_least { 1 ≤ size }
+    requires at_most { size ≤ 1024 }
+{
+    let unit = Allocator::new(size);
     let shape = unit.shape(alloc);
     make(alloc, unit, shape, Order::Textual)
 }
@@ -250,6 +289,22 @@ fn on_the_allocator<R: Print>(rt: &R, trial: &mut Trial<Allocator>) -> io::Resul
     Ok(trial.refusals)
 }
 
+/// Calls that wait until the object is finalized, and all that takes no memory.
+fn on_the_finalized<R: Print>(rt: &R, trial: &mut Trial<Allocator>) -> io::Result<u64> {
+    trial.issue(rt, single(0), 1, Deadline::Never)?;
+    trial.issue(rt, single(0), 1, Deadline::Never)?;
+    trial.issue(rt, single(1), 1, Deadline::Never)?;
+    trial.issue(rt, single(0), 1, Deadline::At(9))?;
+    trial.look(rt)?;
+    trial.cancel(rt, 2)?;
+    trial.cancel(rt, 3)?;
+    trial.finalize(rt)?;
+    trial.look(rt)?;
+    trial.collect(rt)?;
+    trial.look(rt)?;
+    Ok(trial.refusals)
+}
+
 /// A history that is cut while a call waits, when it doesn't any more, and when it has no event.
 fn on_the_buffer<R: Print>(rt: &R, trial: &mut Trial<Buffer>) -> io::Result<u64> {
     trial.issue(rt, single(1), 0, Deadline::Never)?;
@@ -276,10 +331,19 @@ fn try_the_trap<R: Print + AllocGlobal>(rt: &R) -> io::Result<u64> {
 }
 
 fn try_the_allocator<R: Print + AllocGlobal>(rt: &R) -> io::Result<u64> {
-    let made = make_allocator(rt.alloc());
+    let made = make_allocator(rt.alloc(), 3);
     let refusals = u64::from(made.is_none());
-    match made.or_else(|| make_allocator(rt.alloc())) {
+    match made.or_else(|| make_allocator(rt.alloc(), 3)) {
         Some(core) => on_the_allocator(rt, &mut Trial::of(core, refusals)),
+        None => refused_twice(rt, refusals),
+    }
+}
+
+fn try_the_finalized<R: Print + AllocGlobal>(rt: &R) -> io::Result<u64> {
+    let made = make_allocator(rt.alloc(), 1);
+    let refusals = u64::from(made.is_none());
+    match made.or_else(|| make_allocator(rt.alloc(), 1)) {
+        Some(core) => on_the_finalized(rt, &mut Trial::of(core, refusals)),
         None => refused_twice(rt, refusals),
     }
 }
@@ -297,6 +361,8 @@ fn try_the_buffer<R: Print + AllocGlobal>(rt: &R) -> io::Result<u64> {
 pub(crate) fn run<R: Print + AllocGlobal>(rt: &R) -> io::Result<u64> {
     let trap = try_the_trap(rt)?;
     let allocator = try_the_allocator(rt)?;
+    let finalized = try_the_finalized(rt)?;
     let buffer = try_the_buffer(rt)?;
-    Ok(trap.saturating_add(allocator).saturating_add(buffer))
+    let allocators = allocator.saturating_add(finalized);
+    Ok(trap.saturating_add(allocators).saturating_add(buffer))
 }
