@@ -1,18 +1,18 @@
--- What a unit without operations means.
-use Rattle.std.specs.Prelude.{ℕ, false, Ok, refl}
+-- What a unit means that has no data, and of which no copy can be made.
+use Rattle.std.specs.Prelude.{ℕ, true, Ok, refl}
 use Rattle.po_unit.specs.Meaning.{Meaning, IsLawful}
 use Rattle.po_unit.specs.declared.outcome.Outcome.TheVariants.{Complete}
 
--- it has no data
+-- no data
 pub record Nothing : Type 0 where
 
--- it has no entries, procedures and functions, so what they are said to do is never done
+-- its entry is open, and what its entry, its procedure and its function are given they give back
 abbrev pub uncopied_meaning : Meaning Nothing ℕ
 uncopied_meaning = record {
-  entries = λ s. 0;
-  procedures = λ s. 0;
-  functions = λ s. 0;
-  gate = λ s e c. Ok false;
+  entries = λ s. 1;
+  procedures = λ s. 1;
+  functions = λ s. 1;
+  gate = λ s e c. Ok true;
   body = λ s e v c. (s, Complete v);
   procedure = λ s op v c. (s, Ok v);
   function = λ s op v c. Ok v;

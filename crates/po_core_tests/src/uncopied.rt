@@ -1,13 +1,13 @@
 //! A unit of which no copy can be made, as if there were never memory for it.
 
 use po_actions::{Core, MakeFault, Order};
-use po_index::Shape;
+use po_index::{Decl, Shape};
 use po_unit::{Outcome, Unit};
 use std::alloc::AllocError;
 use std::marker::Model;
 use std::test::Fail;
 
-/// A unit without entries, procedures and functions, whose copies are refused.
+/// A unit without data, whose only entry is open, and whose operations give back what they are given.
 #[derive(Drop)]
 struct Uncopied;
 
@@ -27,19 +27,19 @@ impl Unit for Uncopied {
     ghost meaning = { uncopied_meaning };
 
     fn entries(&self) -> u16 {
-        0
+        1
     }
 
     fn procedures(&self) -> u16 {
-        0
+        1
     }
 
     fn functions(&self) -> u16 {
-        0
+        1
     }
 
     fn barrier(&self, _e: u16, _counts: &[u64]) -> Result<bool, u32> {
-        Ok(false)
+        Ok(true)
     }
 
     fn body(&mut self, _e: u16, v: u64, _counts: &[u64]) -> Outcome<u64> {
@@ -71,7 +71,13 @@ impl Unit for Uncopied {
 
 #[test]
 fn a_copy_that_is_refused_is_want_of_memory(rt: HostRuntime) -> Result<(), Fail> {
-    let shape = Shape::new(rt.alloc(), &[])?;
+    let entry = Decl {
+        public: true,
+        family: false,
+        low: 0,
+        high: 0,
+    };
+    let shape = Shape::new(rt.alloc(), &[entry])?;
     let made = Core::new(rt.alloc(), Uncopied, shape, Order::Textual, 1);
     assert_eq!(rt; made.err(), Some(MakeFault::OutOfMemory));
     Ok(())
