@@ -3,16 +3,16 @@ use Rattle.std.proofs.Common.{◌≡◌, ◌⊎◌, ℕ, ◌+◌, ◌<◌, ◌�
 use Rattle.std.proofs.lemmas.List.{append-nil, take-append-drop, drop_more}
 use Rattle.std.specs.Io.KnownBytes.{Appends}
 use Rattle.po_script.proofs.FailLemmas.{memory_ends, script_ends, write_ends, past_ends, long_ends, end_well, end_script, end_write}
-use Rattle.po_script.specs.Commands.{command_of}
+use Rattle.po_language.specs.Commands.{command_of}
 use Rattle.po_script.specs.Script.{cut}
 use Rattle.po_script.specs.Session.{state_of, answer}
 use Rattle.po_script.specs.AnySession.{text_with}
 use Rattle.po_script.specs.Ends.{IsLineRead, EndsAs, EndsWell}
 use Rattle.po_script.specs.Interpreter.{Fails}
 use Rattle.po_script.specs.Run.{Stands}
-use Rattle.po_script.specs.declared.command.Command.{Command}
-use Rattle.po_script.specs.declared.command.FaultKind.{FaultKind}
-use Rattle.po_script.specs.declared.command.FaultKind.TheVariants.{ScriptTooLong, LineTooLong, UnknownCommand, NoUnit, SecondUnit, BadUnit, BadArgument}
+use Rattle.po_language.specs.declared.command.Command.{Command}
+use Rattle.po_language.specs.declared.command.FaultKind.{FaultKind}
+use Rattle.po_language.specs.declared.command.FaultKind.TheVariants.{ScriptTooLong, LineTooLong, UnknownCommand, NoUnit, SecondUnit, BadUnit, BadArgument}
 use Rattle.po_script.specs.declared.fault.RunFault.{RunFault}
 use Rattle.po_script.specs.declared.fault.RunFault.TheVariants.{Script, Read, Write, Memory}
 use Rattle.po_script.specs.declared.run.Run.{Run}

@@ -8,13 +8,13 @@ use Rattle.po_script.proofs.CutLemmas.{full_grows, cut-newline}
 use Rattle.po_script.proofs.ReadingLemmas.{extend, reading-push, text_by-append}
 use Rattle.po_script.proofs.StandLemmas.{line_of-short, whole_lines-newline, extend-fine, extend-text}
 use Rattle.po_script.proofs.ScriptLemmas.{script_within-all, script_front, script_fault, script_past, script_long}
-use Rattle.po_script.specs.Commands.{command_of}
+use Rattle.po_language.specs.Commands.{command_of}
 use Rattle.po_script.specs.Script.{Cut, cut, Reading, reading, whole_lines, line_of, script_of, script_within}
 use Rattle.po_script.specs.AnySession.{begun_by, state_by, text_by, text_with, StandsBy}
-use Rattle.po_script.specs.declared.command.UnitChoice.{UnitChoice}
-use Rattle.po_script.specs.declared.command.Command.{Command}
-use Rattle.po_script.specs.declared.command.FaultKind.{FaultKind}
-use Rattle.po_script.specs.declared.command.FaultKind.TheVariants.{ScriptTooLong, LineTooLong}
+use Rattle.po_language.specs.declared.command.UnitChoice.{UnitChoice}
+use Rattle.po_language.specs.declared.command.Command.{Command}
+use Rattle.po_language.specs.declared.command.FaultKind.{FaultKind}
+use Rattle.po_language.specs.declared.command.FaultKind.TheVariants.{ScriptTooLong, LineTooLong}
 
 -- the bytes up to a newline, and what follows it
 parted : (bytes : List ℕ) (b : ℕ) (more : List ℕ) → bytes ++ b ∷ more ≡ (bytes ++ b ∷ []) ++ more

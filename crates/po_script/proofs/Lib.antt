@@ -1,4 +1,3 @@
-pub mod WordLemmas
 pub mod SinkLemmas
 pub mod CutLemmas
 pub mod ReadingLemmas

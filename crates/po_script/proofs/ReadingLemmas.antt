@@ -2,9 +2,9 @@
 use Rattle.std.proofs.Common.{◌≡◌, ℕ, suc, ◌+◌, List, [], ◌∷◌, ◌++◌, length, Option, Some, None, Result, Ok, Err, refl, sym, ap, ◌∙◌, arith, append_assoc}
 use Rattle.po_script.specs.Script.{Reading, reading, with_line, prepend, line_of, begun_after}
 use Rattle.po_script.specs.AnySession.{begun_by, state_by, text_by}
-use Rattle.po_script.specs.declared.command.UnitChoice.{UnitChoice}
-use Rattle.po_script.specs.declared.command.Command.{Command}
-use Rattle.po_script.specs.declared.command.FaultKind.{FaultKind}
+use Rattle.po_language.specs.declared.command.UnitChoice.{UnitChoice}
+use Rattle.po_language.specs.declared.command.Command.{Command}
+use Rattle.po_language.specs.declared.command.FaultKind.{FaultKind}
 
 -- one more line
 abbrev pub extend : Reading → ℕ → Result (Option Command) FaultKind → Reading

@@ -6,10 +6,10 @@ use Rattle.std.proofs.Math.Seq.{take-append-add}
 use Rattle.po_script.proofs.CutLemmas.{glue, cut-append, full_grows}
 use Rattle.po_script.proofs.ReadingLemmas.{extend, reading-push, reading_kept, reading_front}
 use Rattle.po_script.specs.Script.{Cut, cut, join, Reading, reading, whole_lines, line_of, past_limit, script_within}
-use Rattle.po_script.specs.declared.command.UnitChoice.{UnitChoice}
-use Rattle.po_script.specs.declared.command.Command.{Command}
-use Rattle.po_script.specs.declared.command.FaultKind.{FaultKind}
-use Rattle.po_script.specs.declared.command.FaultKind.TheVariants.{ScriptTooLong, LineTooLong}
+use Rattle.po_language.specs.declared.command.UnitChoice.{UnitChoice}
+use Rattle.po_language.specs.declared.command.Command.{Command}
+use Rattle.po_language.specs.declared.command.FaultKind.{FaultKind}
+use Rattle.po_language.specs.declared.command.FaultKind.TheVariants.{ScriptTooLong, LineTooLong}
 
 take-append-within : (most : ℕ) (xs ys : List ℕ) → length xs ≤ most → take most (xs ++ ys) ≡ xs ++ take (most - length xs) ys
 take-append-within most xs ys h = let e : most ≡ length xs + (most - length xs) = omega arith in ap (λ n. take n (xs ++ ys)) e ∙ take-append-add xs ys (most - length xs)

@@ -6,12 +6,12 @@ use Rattle.std.proofs.KnownBytes.{Appends-trans}
 use Rattle.std.specs.Io.KnownBytes.{Appends}
 use Rattle.po_script.proofs.CutLemmas.{cut-newline, cut-letter}
 use Rattle.po_script.proofs.ReadingLemmas.{extend, reading-push, begun_by-push, state_by-append, text_by-append}
-use Rattle.po_script.specs.Commands.{command_of}
+use Rattle.po_language.specs.Commands.{command_of}
 use Rattle.po_script.specs.Script.{Cut, cut, Reading, reading, whole_lines, line_of}
 use Rattle.po_script.specs.AnySession.{begun_by, state_by, text_by, begun_with, state_with, text_with, StandsBy}
-use Rattle.po_script.specs.declared.command.UnitChoice.{UnitChoice}
-use Rattle.po_script.specs.declared.command.Command.{Command}
-use Rattle.po_script.specs.declared.command.FaultKind.{FaultKind}
+use Rattle.po_language.specs.declared.command.UnitChoice.{UnitChoice}
+use Rattle.po_language.specs.declared.command.Command.{Command}
+use Rattle.po_language.specs.declared.command.FaultKind.{FaultKind}
 
 -- what a line says that is not too long
 pub line_of-short : (begun : Option UnitChoice) (line : List ℕ) → length line ≤ 4096 → line_of begun line ≡ command_of begun line

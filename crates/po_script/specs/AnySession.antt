@@ -2,8 +2,8 @@
 use Rattle.std.specs.Prelude.{ℕ, ◌+◌, ◌≡◌, List, [], ◌∷◌, ◌++◌, length, Option, Some, None}
 use Rattle.std.specs.Io.KnownBytes.{Appends}
 use Rattle.po_script.specs.Script.{cut, whole_lines, begun_after}
-use Rattle.po_script.specs.declared.command.UnitChoice.{UnitChoice}
-use Rattle.po_script.specs.declared.command.Command.{Command}
+use Rattle.po_language.specs.declared.command.UnitChoice.{UnitChoice}
+use Rattle.po_language.specs.declared.command.Command.{Command}
 
 -- the state after the commands
 abbrev pub state_by : {S : Type 0} → (S → Command → S) → S → List Command → S

@@ -4,9 +4,9 @@ use Rattle.std.specs.Io.KnownBytes.{Appends}
 use Rattle.po_script.specs.Script.{cut, reading, whole_lines, script_of}
 use Rattle.po_script.specs.Session.{SessionState, opening_state, after, answer}
 use Rattle.po_script.specs.AnySession.{state_by, text_by}
-use Rattle.po_script.specs.declared.command.Command.{Command}
-use Rattle.po_script.specs.declared.command.FaultKind.{FaultKind}
-use Rattle.po_script.specs.declared.command.FaultKind.TheVariants.{ScriptTooLong, LineTooLong}
+use Rattle.po_language.specs.declared.command.Command.{Command}
+use Rattle.po_language.specs.declared.command.FaultKind.{FaultKind}
+use Rattle.po_language.specs.declared.command.FaultKind.TheVariants.{ScriptTooLong, LineTooLong}
 use Rattle.po_script.specs.declared.fault.RunFault.{RunFault}
 use Rattle.po_script.specs.declared.fault.RunFault.TheVariants.{Script, Read, Write, Memory}
 

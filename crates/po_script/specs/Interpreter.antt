@@ -1,10 +1,10 @@
 -- What carrying out a line does.
 use Rattle.std.specs.Prelude.{ℕ, ◌≡◌, Bool, true, List, take, Option, Ok, Err}
 use Rattle.std.specs.Io.KnownBytes.{Appends}
-use Rattle.po_script.specs.Commands.{command_of}
+use Rattle.po_language.specs.Commands.{command_of}
 use Rattle.po_script.specs.Session.{state_of, after, answer}
 use Rattle.po_script.specs.AnySession.{begun_with, state_with, text_with}
-use Rattle.po_script.specs.declared.command.Command.{Command}
+use Rattle.po_language.specs.declared.command.Command.{Command}
 use Rattle.po_script.specs.declared.fault.RunFault.{RunFault}
 use Rattle.po_script.specs.declared.fault.RunFault.TheVariants.{Script, Read, Write, Memory}
 use Rattle.po_script.specs.declared.interpreter.Interpreter.{Interpreter}

@@ -1,6 +1,3 @@
-pub mod Words
-pub mod Names
-pub mod Commands
 pub mod Lines
 pub mod Operations
 pub mod Session

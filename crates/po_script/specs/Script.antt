@@ -1,11 +1,11 @@
 -- What a script says: its lines, and its commands up to the first fault.
 use Rattle.std.specs.Prelude.{ℕ, ◌+◌, nat_lt, ◌==◌, List, [], ◌∷◌, ◌++◌, length, take, Option, Some, None, Result, Ok, Err, if◌then◌else◌}
-use Rattle.po_script.specs.Commands.{command_of}
-use Rattle.po_script.specs.declared.command.UnitChoice.{UnitChoice}
-use Rattle.po_script.specs.declared.command.Command.{Command}
-use Rattle.po_script.specs.declared.command.Command.TheVariants.{Begin}
-use Rattle.po_script.specs.declared.command.FaultKind.{FaultKind}
-use Rattle.po_script.specs.declared.command.FaultKind.TheVariants.{ScriptTooLong, LineTooLong}
+use Rattle.po_language.specs.Commands.{command_of}
+use Rattle.po_language.specs.declared.command.UnitChoice.{UnitChoice}
+use Rattle.po_language.specs.declared.command.Command.{Command}
+use Rattle.po_language.specs.declared.command.Command.TheVariants.{Begin}
+use Rattle.po_language.specs.declared.command.FaultKind.{FaultKind}
+use Rattle.po_language.specs.declared.command.FaultKind.TheVariants.{ScriptTooLong, LineTooLong}
 
 -- the lines that a newline ends, and the bytes behind the last newline
 pub record Cut : Type 0 where

@@ -13,11 +13,11 @@ use Rattle.po_classic_units.specs.Meeting.{MeetingState, new_meeting, meeting_de
 use Rattle.po_classic_units.specs.Allocator.{AllocatorState, new_allocator, allocator_declarations, allocator_meaning, allocator_entry_names}
 use Rattle.po_classic_units.specs.Relay.{RelayState, new_relay, relay_declarations, relay_meaning, relay_entry_names}
 use Rattle.po_classic_units.specs.Trap.{TrapState, new_trap, trap_declarations, trap_meaning, trap_entry_names}
-use Rattle.po_script.specs.declared.command.UnitChoice.{UnitChoice}
-use Rattle.po_script.specs.declared.command.UnitChoice.TheVariants.{Buffer, Signal, Broadcast, Pulse, Meeting, Allocator, Relay, Trap}
-use Rattle.po_script.specs.declared.command.Operation.{Operation}
-use Rattle.po_script.specs.declared.command.Command.{Command}
-use Rattle.po_script.specs.declared.command.Command.TheVariants.{Begin, Operate}
+use Rattle.po_language.specs.declared.command.UnitChoice.{UnitChoice}
+use Rattle.po_language.specs.declared.command.UnitChoice.TheVariants.{Buffer, Signal, Broadcast, Pulse, Meeting, Allocator, Relay, Trap}
+use Rattle.po_language.specs.declared.command.Operation.{Operation}
+use Rattle.po_language.specs.declared.command.Command.{Command}
+use Rattle.po_language.specs.declared.command.Command.TheVariants.{Begin, Operate}
 use Rattle.po_script.specs.declared.object.Object.{Object}
 use Rattle.po_script.specs.declared.object.Object.TheVariants.{Buffer as BufferCore, Signal as SignalCore, Broadcast as BroadcastCore, Pulse as PulseCore, Meeting as MeetingCore, Allocator as AllocatorCore, Relay as RelayCore, Trap as TrapCore}
 use Rattle.po_script.specs.declared.session.Session.{Session}

@@ -1,6 +1,6 @@
 //! How a run of a script fails.
 
-use crate::command::FaultKind;
+use po_language::FaultKind;
 use thiserror::Error;
 
 /// Why a run ended early.

@@ -4,17 +4,17 @@ ghost use Rattle.std.specs.Prelude.{◌≡◌, ◌≢◌, [], IfOk, OnOk, IsOk, 
 ghost use Rattle.po_index.specs.Numbering.{entry_count};
 ghost use Rattle.po_index.specs.declared.fault.ShapeFault.{ShapeFault};
 ghost use Rattle.po_actions.specs.View.{opening_view};
-ghost use Rattle.po_script.specs.Commands.{HasSize};
+ghost use Rattle.po_language.specs.Commands.{HasSize};
 ghost use Rattle.po_script.specs.Tickets.{Knows, AreCollected, tickets_of, HasCollected};
 ghost use Rattle.po_script.specs.Session.{making_of, made_of, after_on, lines_on, view_of};
 
-use crate::command::{Beginning, Operation, UnitChoice};
 use crate::operate::operate;
 use crate::session::OutOfMemory;
 use crate::tickets::Tickets;
 use po_actions::{Core, MakeFault, Start};
 use po_classic_units::{Allocator, Broadcast, Buffer, Meeting, Pulse, Relay, Signal, Trap};
 use po_index::{Shape, ShapeFault};
+use po_language::{Beginning, Operation, UnitChoice};
 use po_unit::Unit;
 use std::alloc::Global;
 

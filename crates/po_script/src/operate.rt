@@ -9,7 +9,6 @@ ghost use Rattle.po_script.specs.Operations.{after_operation, reply_lines, opera
 ghost use Rattle.po_script.specs.Lines.{refused_line, ended_lines};
 ghost use Rattle.po_script.specs.Tickets.{Knows, IsCollected, HasEnded, AreCollected};
 
-use crate::command::Operation;
 use crate::lines::{
     push_abort, push_clock, push_count, push_ended, push_final, push_next, push_refused,
     push_reply, push_ticket, push_value,
@@ -18,6 +17,7 @@ use crate::session::OutOfMemory;
 use crate::tickets::Tickets;
 use po_actions::{Core, Deadline, Refusal};
 use po_index::EntryRef;
+use po_language::Operation;
 use po_unit::Unit;
 
 /// Puts the line of a refusal into the empty reply. Want of memory is no line.

@@ -5,11 +5,11 @@ ghost use Rattle.std.specs.Io.KnownBytes.{Consumes};
 ghost use Rattle.po_script.specs.Ends.{EndsWell, EndsAs};
 ghost use Rattle.po_script.specs.declared.run.TheConstants.{LINE_LIMIT, SCRIPT_LIMIT};
 
-use crate::command::FaultKind;
 use crate::fault::RunFault;
 use crate::interpreter::Interpreter;
 use crate::sink::Sink;
 use crate::source::Source;
+use po_language::FaultKind;
 use std::alloc::Global;
 
 /// The most bytes of a line without its newline.

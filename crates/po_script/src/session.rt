@@ -4,9 +4,9 @@ ghost use Rattle.std.specs.Prelude.{◌≡◌, OnOk, string_bytes};
 ghost use Rattle.std.specs.Option.{ForSome};
 ghost use Rattle.po_script.specs.Tickets.{Knows, tickets_of, HasCollected};
 
-use crate::command::Command;
 use crate::object::Object;
 use crate::tickets::Tickets;
+use po_language::Command;
 use std::alloc::Global;
 
 /// Memory ran out.
@@ -24,7 +24,7 @@ pub struct Session {
 
 #[tactic(auto, unfolding(crate::specs::Session::opening_state, crate::specs::Session::after, crate::specs::Session::answer))]
 impl Session {
-    ghost use Rattle.po_script.specs.Commands.{CanBegin};
+    ghost use Rattle.po_language.specs.Commands.{CanBegin};
     ghost use Rattle.po_script.specs.Session.{state_of, opening_state, after, answer};
 
     /// A session before its first command.

@@ -1,6 +1,6 @@
 //! What words mean.
 
-use po_script::words::{entry_word, index, is_name, number};
+use po_language::words::{entry_word, index, is_name, number};
 
 #[test]
 fn reads_words(rt: HostRuntime) {

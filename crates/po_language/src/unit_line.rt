@@ -1,12 +1,12 @@
 //! The words of a `unit` line.
 
 ghost use Rattle.std.specs.Prelude.{◌≡◌, IfSome, MatchOption, None};
-ghost use Rattle.po_script.specs.Words.{words};
-ghost use Rattle.po_script.specs.Commands.{IsSize, HasSize, size_of, plain_unit, sized_unit, unit_of, order_of, with_order, limit_of, beginning_of};
+ghost use Rattle.po_language.specs.Words.{words};
+ghost use Rattle.po_language.specs.Commands.{IsSize, HasSize, size_of, plain_unit, sized_unit, unit_of, order_of, with_order, limit_of, beginning_of};
 
 use crate::command::{Beginning, UnitChoice};
 use crate::words::{cut_word, number, two_words};
-use po_actions::Order;
+use po_barriers::Order;
 
 /// The size of a unit: a number from 1 to 1,024.
 fn size(word: &[u8]) -> Option<u16>

@@ -2,25 +2,25 @@
 use Rattle.std.specs.Prelude.{codes, ℕ, ℤ, Bool, false, ◌&&◌, nat_le, ◌≤◌, ◌==◌, List, [], ◌∷◌, Option, Some, None, Result, Ok, Err, if◌then◌else◌}
 use Rattle.std.specs.Option.{option_map, option_and_then}
 use Rattle.std.specs.Str.{bytes_eq}
-use Rattle.po_script.specs.Words.{words, number_of, is_name, entry_parts}
+use Rattle.po_language.specs.Words.{words, number_of, is_name, entry_parts}
 use Rattle.po_classic_units.specs.Names.{place_of_name}
-use Rattle.po_script.specs.Names.{entry_names, procedure_names, function_names}
+use Rattle.po_language.specs.Names.{entry_names, procedure_names, function_names}
 use Rattle.po_index.specs.declared.decl.EntryRef.{EntryRef}
 use Rattle.po_calls.specs.declared.call.Deadline.{Deadline}
 use Rattle.po_calls.specs.declared.call.Deadline.TheVariants.{Never, At}
 use Rattle.po_barriers.specs.declared.order.Order.{Order}
 use Rattle.po_barriers.specs.declared.order.Order.TheVariants.{Textual, Oldest, Rotating}
-use Rattle.po_script.specs.declared.command.UnitChoice.{UnitChoice}
-use Rattle.po_script.specs.declared.command.UnitChoice.TheVariants.{Buffer, Signal, Broadcast, Pulse, Meeting, Allocator, Relay, Trap}
-use Rattle.po_script.specs.declared.command.Beginning.{Beginning}
-use Rattle.po_script.specs.declared.command.Command.{Command}
-use Rattle.po_script.specs.declared.command.Command.TheVariants.{Begin, Operate}
-use Rattle.po_script.specs.declared.command.Operation.{Operation}
-use Rattle.po_script.specs.declared.command.Operation.TheVariants.{Call as CallOperation, Run, Read, Abort, Tick as TickOperation, Finalize, Show as ShowOperation}
-use Rattle.po_script.specs.declared.command.FaultKind.{FaultKind}
-use Rattle.po_script.specs.declared.command.FaultKind.TheVariants.{UnknownCommand, NoUnit, SecondUnit, BadUnit, BadArgument}
-use Rattle.po_script.specs.declared.parse.Verb.{Verb}
-use Rattle.po_script.specs.declared.parse.Verb.TheVariants.{Begin as BeginVerb, Call, Cond, Timed, Proc, Func, Cancel, Tick, Final, Show}
+use Rattle.po_language.specs.declared.command.UnitChoice.{UnitChoice}
+use Rattle.po_language.specs.declared.command.UnitChoice.TheVariants.{Buffer, Signal, Broadcast, Pulse, Meeting, Allocator, Relay, Trap}
+use Rattle.po_language.specs.declared.command.Beginning.{Beginning}
+use Rattle.po_language.specs.declared.command.Command.{Command}
+use Rattle.po_language.specs.declared.command.Command.TheVariants.{Begin, Operate}
+use Rattle.po_language.specs.declared.command.Operation.{Operation}
+use Rattle.po_language.specs.declared.command.Operation.TheVariants.{Call as CallOperation, Run, Read, Abort, Tick as TickOperation, Finalize, Show as ShowOperation}
+use Rattle.po_language.specs.declared.command.FaultKind.{FaultKind}
+use Rattle.po_language.specs.declared.command.FaultKind.TheVariants.{UnknownCommand, NoUnit, SecondUnit, BadUnit, BadArgument}
+use Rattle.po_language.specs.declared.parse.Verb.{Verb}
+use Rattle.po_language.specs.declared.parse.Verb.TheVariants.{Begin as BeginVerb, Call, Cond, Timed, Proc, Func, Cancel, Tick, Final, Show}
 
 -- the word begins with `#`
 abbrev pub is_comment : List ℕ → Bool

@@ -4,7 +4,7 @@ use Rattle.std.specs.List.{filter, slice_split, prefix_len, fold}
 use Rattle.std.proofs.lemmas.Bool.{cases_Bool}
 use Rattle.std.proofs.lemmas.List.{take-append-drop}
 use Rattle.std.proofs.lemmas.List.Sums.{fold-append, fold_more}
-use Rattle.po_script.specs.Words.{words, is_space, is_word_byte, has_bytes, digits_value}
+use Rattle.po_language.specs.Words.{words, is_space, is_word_byte, has_bytes, digits_value}
 
 -- the first part is what stands before the first space
 parts : (l : List ℕ) → (tail : List (List ℕ)) × (slice_split is_space l ≡ take (prefix_len is_word_byte l) l ∷ tail) × (words (drop (prefix_len is_word_byte l) l) ≡ filter has_bytes tail)

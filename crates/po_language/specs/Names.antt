@@ -8,8 +8,8 @@ use Rattle.po_classic_units.specs.Meeting.{meeting_entry_names, meeting_procedur
 use Rattle.po_classic_units.specs.Allocator.{allocator_entry_names, allocator_procedure_names, allocator_function_names}
 use Rattle.po_classic_units.specs.Relay.{relay_entry_names, relay_procedure_names, relay_function_names}
 use Rattle.po_classic_units.specs.Trap.{trap_entry_names, trap_procedure_names, trap_function_names}
-use Rattle.po_script.specs.declared.command.UnitChoice.{UnitChoice}
-use Rattle.po_script.specs.declared.command.UnitChoice.TheVariants.{Buffer, Signal, Broadcast, Pulse, Meeting, Allocator, Relay, Trap}
+use Rattle.po_language.specs.declared.command.UnitChoice.{UnitChoice}
+use Rattle.po_language.specs.declared.command.UnitChoice.TheVariants.{Buffer, Signal, Broadcast, Pulse, Meeting, Allocator, Relay, Trap}
 
 -- the names of the unit's entries, in the order of their declarations
 abbrev pub entry_names : UnitChoice → List (List ℕ)

@@ -1,16 +1,16 @@
 //! The words of the lines that ask for an operation.
 
 ghost use Rattle.std.specs.Prelude.{◌≡◌, ℕ, List};
-ghost use Rattle.po_script.specs.Words.{words};
-ghost use Rattle.po_script.specs.Names.{procedure_names, function_names};
-ghost use Rattle.po_script.specs.Commands.{entry_of, operation_number, call_of, timed_of, run_of, read_of, number_alone, alone, operation_of};
-ghost use Rattle.po_script.specs.declared.command.Operation.{Operation};
+ghost use Rattle.po_language.specs.Words.{words};
+ghost use Rattle.po_language.specs.Names.{procedure_names, function_names};
+ghost use Rattle.po_language.specs.Commands.{entry_of, operation_number, call_of, timed_of, run_of, read_of, number_alone, alone, operation_of};
+ghost use Rattle.po_language.specs.declared.command.Operation.{Operation};
 
 use crate::command::{Operation, UnitChoice};
 use crate::names::{entry_named, function_named, procedure_named};
 use crate::parse::Verb;
 use crate::words::{cut_word, entry_word, is_name, number, only_word, two_words};
-use po_actions::Deadline;
+use po_calls::Deadline;
 use po_index::EntryRef;
 
 /// The entry of the unit that the word names.

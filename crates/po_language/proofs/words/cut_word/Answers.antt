@@ -1,8 +1,8 @@
 use Rattle.std.proofs.Common.{arith}
 use Rattle.std.proofs.lemmas.List.{take_rest}
 use Rattle.std.proofs.lemmas.Grind.{common_steps}
-use Rattle.po_script.proofs.WordLemmas.{cut_is}
-use Rattle.po_script.proofs.words.cut_word.Goals as goal
+use Rattle.po_language.proofs.WordLemmas.{cut_is}
+use Rattle.po_language.proofs.words.cut_word.Goals as goal
 
 pub returns : goal.returns
 returns c =

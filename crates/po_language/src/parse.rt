@@ -1,8 +1,8 @@
 //! The command of a line.
 
 ghost use Rattle.std.specs.Prelude.{◌≡◌, IfOk, IfSome};
-ghost use Rattle.po_script.specs.Words.{words};
-ghost use Rattle.po_script.specs.Commands.{CanBegin, is_comment, verb_of, first_command, later_command, command_of};
+ghost use Rattle.po_language.specs.Words.{words};
+ghost use Rattle.po_language.specs.Commands.{CanBegin, is_comment, verb_of, first_command, later_command, command_of};
 
 use crate::command::{Command, FaultKind, UnitChoice};
 use crate::operation_line::operation_of;

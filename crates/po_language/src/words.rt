@@ -3,8 +3,8 @@
 ghost use Rattle.std.specs.Prelude.{◌≡◌, ◌∷◌, [], MatchOption, ◌≤◌, ◌+◌, ◌*◌, ◌^◌, if◌then◌else◌, nat_lt, None, length};
 ghost use Rattle.std.specs.List.{prefix_len, list_all};
 ghost use Rattle.std.specs.Char.{is_ascii_digit};
-ghost use Rattle.po_script.specs.Commands.{only_of, pair_of};
-ghost use Rattle.po_script.specs.Words.{words, is_space, is_word_byte, is_name_byte, is_before_index, number_of, digits_value, is_name, index_of, magnitude_of, positive_of, negative_of, entry_parts, bracketed};
+ghost use Rattle.po_language.specs.Commands.{only_of, pair_of};
+ghost use Rattle.po_language.specs.Words.{words, is_space, is_word_byte, is_name_byte, is_before_index, number_of, digits_value, is_name, index_of, magnitude_of, positive_of, negative_of, entry_parts, bracketed};
 
 /// How many spaces stand first.
 fn space_count(line: &[u8]) -> usize

@@ -1,6 +1,7 @@
 //! The commands of a script, each of one line.
 
-use po_actions::{Deadline, Order};
+use po_barriers::Order;
+use po_calls::Deadline;
 use po_index::EntryRef;
 use thiserror::Error;
 

@@ -2,7 +2,7 @@
 
 ghost use Rattle.std.specs.Prelude.{◌≡◌};
 ghost use Rattle.po_classic_units.specs.Names.{place_of_name};
-ghost use Rattle.po_script.specs.Names.{entry_names, procedure_names, function_names};
+ghost use Rattle.po_language.specs.Names.{entry_names, procedure_names, function_names};
 
 use crate::command::UnitChoice;
 use po_classic_units::{Allocator, Broadcast, Buffer, Meeting, Pulse, Relay, Signal, Trap};
