@@ -1,13 +1,14 @@
 //! A unit of which no copy can be made, as if there were never memory for it.
 
 use po_actions::{Core, MakeFault, Order};
-use po_index::{Decl, Shape};
+use po_classic_units::Signal;
 use po_unit::{Outcome, Unit};
 use std::alloc::AllocError;
 use std::marker::Model;
 use std::test::Fail;
 
-/// A unit without data, whose only entry is open, and whose operations give back what they are given.
+/// A unit without data, whose only entry is open, whose operations give back what they are given, and whose copies are
+/// refused.
 #[derive(Drop)]
 struct Uncopied;
 
@@ -71,13 +72,7 @@ impl Unit for Uncopied {
 
 #[test]
 fn a_copy_that_is_refused_is_want_of_memory(rt: HostRuntime) -> Result<(), Fail> {
-    let entry = Decl {
-        public: true,
-        family: false,
-        low: 0,
-        high: 0,
-    };
-    let shape = Shape::new(rt.alloc(), &[entry])?;
+    let shape = Signal::new().shape(rt.alloc())?;
     let made = Core::new(rt.alloc(), Uncopied, shape, Order::Textual, 1);
     assert_eq!(rt; made.err(), Some(MakeFault::OutOfMemory));
     Ok(())
