@@ -42,7 +42,7 @@ pub(crate) fn print<R: Print + Clock + AllocGlobal>(rt: &R, plan: &Plan) -> io::
     let mut first = Measure::new();
     let mut last = Measure::new();
     let mut cores = Vec::new(rt.alloc());
-    for _ in 0..plan.batches {
+    for _ in 0..plan.begun_histories {
         cores.push(begin(rt, plan, &mut first)?)?;
     }
     for core in cores.iter_mut().take(plan.histories) {

@@ -8,17 +8,23 @@ pub(crate) const MANY: u64 = 64_000;
 pub(crate) struct Plan {
     /// Whether times are printed, or counts alone.
     pub times: bool,
-    /// How many batches a measurement has.
+    /// How many batches a measurement has, each on a core of its own.
     pub batches: u32,
-    /// How many commands a batch has on a core of its own.
+    /// How many commands such a batch has.
     pub commands: u64,
-    /// How many commands a batch has on a core on which calls wait.
+    /// How many cores on which few calls wait are measured, and on which many do.
+    pub waiting_rounds: u32,
+    /// How many batches a measurement has on each of them.
+    pub waiting_batches: u32,
+    /// How many commands such a batch has.
     pub waiting_commands: u64,
     /// How many calls wait where few do.
     pub few: u64,
     /// How many calls wait where many do.
     pub many: u64,
-    /// How many commands begin a history. There are as many histories as batches.
+    /// How many histories are begun.
+    pub begun_histories: u32,
+    /// How many commands begin a history.
     pub first: u32,
     /// How many commands follow them, which aren't measured.
     pub middle: u32,
@@ -35,9 +41,12 @@ impl Plan {
             times: false,
             batches: 2,
             commands: 100,
+            waiting_rounds: 1,
+            waiting_batches: 2,
             waiting_commands: 10,
             few: 20,
             many: 60,
+            begun_histories: 2,
             first: 100,
             middle: 200,
             last: 100,
@@ -49,11 +58,14 @@ impl Plan {
     pub(crate) fn full(many: u64) -> Plan {
         Plan {
             times: true,
-            batches: 25,
+            batches: 20_000,
             commands: 2_000,
+            waiting_rounds: 100,
+            waiting_batches: 25,
             waiting_commands: 400,
             few: 1_000,
             many,
+            begun_histories: 25,
             first: 10_000,
             middle: 890_000,
             last: 100_000,

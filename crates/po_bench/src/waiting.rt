@@ -122,25 +122,33 @@ fn collect(core: &mut Core<Trap>, tickets: &mut Vec<Ticket>) {
     tickets.clear();
 }
 
-/// Measures the commands while so many calls wait.
-fn measure<R: Clock + AllocGlobal>(rt: &R, plan: &Plan, calls: u64) -> io::Result<Measures> {
+/// Adds batches of the commands to the measures, on a core on which so many calls wait.
+fn measure<R: Clock + AllocGlobal>(
+    rt: &R,
+    plan: &Plan,
+    calls: u64,
+    measures: &mut Measures,
+) -> io::Result<()> {
     let mut core = trap(rt.alloc())?;
     let mut tickets = Vec::new(rt.alloc());
     issue(&mut core, &mut tickets, calls);
     tickets.clear();
-    let mut measures = Measures::new();
-    for _ in 0..plan.batches {
+    for _ in 0..plan.waiting_batches {
         measures.add(rt, &mut core, &mut tickets, plan.waiting_commands)?;
     }
-    Ok(measures)
+    Ok(())
 }
 
-/// Measures the commands while few and while many calls wait, and prints what they take.
+/// Measures the commands while few and while many calls wait, in turn, and prints what they take.
 pub(crate) fn print<R: Print + Clock + AllocGlobal>(rt: &R, plan: &Plan) -> io::Result<()> {
     // For the memory alone, which the measurements then find touched.
-    measure(rt, plan, plan.many)?;
-    let few = measure(rt, plan, plan.few)?;
-    let many = measure(rt, plan, plan.many)?;
+    measure(rt, plan, plan.many, &mut Measures::new())?;
+    let mut few = Measures::new();
+    let mut many = Measures::new();
+    for _ in 0..plan.waiting_rounds {
+        measure(rt, plan, plan.few, &mut few)?;
+        measure(rt, plan, plan.many, &mut many)?;
+    }
     for (name, few, many) in [
         ("procedure", few.procedure, many.procedure),
         ("conditional", few.conditional, many.conditional),
