@@ -1,8 +1,9 @@
 //! What a call takes at the beginning of a history, and where the history is long.
 //!
-//! A call makes two events, and with each of them the history grows into memory that the program hasn't touched before:
-//! all histories are begun before the first of them goes on, and none is let go. What counts is the average, since what
-//! it costs to grow doesn't fall on each batch alike.
+//! A call makes two events, and with each of them the history grows into memory that its round hasn't touched before:
+//! all histories of a round are begun before the first of them goes on, and none is let go before the round ends. What
+//! counts is the average over a round, since what it costs to grow doesn't fall on each batch alike, and of the rounds the
+//! one with the least.
 
 use crate::commands::{Command, OPEN};
 use crate::cores::trap;
@@ -37,19 +38,35 @@ fn go_on<R: Clock>(
     Command::Call.measure(rt, core, u64::from(plan.last), last)
 }
 
-/// Measures calls at both ends of histories, and prints what they take.
+/// Begins histories, has some of them go on to their end, and adds a series of batches to both measures.
+fn measure<R: Clock + AllocGlobal>(
+    rt: &R,
+    plan: &Plan,
+    first: &mut Measure,
+    last: &mut Measure,
+) -> io::Result<()> {
+    let mut beginnings = Measure::new();
+    let mut ends = Measure::new();
+    let mut cores = Vec::new(rt.alloc());
+    for _ in 0..plan.begun_histories {
+        cores.push(begin(rt, plan, &mut beginnings)?)?;
+    }
+    for core in cores.iter_mut().take(plan.histories) {
+        go_on(rt, plan, core, &mut ends)?;
+    }
+    first.add_series(beginnings);
+    last.add_series(ends);
+    Ok(())
+}
+
+/// Measures calls at both ends of histories, in turn, and prints what they take.
 pub(crate) fn print<R: Print + Clock + AllocGlobal>(rt: &R, plan: &Plan) -> io::Result<()> {
     let mut first = Measure::new();
     let mut last = Measure::new();
-    let mut cores = Vec::new(rt.alloc());
-    for _ in 0..plan.begun_histories {
-        cores.push(begin(rt, plan, &mut first)?)?;
-    }
-    for core in cores.iter_mut().take(plan.histories) {
-        go_on(rt, plan, core, &mut last)?;
+    for _ in 0..plan.history_rounds {
+        measure(rt, plan, &mut first, &mut last)?;
     }
     let begun = u64::from(plan.first);
     let length = begun + u64::from(plan.middle) + u64::from(plan.last);
-    let (first, last) = (first.average(), last.average());
     pair(rt, plan, "history", (begun, first), (length, last))
 }

@@ -1,8 +1,9 @@
 //! The program `po_bench`: what commands on a core cost.
 //!
 //! A measurement is taken in batches of commands, and what counts is the batch in which a command took the least, since
-//! what else the machine does can only add to it; in `history` it is the average over all batches. Each batch of calls and
-//! of procedures that is measured against the mutex has a core of its own, so that each pays for the growth of its history.
+//! what else the machine does can only add to it; in `history` it is the round of batches in which a command took the least
+//! on the average. Each batch of calls and of procedures that is measured against the mutex has a core of its own, so that
+//! each pays for the growth of its history.
 //!
 //! Without an argument, or with the argument `small`, the batches are small, and how many commands did what they were
 //! to do is all that is printed. With the argument `full` a line has the measurement's name, how many commands were

@@ -10,7 +10,7 @@ pub(crate) struct Measure {
     pub commands: u64,
     /// How many nanoseconds all batches took.
     nanos: u64,
-    /// How many picoseconds a command took: in the batch in which it took the least, or on the average.
+    /// How many picoseconds a command took in the batch, or the series of batches, in which it took the least.
     picos: u64,
 }
 
@@ -38,12 +38,11 @@ impl Measure {
         Ok(())
     }
 
-    /// The same, with what a command took on the average over all batches.
-    pub(crate) fn average(self) -> Measure {
-        Measure {
-            picos: picos_of(self.nanos, self.commands),
-            ..self
-        }
+    /// Adds a series of batches as if it were one, so that what counts of it is what a command took on the average.
+    pub(crate) fn add_series(&mut self, series: Measure) {
+        self.commands = self.commands.saturating_add(series.commands);
+        self.nanos = self.nanos.saturating_add(series.nanos);
+        self.picos = self.picos.min(picos_of(series.nanos, series.commands));
     }
 
     /// The tenths of nanoseconds that a command took.

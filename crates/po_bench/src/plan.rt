@@ -22,7 +22,9 @@ pub(crate) struct Plan {
     pub few: u64,
     /// How many calls wait where many do.
     pub many: u64,
-    /// How many histories are begun.
+    /// How many rounds of histories there are.
+    pub history_rounds: u32,
+    /// How many histories are begun in a round.
     pub begun_histories: u32,
     /// How many commands begin a history.
     pub first: u32,
@@ -46,6 +48,7 @@ impl Plan {
             waiting_commands: 10,
             few: 20,
             many: 60,
+            history_rounds: 1,
             begun_histories: 2,
             first: 100,
             middle: 200,
@@ -65,6 +68,7 @@ impl Plan {
             waiting_commands: 400,
             few: 1_000,
             many,
+            history_rounds: 10,
             begun_histories: 25,
             first: 10_000,
             middle: 890_000,
