@@ -69,7 +69,7 @@ impl Plan {
             few: 1_000,
             many,
             history_rounds: 10,
-            begun_histories: 25,
+            begun_histories: 100,
             first: 10_000,
             middle: 890_000,
             last: 100_000,
