@@ -32,17 +32,20 @@ impl Measure {
         commands: u64,
     ) -> io::Result<()> {
         let nanos = u64::try_from(start.elapsed(rt)?.as_nanos()).unwrap_or(u64::MAX);
-        self.commands = self.commands.saturating_add(commands);
-        self.nanos = self.nanos.saturating_add(nanos);
-        self.picos = self.picos.min(picos_of(nanos, commands));
+        self.count(nanos, commands);
         Ok(())
     }
 
     /// Adds a series of batches as if it were one, so that what counts of it is what a command took on the average.
     pub(crate) fn add_series(&mut self, series: Measure) {
-        self.commands = self.commands.saturating_add(series.commands);
-        self.nanos = self.nanos.saturating_add(series.nanos);
-        self.picos = self.picos.min(picos_of(series.nanos, series.commands));
+        self.count(series.nanos, series.commands);
+    }
+
+    /// Counts a batch of so many commands, which took so many nanoseconds.
+    fn count(&mut self, nanos: u64, commands: u64) {
+        self.commands = self.commands.saturating_add(commands);
+        self.nanos = self.nanos.saturating_add(nanos);
+        self.picos = self.picos.min(picos_of(nanos, commands));
     }
 
     /// The tenths of nanoseconds that a command took.

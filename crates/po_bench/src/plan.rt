@@ -8,7 +8,7 @@ pub(crate) const MANY: u64 = 64_000;
 pub(crate) struct Plan {
     /// Whether times are printed, or counts alone.
     pub times: bool,
-    /// How many batches a measurement has, each on a core of its own.
+    /// How many batches a measurement against the mutex has, and one by the number of entries.
     pub batches: u32,
     /// How many commands such a batch has.
     pub commands: u64,
@@ -32,7 +32,7 @@ pub(crate) struct Plan {
     pub middle: u32,
     /// How many commands end the history.
     pub last: u32,
-    /// How many of the histories go on to their end.
+    /// How many of the histories of a round go on to their end.
     pub histories: usize,
 }
 
