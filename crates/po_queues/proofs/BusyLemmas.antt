@@ -6,13 +6,14 @@ use Rattle.std.specs.Int.{bit_at, w64, trailing_zeros}
 use Rattle.std.specs.List.{All}
 use lib.Bits.{bit_and}
 use Rattle.std.proofs.lemmas.Bool.{cases_Bool, cases_eq, cases_lt, eqb-true, eqb-false, false≢true, lt-ltb}
+use Rattle.std.proofs.lemmas.Bool.{ltb-true, ltb-false}
 use Rattle.std.proofs.lemmas.List.{get_or-set_same, get_or-set_other, get_or_past, get_or-replicate, length-replicate}
 use Rattle.std.proofs.lemmas.List.Elements.{All-head, All-tail}
 use Rattle.std.proofs.lemmas.Nat.Bits.{bit_at-zero, bit_at_and, bit_at_mask_inside, bit_at_mask_below}
 use Rattle.std.proofs.lemmas.Nat.Bits.{bit_at-trailing_zeros, bit_at-lt}
 use Rattle.po_queues.specs.QueuedKeys.{QueuedKey, QueuesView, queue_of, keys_of, keys_on, item_of, without_key}
 use Rattle.po_queues.specs.QueuedKeys.{AreDistinct}
-use Rattle.po_queues.specs.Busy.{IsNextBusy, bit_of, bit_when, IsNextBit, has_keys, MarksBusy}
+use Rattle.po_queues.specs.Busy.{IsNextBusy, bit_of, bit_when, IsNextBit, SumsUp, has_keys, MarksBusy}
 use Rattle.po_queues.proofs.ItemLemmas.{keys_without, other_entry}
 use Rattle.po_queues.proofs.KeyLemmas.{without_free}
 use Rattle.po_queues.proofs.HoldLemmas.{keys_same, keys_other}
@@ -117,6 +118,22 @@ no_bit_here words from place mask word near mask_is word_is none before e here b
       ∙ ap (λ w. bit_at w (e - 64 * place)) (sym word_is ∙ none) ∙ bit_at-zero (e - 64 * place)
 ]
 
+-- a word of which the mask of all its bits leaves none is 0
+pub no_bit_at_all : (word mask : ℕ) → mask ≡ 2 ^ 64 - 2 ^ 0 → word < 2 ^ 64 → bit_and word mask ≡ 0 → word ≡ 0
+no_bit_at_all word mask mask_is fits none = elim (cases_lt 0 word) [
+  | inl some ↦
+      let lowest = bit_at-trailing_zeros w64 word some fits in
+      let t = trailing_zeros w64 word in
+      absurd (omega (
+        arith,
+        lowest.1,
+        masked word mask 64 0 t mask_is (omega arith) lowest.0,
+        ap (λ w. bit_at w t) none,
+        bit_at-zero t,
+      ))
+  | inr none_is ↦ omega (arith, none_is)
+]
+
 -- some keys, as a number of them
 has_keys-length : (ks : List ℕ) → ltb 0 (length ks) ≡ has_keys ks
 has_keys-length [] = refl
@@ -196,6 +213,38 @@ set_bit false e = absurd (omega (arith, e))
 clear_bit : (b : Bool) → bit_when b ≡ 0 → b ≡ false
 clear_bit true e = absurd (omega (arith, e))
 clear_bit false e = refl
+
+-- a word with no bit set is 0
+clear_word : (words sums : List ℕ) (w : ℕ) → SumsUp words sums → bit_of sums w ≡ 0 → get_or words w 0 ≡ 0
+clear_word words sums w s bit = omega (arith, ltb-false 0 (get_or words w 0) (clear_bit _ (sym (s.marks w) ∙ bit)))
+
+-- a word with a bit set isn't 0
+pub some_word : (words sums : List ℕ) (w : ℕ) → SumsUp words sums → bit_of sums w ≡ 1 → 0 < get_or words w 0
+some_word words sums w s bit = ltb-true 0 (get_or words w 0) (set_bit _ (sym (s.marks w) ∙ bit))
+
+-- where a word has no bit set from here on, and none of the words behind it has one, none is set
+clear_between : (words sums : List ℕ) (from w : ℕ) → SumsUp words sums
+    → ((e : ℕ) → from ≤ e → e / 64 ≡ from / 64 → bit_of words e ≡ 0)
+    → ((v : ℕ) → from / 64 + 1 ≤ v → v < w → bit_of sums v ≡ 0) → (e : ℕ) → from ≤ e → e / 64 < w
+    → bit_of words e ≡ 0
+clear_between words sums from w s here between e later below = elim (cases_lt (from / 64) (e / 64)) [
+  | inl behind ↦ rw (clear_word words sums (e / 64) s (between (e / 64) (omega (arith, behind)) below))
+      (bit_at-zero (e % 64))
+  | inr same ↦ here e later (omega (arith, same, later))
+]
+
+-- the next bit is the first of the next word that has one, where its own word has none from here on
+pub next_bit_behind : (words sums : List ℕ) (from w e : ℕ) → SumsUp words sums
+    → ((f : ℕ) → from ≤ f → f / 64 ≡ from / 64 → bit_of words f ≡ 0) → IsNextBit sums (from / 64 + 1) w
+    → IsNextBit words (64 * w) e → IsNextBit words from e
+next_bit_behind words sums from w e s here next first = record {
+  from_here = omega (arith, next.from_here, first.from_here);
+  is_set = first.is_set;
+  clear_before = λ f later below. elim (cases_lt f (64 * w)) [
+    | inl early ↦ clear_between words sums from w s here next.clear_before f later (omega (arith, early))
+    | inr late ↦ first.clear_before f late below
+  ];
+}
 
 -- an entry whose bit isn't set has an empty queue
 pub idle_queue : (total : ℕ) (words : List ℕ) (items : List QueuedKey) (e : ℕ) → MarksBusy total words items

@@ -1,5 +1,6 @@
 -- Which entries have a queued key, and the bits that say so.
 use Rattle.std.specs.Prelude.{ℕ, ◌≡◌, ◌<◌, ◌≤◌, ◌*◌, ◌/◌, ◌%◌, Bool, true, false, List, [], ◌∷◌, length, slice_index_or}
+use Rattle.std.specs.Prelude.{nat_lt}
 use Rattle.std.specs.Int.{bit_at}
 use Rattle.po_queues.specs.QueuedKeys.{QueuedKey, QueuesView, queue_of, keys_on}
 
@@ -24,6 +25,12 @@ pub record IsNextBit (words : List ℕ) (from entry : ℕ) : Type 0 where
   pub from_here : from ≤ entry
   pub is_set : bit_of words entry ≡ 1
   pub clear_before : (e : ℕ) → from ≤ e → e < entry → bit_of words e ≡ 0
+
+-- A bit for each word says whether one of its own bits is set, and there are words for so many of them.
+pub record SumsUp (words sums : List ℕ) : Type 0 where
+  pub marks : (w : ℕ) → bit_of sums w ≡ bit_when (nat_lt 0 (slice_index_or words w 0))
+  pub enough : length words ≤ 64 * length sums
+  pub few : length sums ≤ 1024
 
 -- Whether there is a key.
 abbrev pub has_keys : List ℕ → Bool

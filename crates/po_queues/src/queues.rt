@@ -47,7 +47,7 @@ impl Model for Queues {
     } };
 
     ghost invariant = { λ q. KeepsQueues q.links.items q.firsts.items q.lasts.items
-        q.counts.items q.busy.words.items q.queued };
+        q.counts.items q.busy q.queued };
 }
 
 impl Queues {
@@ -198,7 +198,7 @@ impl Queues {
 
     /// The first entry from here on that has a queued key.
     ///
-    /// It reads one bit for each entry, 64 at once, and no more.
+    /// It reads three words of bits, and one more for each 4,096 entries that it passes.
     pub fn next_busy(&self, from: u16) -> Option<u16>
         ensures some { IfSome result (λ e. IsNextBusy self.now from e) }
         ensures none { IsNone result → (e : ℕ) → from ≤ e → queue_of e self.now.items ≡ [] }

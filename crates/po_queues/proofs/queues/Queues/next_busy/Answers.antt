@@ -9,7 +9,7 @@ use Rattle.po_queues.proofs.queues.Queues.next_busy.Goals as goal
 
 pub returns-clause-some : goal.returns-clause-some
 returns-clause-some c =
-    let words = c.self.inside.busy.words.items in
+    let words = c.self.inside.busy in
     let marks = subst (λ (v : QueuesView). MarksBusy v.total words v.items) c.self.view_is c.self.invariant.busy in
     let all = subst (λ (v : QueuesView). All (λ (x : QueuedKey). x.entry < v.total) v.items) c.self.view_is
     c.self.invariant.holds.entries in

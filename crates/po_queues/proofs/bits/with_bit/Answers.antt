@@ -3,7 +3,7 @@ use Rattle.std.proofs.Common.{◌∙◌, sym, ap}
 use Rattle.std.specs.Int.{w64}
 use Rattle.std.proofs.lemmas.Nat.Bits.{bit_at_set_same, bit_at_set_other, bit_at_clear_same, bit_at_clear_other}
 use Rattle.po_queues.specs.Busy.{bit_when}
-use Rattle.po_queues.proofs.busy.with_bit.Goals as goal
+use Rattle.po_queues.proofs.bits.with_bit.Goals as goal
 
 pub returns-then-is_set-clause-same : goal.returns-then-is_set-clause-same
 returns-then-is_set-clause-same c =
