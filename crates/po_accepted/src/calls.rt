@@ -216,7 +216,7 @@ impl<V: Copy> Calls<V> {
         } }
     {
         let key = self.queues.first(entry)?;
-        self.queues.is_sound();
+        self.queues.recall_invariant();
         self.queues.remove(key);
         self.hand = Some(key);
         self.in_hand()
@@ -250,7 +250,7 @@ impl<V: Copy> Calls<V> {
         ensures none_placed { IfNone result (self.old.places ≡ []) }
     {
         let key = self.queues.oldest()?;
-        self.queues.is_sound();
+        self.queues.recall_invariant();
         self.queues.remove(key);
         self.hand = Some(key);
         self.in_hand()
@@ -296,7 +296,7 @@ impl<V: Copy> Calls<V> {
             → IsKeyOf (call_at table.now.calls) (key_of first keys.now.items) queues.now.items n k → ⊥) }
         ensures sound { AreInOrder queues.now }
     {
-        queues.is_sound();
+        queues.recall_invariant();
         if n < first {
             return None;
         }
@@ -359,7 +359,7 @@ impl<V: Copy> Calls<V> {
     pub fn waiting_of(&self, owner: u16) -> Option<u64>
         ensures { result ≡ option_map (λ x. x.number) (find (is_of owner) self.now.waiting) }
     {
-        self.queues.is_sound();
+        self.queues.recall_invariant();
         let mut next = self.queues.oldest();
         while let Some(key) = next {
             if let Some(call) = self.table.at(key) {
@@ -377,7 +377,7 @@ impl<V: Copy> Calls<V> {
         ensures calls { IfOk result (λ list. map (λ a. a.call) list.items ≡ self.now.waiting) }
         ensures places { IfOk result (λ list. map (λ a. a.place) list.items ≡ self.now.places) }
     {
-        self.queues.is_sound();
+        self.queues.recall_invariant();
         let mut list = Vec::new(*self.ended.allocator());
         let mut next = self.queues.oldest();
         while let Some(key) = next {
@@ -437,9 +437,9 @@ impl<V: Copy> Calls<V> {
     }
 
     /// What all calls keep.
-    pub fn is_sound(&self)
+    pub fn recall_invariant(&self)
         ensures { AreCallsSound self.now }
     {
-        self.queues.is_sound();
+        self.queues.recall_invariant();
     }
 }

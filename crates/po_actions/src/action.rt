@@ -289,7 +289,7 @@ impl<U: Unit> Action<U> {
     }
 
     /// What every history keeps. It replays from its base.
-    pub(crate) fn is_sound(&self)
+    pub(crate) fn recall_invariant(&self)
         ensures { IsSound U.meaning self.now.object }
     {
         let _ = &self.history;

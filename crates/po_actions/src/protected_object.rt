@@ -153,7 +153,7 @@ impl<U: Unit + Drop> Core<U> {
         if self.place() >= u128::from(u64::MAX) {
             return Err(Refusal::NumbersSpent);
         }
-        self.action.is_sound();
+        self.action.recall_invariant();
         let volume = self.action.cut()?;
         Ok(volume)
     }
@@ -189,7 +189,7 @@ impl<U: Unit> Core<U> {
         if self.action.state().is_finalized() {
             return Err(Refusal::Finalized);
         }
-        self.action.is_sound();
+        self.action.recall_invariant();
         if self.action.state().next() == u64::MAX {
             return Err(Refusal::NumbersSpent);
         }
@@ -228,7 +228,7 @@ impl<U: Unit> Core<U> {
         if self.action.place() >= u128::from(u64::MAX) {
             return Err(Refusal::NumbersSpent);
         }
-        self.action.is_sound();
+        self.action.recall_invariant();
         let reply = self.action.run(owner, op, value)?;
         self.action.settle();
         Ok(reply)
@@ -275,7 +275,7 @@ impl<U: Unit> Core<U> {
         let Some(call) = self.action.state().waiting_call(n) else {
             return Err(Refusal::AlreadyEnded);
         };
-        self.action.is_sound();
+        self.action.recall_invariant();
         if !call.sealed {
             self.action.abort(n);
             self.action.settle();
@@ -308,7 +308,7 @@ impl<U: Unit> Core<U> {
         if self.action.state().is_finalized() {
             return Err(Refusal::Finalized);
         }
-        self.action.is_sound();
+        self.action.recall_invariant();
         self.action.tick(t)?;
         self.action.settle();
         Ok(self.clock())
@@ -333,7 +333,7 @@ impl<U: Unit> Core<U> {
         if self.action.state().is_finalized() {
             return Err(Refusal::Finalized);
         }
-        self.action.is_sound();
+        self.action.recall_invariant();
         self.action.finalize();
         Ok(())
     }
@@ -382,7 +382,7 @@ impl<U: Unit> Core<U> {
             (λ r. count_refusal self.now.object entry ≡ Some r) }
     {
         let e = self.action.making().shape().flat(entry)?;
-        self.action.is_sound();
+        self.action.recall_invariant();
         Ok(self.action.state().count(e))
     }
 
@@ -492,7 +492,7 @@ impl<U: Unit> Core<U> {
         ensures headline { Headline U.meaning self.now.object }
         ensures tickets { AreIssued self.now }
     {
-        self.action.is_sound();
+        self.action.recall_invariant();
     }
 
     /// The flat number of a public entry, for a call from outside.

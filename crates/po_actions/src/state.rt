@@ -119,7 +119,7 @@ impl<U: Unit> State<U> {
           hand = None;
         } }
     {
-        self.calls.is_sound();
+        self.calls.recall_invariant();
         self.owed += events_owed::<U>(&call);
         self.calls.queue(call, place);
     }
@@ -241,7 +241,7 @@ impl<U: Unit> State<U> {
         ensures places { (f : ℕ → ℕ) → AreAt f self.old.state.waiting self.old.places
             → AreAt (noted f place (call_of self.old.state (Event.Serve e))) self.new.state.waiting self.new.places }
     {
-        self.calls.is_sound();
+        self.calls.recall_invariant();
         if let Some(call) = self.take_on(e) {
             self.run_body(limit, call, place);
         }
@@ -332,7 +332,7 @@ impl<U: Unit> State<U> {
         ensures key { number_at self.old.tickets result.key ≡ None }
         ensures ticket { SetsTicket self.old.tickets self.new.tickets result.key (Some result.number) }
     {
-        self.calls.is_sound();
+        self.calls.recall_invariant();
         let gate = self.unit.barrier(e, self.calls.counts());
         if gate.is_err() {
             self.end_all();
@@ -374,7 +374,7 @@ impl<U: Unit> State<U> {
         ensures places { (f : ℕ → ℕ) → AreAt f self.old.state.waiting self.old.places
             → AreAt f self.new.state.waiting self.new.places }
     {
-        self.calls.is_sound();
+        self.calls.recall_invariant();
         if let Some(call) = self.waiting_call(n) {
             if !call.sealed {
                 self.cancel(n);

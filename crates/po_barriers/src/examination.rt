@@ -20,7 +20,7 @@ pub fn examine<U: Unit>(unit: &U, queues: &Queues, order: Order, last: Option<u1
     ensures next { result ≡ serviced_next U.meaning unit.now queues.now order last }
     ensures tells { Tells U.meaning unit.now queues.now result }
 {
-    queues.is_sound();
+    queues.recall_invariant();
     match order {
         Order::Textual => turn_from(unit, queues, 0, queues.total()),
         Order::Oldest => oldest_turn(unit, queues),
@@ -72,7 +72,7 @@ fn oldest_turn<U: Unit>(unit: &U, queues: &Queues) -> Look
     ensures { result ≡ first_look (turn_at U.meaning unit.now queues.now)
         (examined Order.Oldest None queues.now.total (map (λ x. x.entry) queues.now.items)) }
 {
-    queues.is_sound();
+    queues.recall_invariant();
     let mut found = None;
     let mut next = 0;
     while let Some(entry) = queues.next_busy(next) {

@@ -132,7 +132,7 @@ fn expires_only_with_its_new_time(rt: HostRuntime) -> Result<(), Fail> {
 #[test]
 fn reserves_for_all(rt: HostRuntime) -> Result<(), Fail> {
     let mut queues = EntryQueues::new(rt.alloc(), 1)?;
-    queues.is_sound();
+    queues.recall_invariant();
     assert_eq!(rt; queues.reserve(0), Ok(()));
     queues.append(0, 0, 1, Some(5));
     assert_eq!(rt; queues.reserve(300), Ok(()));

@@ -134,7 +134,7 @@ fn keeps_all_where_memory_is_refused(rt: HostRuntime) -> Result<(), Fail> {
     let mut expirations = worked(rt.alloc())?;
     assert!(rt; expirations.reserve(usize::MAX).is_err());
     let more = expirations.reserve(1000);
-    expirations.is_sound();
+    expirations.recall_invariant();
     expirations.rise(20);
     assert_eq!(rt; expirations.first_due(), Some(0));
     if more.is_err() {

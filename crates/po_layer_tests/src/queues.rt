@@ -140,7 +140,7 @@ fn keeps_all_where_memory_is_refused(rt: HostRuntime) -> Result<(), Fail> {
 #[test]
 fn queues_without_entries(rt: HostRuntime) -> Result<(), Fail> {
     let queues = Queues::new(rt.alloc(), 0)?;
-    queues.is_sound();
+    queues.recall_invariant();
     assert_eq!(rt; queues.total(), 0);
     assert_eq!(rt; queues.counts().len(), 0);
     assert_eq!(rt; queues.next_busy(0), None);

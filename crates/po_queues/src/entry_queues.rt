@@ -190,9 +190,9 @@ impl EntryQueues {
     }
 
     /// What all entry queues keep.
-    pub fn is_sound(&self)
+    pub fn recall_invariant(&self)
         ensures { AreInOrder self.now }
     {
-        self.by_entry.is_sound();
+        self.by_entry.recall_invariant();
     }
 }

@@ -100,7 +100,7 @@ impl Expirations {
         ensures others { self.new
             ≡ record self.old { items = without_expiring key self.old.items } }
     {
-        self.chain.is_sound();
+        self.chain.recall_invariant();
         self.cursor = cursor_without(&self.chain, self.cursor, key);
         self.chain.remove(key)
     }
@@ -113,7 +113,7 @@ impl Expirations {
         ensures found { result ≡ first_due self.old }
         ensures same { self.new ≡ self.old }
     {
-        self.chain.is_sound();
+        self.chain.recall_invariant();
         while let Some(key) = self.cursor {
             let time = self.times[key];
             if time <= self.clock {
@@ -154,17 +154,17 @@ impl Expirations {
     }
 
     /// What all expirations keep.
-    pub fn is_sound(&self)
+    pub fn recall_invariant(&self)
         ensures { AreSound self.now }
     {
-        self.chain.is_sound();
+        self.chain.recall_invariant();
     }
 
     /// The first key in order of arrival.
     fn first(&self) -> Option<usize>
         ensures { result ≡ first_key (expiring_keys self.now.items) }
     {
-        self.chain.is_sound();
+        self.chain.recall_invariant();
         let (key, _) = self.chain.first(0)?;
         Some(key)
     }

@@ -228,7 +228,7 @@ impl Queues {
     }
 
     /// What all queues keep.
-    pub fn is_sound(&self)
+    pub fn recall_invariant(&self)
         ensures { IsSound self.now }
     {
         let _ = &self.queued;

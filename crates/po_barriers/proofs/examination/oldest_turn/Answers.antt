@@ -17,7 +17,7 @@ loop-entry-preserved g c =
     let found = c.in-Some.ensures.some in
     let items = c.args.queues.now.items in
     let all = each_item (λ i. next ≤ i → e ≤ i) items (past_next c.args.queues.now next e found) in
-    older_step f next e items found.from_here c.is_sound.ensures.rising all _ _ _ c.older_of-found.ensures
+    older_step f next e items found.from_here c.recall_invariant.ensures.rising all _ _ _ c.older_of-found.ensures
     c.loop-entry.invariant c.stamped_turn.ensures
 
 pub returns : goal.returns

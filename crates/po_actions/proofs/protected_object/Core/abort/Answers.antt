@@ -35,8 +35,8 @@ returns-clause-action g c =
 
 pub returns-then-not-call-clause-volumes : goal.returns-then-not-call-clause-volumes
 returns-then-not-call-clause-volumes g c =
-    rw (← c.self.view_is) (volumes_settled g.U.Unit.meaning c.self.inside.action.object c.abort.new.self.object c.settle.new.self.object (Abort c.args.n) c.is_sound.ensures.based c.abort.ensures.begins c.settle.ensures.settles c.settle.ensures.same)
+    rw (← c.self.view_is) (volumes_settled g.U.Unit.meaning c.self.inside.action.object c.abort.new.self.object c.settle.new.self.object (Abort c.args.n) c.recall_invariant.ensures.based c.abort.ensures.begins c.settle.ensures.settles c.settle.ensures.same)
 
 pub returns-clause-volumes : goal.returns-clause-volumes
 returns-clause-volumes g c =
-    rw (← c.self.view_is) (volumes_begun g.U.Unit.meaning c.self.inside.action.object c.abort-2.new.self.object (Abort c.args.n) c.is_sound.ensures.based c.abort-2.ensures.begins)
+    rw (← c.self.view_is) (volumes_begun g.U.Unit.meaning c.self.inside.action.object c.abort-2.new.self.object (Abort c.args.n) c.recall_invariant.ensures.based c.abort-2.ensures.begins)

@@ -4,4 +4,4 @@ use Rattle.po_actions.proofs.protected_object.Core.finalize.Goals as goal
 
 pub returns-clause-volumes : goal.returns-clause-volumes
 returns-clause-volumes g c =
-    rw (← c.self.view_is) (volumes_begun g.U.Unit.meaning c.self.inside.action.object c.finalize.new.self.object Final c.is_sound.ensures.based c.finalize.ensures.begins)
+    rw (← c.self.view_is) (volumes_begun g.U.Unit.meaning c.self.inside.action.object c.finalize.new.self.object Final c.recall_invariant.ensures.based c.finalize.ensures.begins)

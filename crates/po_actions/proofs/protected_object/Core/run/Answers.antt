@@ -9,4 +9,4 @@ invariant_of-self-2 g c =
 
 pub returns-clause-volumes : goal.returns-clause-volumes
 returns-clause-volumes g c =
-    rw (← c.self.view_is) (volumes_settled g.U.Unit.meaning c.self.inside.action.object c.run.new.self.object c.settle.new.self.object (Ran c.args.owner c.args.op c.args.value c.in_ok-reply.reply) c.is_sound.ensures.based c.in_ok-reply.ensures.begins c.settle.ensures.settles c.settle.ensures.same)
+    rw (← c.self.view_is) (volumes_settled g.U.Unit.meaning c.self.inside.action.object c.run.new.self.object c.settle.new.self.object (Ran c.args.owner c.args.op c.args.value c.in_ok-reply.reply) c.recall_invariant.ensures.based c.in_ok-reply.ensures.begins c.settle.ensures.settles c.settle.ensures.same)

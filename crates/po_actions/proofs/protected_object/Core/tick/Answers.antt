@@ -9,4 +9,4 @@ invariant_of-self-2 g c =
 
 pub returns-clause-volumes : goal.returns-clause-volumes
 returns-clause-volumes g c =
-    rw (← c.self.view_is) (volumes_settled g.U.Unit.meaning c.self.inside.action.object c.tick.new.self.object c.settle.new.self.object (Tick c.args.t) c.is_sound.ensures.based c.in_ok-tick.ensures.ok c.settle.ensures.settles c.settle.ensures.same)
+    rw (← c.self.view_is) (volumes_settled g.U.Unit.meaning c.self.inside.action.object c.tick.new.self.object c.settle.new.self.object (Tick c.args.t) c.recall_invariant.ensures.based c.in_ok-tick.ensures.ok c.settle.ensures.settles c.settle.ensures.same)

@@ -14,7 +14,7 @@ overflow_sub-self g c =
     let s = state_with_calls i.unit i.calls i.finalized in
     let x = c.in-Some.call in
     let found = subst (λ v. find (has_number c.args.n) v.state.waiting ≡ Some x) (sym c.self.view_is) (sym c.waiting_call.ensures ∙ c.in-Some.is) in
-    omega (arith, owed_marked g.U.Unit.meaning s c.args.n x found c.if-not-call-2.true (c.is_sound.ensures.once c.args.n), c.self.invariant.owed)
+    omega (arith, owed_marked g.U.Unit.meaning s c.args.n x found c.if-not-call-2.true (c.recall_invariant.ensures.once c.args.n), c.self.invariant.owed)
 
 pub invariant_of-self : goal.invariant_of-self
 invariant_of-self g c =
@@ -26,7 +26,7 @@ invariant_of-self g c =
     let marked = sym (ap (λ v. v.waiting) c.mark.ensures) in
     record {
       total = ap (λ v. v.total) c.mark.ensures ∙ c.self.invariant.total;
-      owed = subst (λ xs. i.owed - 1 ≡ owed m (record s { waiting = xs })) marked (omega (arith, owed_marked m s c.args.n x found c.if-not-call-2.true (c.is_sound.ensures.once c.args.n), c.self.invariant.owed));
+      owed = subst (λ xs. i.owed - 1 ≡ owed m (record s { waiting = xs })) marked (omega (arith, owed_marked m s c.args.n x found c.if-not-call-2.true (c.recall_invariant.ensures.once c.args.n), c.self.invariant.owed));
       ranks = subst (AreLow m) marked (low_marked m c.args.n i.calls.waiting c.self.invariant.ranks);
     }
 
@@ -40,5 +40,5 @@ pub returns-else-not-call-2-clause-state : goal.returns-else-not-call-2-clause-s
 returns-else-not-call-2-clause-state g c =
     let now = c.args.self.now in
     let found = sym c.waiting_call.ensures ∙ c.in-Some.is in
-    let once = subst (λ v. count_by (has_number c.args.n) v.state.waiting ≤ 1) c.self.view_is (c.is_sound.ensures.once c.args.n) in
+    let once = subst (λ v. count_by (has_number c.args.n) v.state.waiting ≤ 1) c.self.view_is (c.recall_invariant.ensures.once c.args.n) in
     ap (λ t. record now { state = t }) (sym (abort_again now.state c.args.n c.in-Some.call found c.if-not-call.false c.if-not-call-2.false once))

@@ -13,10 +13,10 @@ returns-clause-was_there c =
 
 pub invariant_of-self : goal.invariant_of-self
 invariant_of-self c =
-    rw c.remove.ensures.others (taken_out c.self.invariant c.args.key c.is_sound.ensures _
+    rw c.remove.ensures.others (taken_out c.self.invariant c.args.key c.recall_invariant.ensures _
     c.cursor_without-self-inside.ensures).1
 
 pub returns-clause-others : goal.returns-clause-others
 returns-clause-others c =
-    rw (c.remove.ensures.others, ← c.self.view_is) (taken_out c.self.invariant c.args.key c.is_sound.ensures _
+    rw (c.remove.ensures.others, ← c.self.view_is) (taken_out c.self.invariant c.args.key c.recall_invariant.ensures _
     c.cursor_without-self-inside.ensures).0

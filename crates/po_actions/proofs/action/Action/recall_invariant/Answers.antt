@@ -1,7 +1,7 @@
 use Rattle.std.proofs.Common.{subst, ap}
 use Rattle.po_actions.specs.Headline.{IsSound}
 use Rattle.po_actions.proofs.Soundness.{sound}
-use Rattle.po_actions.proofs.action.Action.is_sound.Goals as goal
+use Rattle.po_actions.proofs.action.Action.recall_invariant.Goals as goal
 
 pub returns : goal.returns
 returns g c =

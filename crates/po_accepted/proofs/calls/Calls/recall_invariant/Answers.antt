@@ -5,7 +5,7 @@ use Rattle.std.specs.Prelude.{vec_len}
 use Rattle.po_accepted.specs.Calls.{call_at, key_of, AreCallsSound}
 use Rattle.po_accepted.proofs.CallReads.{once_each, all_below, length_same}
 use Rattle.po_accepted.proofs.KeptSteps.{key_below}
-use Rattle.po_accepted.proofs.calls.Calls.is_sound.Goals as goal
+use Rattle.po_accepted.proofs.calls.Calls.recall_invariant.Goals as goal
 
 pub returns : goal.returns
 returns g c =
@@ -16,7 +16,7 @@ returns g c =
     let all = i.queued.queued in
     let len = length_same f ix s.queues.items all in
     subst AreCallsSound c.self.view_is (record {
-      once = λ n. once_each f ix n s.queues.items c.is_sound.ensures.distinct all;
+      once = λ n. once_each f ix n s.queues.items c.recall_invariant.ensures.distinct all;
       below_next = all_below f ix (s.first + vec_len s.keys) s.queues.items (λ m k h. omega (arith, key_below s.first s.keys.items m k h, s.keys.ok.0)) all;
       placed = length-map s.queues.items (λ j. j.stamp) ∙ sym len;
       few = omega (arith, len, i.each, i.numbers);
