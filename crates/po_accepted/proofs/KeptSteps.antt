@@ -18,7 +18,7 @@ use Rattle.po_accepted.specs.Calls.{IsQueued, IsKeptWell, KeepsCalls, HasCallRoo
 use Rattle.po_accepted.proofs.Held.{length_removed}
 use Rattle.po_accepted.proofs.HandSteps.{widened, removed}
 
--- A place in a list stays the same where the list gets longer.
+-- An index leads to the same element where the list gets longer.
 slice_more : (xs : List ℕ) (i j y : ℕ) → slice_get xs i ≡ Some j → slice_get (xs ++ y ∷ []) i ≡ Some j
 slice_more [] i j y h = let bad : None ≡ Some j = h in absurd (cc)
 slice_more (x ∷ xs) zero j y h = h

@@ -130,7 +130,7 @@ module _ {S V : Type 0} (m : Meaning S V) (making : Making S) where
         idle = idle;
       }
 
-  -- An event may be noted where these hold: each call that it ends has its place, and hasn't ended before.
+  -- An event may be noted where these hold: there is room for the outcome of each call that it ends, which hasn't ended before.
   pub record MayNote (r : ObjectState S V) (h : HistoryView V) (k : ℕ) : Type 0 where
     pub before : k ≤ length r.ended
     pub once : (n : ℕ) → count_by (has_ended n) r.ended ≤ 1
@@ -212,7 +212,7 @@ module _ {S V : Type 0} (m : Meaning S V) (making : Making S) where
   numbered_on : (k next : ℕ) (xs : List (Option (End V))) → k + length xs ≡ next → k + length (xs ++ None ∷ []) ≡ next + 1
   numbered_on k next xs h = omega (arith, h, length-append xs (None ∷ []))
 
-  -- an issue may be noted, where there is room for it and a place for the outcome of its call
+  -- an issue may be noted, where there is room for it and for the outcome of its call
   pub may_note_issue : IsLawful m → (b : Base S V) (p : StateView S V) (r : ObjectState S V) (h g : HistoryView V) (room : ℕ) (last : Option ℕ) (ran before owner e : ℕ) (v : V) (d : Deadline) → IsKept m making b p h last ran before → Needs m p.state (Issue p.state.next owner e v d) → is_public making.shape e ≡ true → r ≡ step m making.max_queue p.state (Issue p.state.next owner e v d) → g ≡ record h { owed = room; outcomes = h.outcomes ++ None ∷ [] } → MayNote r g (length p.state.ended)
   may_note_issue law b p r h g room last ran before owner e v d kept need public is more =
       let room_made : HistoryView V = record h { owed = room; outcomes = h.outcomes ++ None ∷ [] } in

@@ -44,7 +44,7 @@ nothing_more (x ∷ xs) zero = refl
 nothing_more (x ∷ xs) (suc i) = nothing_more xs i
 
 module _ {V : Type 0} where
-  -- A place for one more outcome changes no outcome.
+  -- Room for one more outcome changes no outcome.
   pub outcomes_reserved : (h : HistoryView V) (room n : ℕ) → outcome_of (record h { owed = room; outcomes = h.outcomes ++ None ∷ [] }) n ≡ outcome_of h n
   outcomes_reserved h room n = rw (nothing_more h.outcomes (n - h.first_number)) refl
 
@@ -70,12 +70,12 @@ module _ {V : Type 0} where
     | inr other ↦ rw (other_found xs x n other) (others n other ∙ h n)
   ]
 
-  -- The same, by the place of the call among the ended ones.
+  -- The same, by the index of the call among the ended ones.
   pub outcomes_more : (old new : HistoryView V) (xs : List (Ended V)) (i : ℕ) (x : Ended V) → i < length xs → x ≡ get_or xs i x → count_by (has_ended x.number) xs ≤ 1 → AreOutcomes old (take i xs) → outcome_of new x.number ≡ Some x.end → ((m : ℕ) → m ≢ x.number → outcome_of new m ≡ outcome_of old m) → AreOutcomes new (take (i + 1) xs)
   outcomes_more old new xs i x lt is once h set others =
       rw (take_more xs i x lt, ← is) (outcomes_push old new (take i xs) x (not_earlier xs i x lt is once) h set others)
 
-  -- The place of a call among all, by its place among the later ones.
+  -- The index of a call among all, by its index among the later ones.
   pub later_item : (xs : List (Ended V)) (k i : ℕ) (x : Ended V) → i < length (take (length xs - k) (drop k xs)) → x ≡ get_or (take (length xs - k) (drop k xs)) i x → (k + i < length xs) × (x ≡ get_or xs (k + i) x)
   later_item xs k i x lt is =
       let below : i < length xs - k = omega (arith, lt, length-take (length xs - k) (drop k xs), length-drop k xs) in

@@ -1,22 +1,23 @@
 //! Protected actions: calls and their history, and the core that carries out the operations of one protected object.
 #![tactic(auto)]
 
-mod action;
 mod base;
 mod fault;
 mod making;
 mod noting;
-mod protected_object;
+mod object_core;
+mod queueing;
+mod recorded_object;
 mod refusal;
 mod start;
 mod state;
 
 pub use base::Base;
 pub use fault::MakeFault;
+pub use object_core::Core;
 pub use po_accepted::{Arrival, Ended};
 pub use po_barriers::Order;
 pub use po_calls::{Call, Deadline, End, Place, Ticket};
 pub use po_history::{Event, Volume};
-pub use protected_object::Core;
 pub use refusal::{Aborted, Refusal};
 pub use start::Start;

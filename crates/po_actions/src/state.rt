@@ -10,6 +10,7 @@ ghost use Rattle.po_accepted.specs.Tickets.{number_at, SetsTicket, place_among, 
 ghost use Rattle.po_accepted.specs.Calls.{places_without};
 ghost use Rattle.po_actions.specs.StateView.{NamesEntry};
 
+use crate::queueing::Queueing;
 use po_accepted::{Arrival, Calls, Ended};
 use po_barriers::{Look, Order, examine};
 use po_calls::{Call, Deadline, End, Place, Ticket};
@@ -125,43 +126,37 @@ impl<U: Unit> State<U> {
     }
 
     /// The call in hand goes to the end of the queues, but ends where the queue of its entry is full.
-    fn enter(&mut self, limit: Option<u64>, call: Call<U::Value>, place: u128)
+    fn enter(&mut self, queueing: Queueing, call: Call<U::Value>)
         requires hand { self.old.hand ≡ Some call }
         requires entry { call.entry < U.meaning.entries self.old.state.unit }
-        requires later { All (λ k. k < place) self.old.places }
+        requires later { All (λ k. k < queueing.place) self.old.places }
         ensures state { self.new ≡ record self.old {
-          state = enter limit self.old.state call;
+          state = enter queueing.max_length self.old.state call;
           places = self.new.places;
           hand = None;
         } }
-        ensures places { (f : ℕ → ℕ) → f call.number ≡ place
+        ensures places { (f : ℕ → ℕ) → f call.number ≡ queueing.place
             → AreAt f self.old.state.waiting self.old.places → AreAt f self.new.state.waiting self.new.places }
     {
-        if limit == Some(self.calls.count(call.entry)) {
+        if queueing.max_length == Some(self.calls.count(call.entry)) {
             self.end_call(call, End::ProgramError);
         } else {
-            self.queue(call, place);
+            self.queue(call, queueing.place);
         }
     }
 
     /// What comes of the call in hand, whose body has ended: it completes, raises, is requeued or is cancelled (9.5.2,
     /// 9.5.4).
-    fn land(
-        &mut self,
-        limit: Option<u64>,
-        call: Call<U::Value>,
-        outcome: Outcome<U::Value>,
-        place: u128,
-    )
+    fn land(&mut self, queueing: Queueing, call: Call<U::Value>, outcome: Outcome<U::Value>)
         requires hand { self.old.hand ≡ Some call }
         requires entry { NamesEntry (U.meaning.entries self.old.state.unit) outcome }
-        requires later { All (λ k. k < place) self.old.places }
+        requires later { All (λ k. k < queueing.place) self.old.places }
         ensures state { self.new ≡ record self.old {
-          state = land limit self.old.state call outcome;
+          state = land queueing.max_length self.old.state call outcome;
           places = self.new.places;
           hand = None;
         } }
-        ensures places { (f : ℕ → ℕ) → f call.number ≡ place
+        ensures places { (f : ℕ → ℕ) → f call.number ≡ queueing.place
             → AreAt f self.old.state.waiting self.old.places → AreAt f self.new.state.waiting self.new.places }
     {
         match outcome {
@@ -176,7 +171,7 @@ impl<U: Unit> State<U> {
                     self.end_call(call, End::Cancelled);
                 } else {
                     let moved = self.calls.requeue(call, target, value, !with_abort);
-                    self.enter(limit, moved, place);
+                    self.enter(queueing, moved);
                 }
             }
         }
@@ -211,39 +206,39 @@ impl<U: Unit> State<U> {
     }
 
     /// The body of the call in hand runs, and the call lands.
-    fn run_body(&mut self, limit: Option<u64>, call: Call<U::Value>, place: u128)
+    fn run_body(&mut self, queueing: Queueing, call: Call<U::Value>)
         requires hand { self.old.hand ≡ Some call }
         requires entry { call.entry < U.meaning.entries self.old.state.unit }
-        requires later { All (λ k. k < place) self.old.places }
+        requires later { All (λ k. k < queueing.place) self.old.places }
         ensures state { self.new ≡ record self.old {
-          state = run_body U.meaning limit self.old.state call;
+          state = run_body U.meaning queueing.max_length self.old.state call;
           places = self.new.places;
           hand = None;
         } }
-        ensures places { (f : ℕ → ℕ) → f call.number ≡ place
+        ensures places { (f : ℕ → ℕ) → f call.number ≡ queueing.place
             → AreAt f self.old.state.waiting self.old.places → AreAt f self.new.state.waiting self.new.places }
     {
         let outcome = self.unit.body(call.entry, call.value, self.calls.counts());
-        self.land(limit, call, outcome, place);
+        self.land(queueing, call, outcome);
     }
 
     /// The first call on the entry is served.
     #[tactic(auto, using(po_accepted::proofs::Lists::found_on))]
-    fn serve(&mut self, limit: Option<u64>, e: u16, place: u128)
+    fn serve(&mut self, queueing: Queueing, e: u16)
         requires hand { self.old.hand ≡ None }
         requires found { IsSome (find (is_on e) self.old.state.waiting) }
         requires entry { e < U.meaning.entries self.old.state.unit }
-        requires later { All (λ k. k < place) self.old.places }
+        requires later { All (λ k. k < queueing.place) self.old.places }
         ensures state { self.new ≡ record self.old {
-          state = step U.meaning limit self.old.state (Event.Serve e);
+          state = step U.meaning queueing.max_length self.old.state (Event.Serve e);
           places = self.new.places;
         } }
         ensures places { (f : ℕ → ℕ) → AreAt f self.old.state.waiting self.old.places
-            → AreAt (noted f place (call_of self.old.state (Event.Serve e))) self.new.state.waiting self.new.places }
+            → AreAt (noted f queueing.place (call_of self.old.state (Event.Serve e))) self.new.state.waiting self.new.places }
     {
         self.calls.recall_invariant();
         if let Some(call) = self.take_on(e) {
-            self.run_body(limit, call, place);
+            self.run_body(queueing, call);
         }
     }
 
@@ -289,45 +284,44 @@ impl<U: Unit> State<U> {
         }
     }
 
-    /// The inner event that is picked happens, at this place in the history.
-    pub(crate) fn perform(&mut self, limit: Option<u64>, event: Event<U::Value>, place: u128)
+    /// The inner event that is picked happens. A call that it queues meets this.
+    pub(crate) fn perform(&mut self, queueing: Queueing, event: Event<U::Value>)
         requires hand { self.old.hand ≡ None }
         requires fits { Fits U.meaning self.old.state event }
-        requires later { All (λ k. k < place) self.old.places }
+        requires later { All (λ k. k < queueing.place) self.old.places }
         ensures state { self.new ≡ record self.old {
-          state = step U.meaning limit self.old.state event;
+          state = step U.meaning queueing.max_length self.old.state event;
           places = self.new.places;
         } }
         ensures places { (f : ℕ → ℕ) → AreAt f self.old.state.waiting self.old.places
-            → AreAt (noted f place (call_of self.old.state event)) self.new.state.waiting self.new.places }
+            → AreAt (noted f queueing.place (call_of self.old.state event)) self.new.state.waiting self.new.places }
     {
         match event {
-            Event::Serve(e) => self.serve(limit, e, place),
+            Event::Serve(e) => self.serve(queueing, e),
             Event::Break(_) => self.end_all(),
             Event::Expire(n) => self.cancel(n),
             _ => {}
         }
     }
 
-    /// A call is issued, by the event at this place in the history: it is served, queued or ended.
+    /// A call is issued: it is served, queued, where it meets this, or ended.
     pub(crate) fn issue(
         &mut self,
-        limit: Option<u64>,
+        queueing: Queueing,
         owner: u16,
         e: u16,
         v: U::Value,
         deadline: Deadline,
-        place: u128,
     ) -> Ticket
         requires hand { self.old.hand ≡ None }
         requires room { self.old.has_room ≡ true }
         requires entry { e < U.meaning.entries self.old.state.unit }
         requires number { self.old.state.next < u64.MAX }
-        requires later { All (λ k. k < place) self.old.places }
-        ensures state { self.new.state ≡ step U.meaning limit self.old.state (Event.Issue self.old.state.next owner e v deadline) }
+        requires later { All (λ k. k < queueing.place) self.old.places }
+        ensures state { self.new.state ≡ step U.meaning queueing.max_length self.old.state (Event.Issue self.old.state.next owner e v deadline) }
         ensures hand { self.new.hand ≡ None }
         ensures places { (f : ℕ → ℕ) → AreAt f self.old.state.waiting self.old.places
-            → AreAt (noted f place (Some self.old.state.next)) self.new.state.waiting self.new.places }
+            → AreAt (noted f queueing.place (Some self.old.state.next)) self.new.state.waiting self.new.places }
         ensures number { result.number ≡ self.old.state.next }
         ensures key { number_at self.old.tickets result.key ≡ None }
         ensures ticket { SetsTicket self.old.tickets self.new.tickets result.key (Some result.number) }
@@ -348,8 +342,8 @@ impl<U: Unit> State<U> {
         };
         let ticket = self.calls.add(call);
         match gate {
-            Ok(true) => self.run_body(limit, call, place),
-            Ok(false) => self.enter(limit, call, place),
+            Ok(true) => self.run_body(queueing, call),
+            Ok(false) => self.enter(queueing, call),
             Err(_) => self.end_call(call, End::ProgramError),
         }
         ticket
