@@ -112,6 +112,14 @@ impl<V: Copy> Calls<V> {
         Ok(())
     }
 
+    /// Whether there is room for one more call: `reserve` makes it, `add` takes it, and a `collect` that answers an end
+    /// may give it up.
+    pub fn has_room(&self) -> bool
+        ensures { result ≡ self.now.has_room }
+    {
+        self.has_room
+    }
+
     /// A new call is taken in hand.
     pub fn add(&mut self, call: Call<V>) -> Ticket
         requires hand { self.old.hand ≡ None }
@@ -197,8 +205,8 @@ impl<V: Copy> Calls<V> {
         self.hand = None;
     }
 
-    /// The call in hand.
-    fn in_hand(&self) -> Option<Call<V>>
+    /// The call in hand: the one that `add`, `take_on` or `take_number` took, until `queue` or `end` lets it go.
+    pub fn in_hand(&self) -> Option<Call<V>>
         ensures { result ≡ self.now.hand }
     {
         self.table.at(self.hand?).copied()

@@ -1,6 +1,6 @@
 //! The state of a protected object: its data and its calls.
 
-ghost use Rattle.std.specs.Prelude.{◌≡◌, ◌<◌, ◌≤◌, ◌+◌, ◌∷◌, ◌++◌, [], ℕ, true, false, count_by, slice_index, map, All, Option, None, Some, IfOk, OnOk, OnErr, OnSome, IfNone, IsSome, find, option_map, if◌then◌else◌};
+ghost use Rattle.std.specs.Prelude.{◌≡◌, ◌<◌, ◌≤◌, ◌+◌, ◌∷◌, ◌++◌, [], ℕ, true, false, count_by, slice_index, map, All, Option, None, Some, IfOk, OnOk, OnErr, IsOk, OnSome, IfNone, IsSome, find, option_map, if◌then◌else◌};
 ghost use Rattle.po_accepted.specs.WaitingCalls.{is_on, is_of, has_number};
 ghost use Rattle.po_actions.specs.ObjectState.{opening_state, counts_in, gate_in};
 ghost use Rattle.po_actions.specs.Pick.{event_of, next_turn, pick, owed, Fits};
@@ -97,6 +97,7 @@ impl<U: Unit> State<U> {
         ensures same { self.new ≡ record self.old { has_room = self.new.has_room } }
         ensures ok { OnOk result (self.new.has_room ≡ true) }
         ensures err { OnErr result (self.new ≡ self.old) }
+        ensures had_room { self.old.has_room ≡ true → IsOk result × (self.new ≡ self.old) }
     {
         self.calls.reserve()
     }

@@ -1,8 +1,10 @@
-//! Tests of each layer by itself: flat numbers, the table of calls, queues, examinations, histories and units.
+//! Tests of each layer by itself: flat numbers, the table of calls, queues, accepted calls, examinations, histories and units.
 //!
 //! They stand apart from what they test, so that the gate proves those crates once, and not a second time with their tests.
 #![tactic(auto)]
 
+#[cfg(test)]
+mod accepted;
 #[cfg(test)]
 mod entry_queues;
 #[cfg(test)]

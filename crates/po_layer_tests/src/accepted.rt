@@ -1,0 +1,34 @@
+//! A worked run of accepted calls: there is room for each, and one at a time is in hand.
+
+use po_accepted::Calls;
+use po_calls::{Call, Deadline, End, Place};
+use std::test::Fail;
+
+#[test]
+fn one_is_in_hand(rt: HostRuntime) -> Result<(), Fail> {
+    let mut calls = Calls::new(rt.alloc(), 1, 5)?;
+    assert!(rt; !calls.has_room());
+    calls.reserve()?;
+    assert!(rt; calls.has_room());
+    let call = Call {
+        number: calls.next(),
+        owner: 4,
+        entry: 0,
+        value: 10,
+        sealed: false,
+        aborted: false,
+        deadline: Deadline::Never,
+    };
+    let ticket = calls.add(call);
+    assert!(rt; !calls.has_room());
+    assert_eq!(rt; calls.in_hand(), Some(call));
+    calls.queue(call, 7);
+    assert_eq!(rt; calls.in_hand(), None);
+    assert_eq!(rt; calls.waiting_call(5), Some(call));
+    assert_eq!(rt; calls.take_on(0), Some(call));
+    assert_eq!(rt; calls.in_hand(), Some(call));
+    calls.end(call, End::Completed(11));
+    assert_eq!(rt; calls.in_hand(), None);
+    assert_eq!(rt; calls.place(ticket), Place::Ended(End::Completed(11)));
+    Ok(())
+}
