@@ -285,7 +285,7 @@ impl<U: Unit> State<U> {
         }
     }
 
-    /// The inner event that is picked happens. A call that it queues meets this.
+    /// The inner event that is picked happens; `queueing` is what a call meets that it requeues.
     pub(crate) fn perform(&mut self, queueing: Queueing, event: Event<U::Value>)
         requires hand { self.old.hand ≡ None }
         requires fits { Fits U.meaning self.old.state event }
@@ -305,7 +305,7 @@ impl<U: Unit> State<U> {
         }
     }
 
-    /// A call is issued: it is served, queued, where it meets this, or ended.
+    /// A call is issued: it is served, queued or ended; `queueing` is what it meets where it is queued.
     pub(crate) fn issue(
         &mut self,
         queueing: Queueing,
