@@ -223,9 +223,8 @@ impl<V: Copy> Calls<V> {
           hand = result;
         } }
     {
-        let key = self.queues.first(entry)?;
         self.queues.recall_invariant();
-        self.queues.remove(key);
+        let key = self.queues.take_first(entry)?;
         self.hand = Some(key);
         self.in_hand()
     }

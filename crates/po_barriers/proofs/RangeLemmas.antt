@@ -14,7 +14,7 @@ length-below : (n : ℕ) → length (below n) ≡ n
 length-below zero = refl
 length-below (suc n) = omega (arith, length-append (below n) (n ∷ []), length-below n)
 
--- the number at each place is the place
+-- the number at each index is the index
 get_or-below : (n i : ℕ) → i < n → get_or (below n) i 0 ≡ i
 get_or-below zero i lt = absurd (omega arith)
 get_or-below (suc n) i lt = elim (cases_eq i n) [
@@ -27,12 +27,12 @@ get_or-below (suc n) i lt = elim (cases_eq i n) [
     less : (k : ℕ) → k - k ≡ 0
     less k = omega arith
 
--- what f gives of the number at each place
+-- what f gives of the number at each index
 pub get_or-map-below : (f : ℕ → ℕ) (total e : ℕ) → e < total → get_or (map f (below total)) e 0 ≡ f e
 get_or-map-below f total e lt =
     get_or-map f (below total) e 0 0 (omega (arith, length-below total, lt)) ∙ ap f (get_or-below total e lt)
 
--- so many numbers, each what f gives of its place
+-- so many numbers, each what f gives of its index
 pub numbers_each : (f : ℕ → ℕ) (total : ℕ) (xs : List ℕ) → length xs ≡ total
     → ((e : ℕ) → e < total → get_or xs e 0 ≡ f e) → xs ≡ map f (below total)
 numbers_each f total xs len each =

@@ -14,7 +14,8 @@ use po_unit::Unit;
 
 /// Which entry is serviced next, if one is, where `last` is the entry that servicing served last (9.5.3).
 ///
-/// Only the barriers of entries on which a key is queued are evaluated, each once at most. It takes no memory.
+/// Only the barriers of entries on which a key is queued are evaluated, each once at most, which a test shows, since no
+/// clause counts calls. It takes no memory.
 pub fn examine<U: Unit>(unit: &U, queues: &Queues, order: Order, last: Option<u16>) -> Look
     requires { U.meaning.entries unit.now ≡ queues.now.total }
     ensures next { result ≡ serviced_next U.meaning unit.now queues.now order last }

@@ -27,7 +27,7 @@ module _ {V : Type 0} where
     | inr other ↦ at_most last found.call.number kept.call.number (h k found (sym (set.others k other) ∙ is)) above
   ]
 
-  -- a call with the same number in its place leaves the numbers
+  -- another call with the same number leaves the numbers
   pub numbers_stay : (slots : List (Option (Kept V))) (key : ℕ) (was now : Kept V)
       → Some was ≡ get_or slots key None → now.call.number ≡ was.call.number
       → map (option_map (λ k. k.call.number)) (set slots key (Some now)) ≡ map (option_map (λ k. k.call.number)) slots

@@ -1,6 +1,6 @@
 //! The table of the calls that aren't collected.
 
-ghost use Rattle.std.specs.Prelude.{ℕ, [], ◌≡◌, ◌<◌, ◌≤◌, ◌+◌, Ok, None, Some, OnOk, OnSome, IfNone, option_copied, true};
+ghost use Rattle.std.specs.Prelude.{ℕ, [], ◌≡◌, ◌<◌, ◌≤◌, ◌+◌, ◌↔◌, Ok, None, Some, OnOk, OnSome, IfNone, IsTrue, option_copied, true};
 ghost use Rattle.slab.specs.Slab.{get, slab_len, HasRoomFor, Updates};
 ghost use Rattle.po_calls.specs.declared.ticket.Ticket.{Ticket};
 ghost use Rattle.po_calls.specs.declared.call.Call.{Call};
@@ -64,6 +64,20 @@ impl<V: Copy> Table<V> {
         self.calls.reserve(1)
     }
 
+    /// Whether there is room for one more call, so that it can be put.
+    pub fn has_room(&self) -> bool
+        ensures { IsTrue result ↔ HasRoomFor self.now.calls 1 }
+    {
+        self.calls.len() < self.calls.capacity()
+    }
+
+    /// The greatest number of a call that was put, if one was: a call can be put that has a greater one.
+    pub fn last(&self) -> Option<u64>
+        ensures { result ≡ self.now.last }
+    {
+        self.last
+    }
+
     /// The key that a `put` would give now.
     pub fn next_key(&self) -> usize
         ensures exact { result ≡ self.now.calls.vacant_key }
@@ -72,7 +86,8 @@ impl<V: Copy> Table<V> {
         self.calls.vacant_key()
     }
 
-    /// Keeps a waiting call, whose number is above those of all calls put before, where there is room for it.
+    /// Keeps a waiting call, whose number is above those of all calls put before, where there is room for it. The caller
+    /// sees both from `last` and `has_room`.
     pub fn put(&mut self, call: Call<V>) -> Ticket
         requires room { HasRoomFor self.old.calls 1 }
         requires number { IsAbove self.old.last call.number }

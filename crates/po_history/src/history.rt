@@ -6,7 +6,7 @@
 //! so far as a volume. The places run on from volume to volume, and the outcomes stay.
 
 ghost use Rattle.std.specs.Prelude.{ℕ, ◌≡◌, ◌≢◌, ◌<◌, ◌≤◌, ◌+◌, ◌-◌, ◌^◌, List, [], ◌∷◌, ◌++◌, length, slice_set};
-ghost use Rattle.std.specs.Prelude.{IfOk, OnOk, OnErr};
+ghost use Rattle.std.specs.Prelude.{◌↔◌, IfOk, OnOk, OnErr, IsTrue};
 ghost use Rattle.po_history.specs.Histories.{VolumeView, next_place, outcome_of, AreVolumesOf, all_events};
 
 use crate::event::Event;
@@ -100,7 +100,7 @@ impl<V: Copy> History<V> {
         Ok(())
     }
 
-    /// Notes an event, for which there is room, as the last.
+    /// Notes an event, for which there is room as long as some are `owed`, as the last.
     pub fn push_owed(&mut self, event: Event<V>)
         requires { 0 < self.old.owed }
         ensures exact { self.new ≡ record self.old {
@@ -123,7 +123,8 @@ impl<V: Copy> History<V> {
         self.owed -= events;
     }
 
-    /// Notes how a call that was issued, and hasn't ended so far, has ended.
+    /// Notes how a call that was issued, and hasn't ended so far, has ended. `is_reserved_for` and `outcome` tell whether
+    /// it is such a call.
     pub fn set_outcome(&mut self, n: u64, end: End<V>)
         requires issued { self.old.first_number ≤ n }
         requires reserved { n - self.old.first_number < length self.old.outcomes }
@@ -154,6 +155,14 @@ impl<V: Copy> History<V> {
         self.outcomes.get(index).copied().flatten()
     }
 
+    /// Whether there is room for the outcome of the call with this number.
+    pub fn is_reserved_for(&self, n: u64) -> bool
+        ensures { IsTrue result
+            ↔ (self.now.first_number ≤ n) × (n - self.now.first_number < length self.now.outcomes) }
+    {
+        n >= self.first_number && n - self.first_number < self.outcomes.len() as u64
+    }
+
     /// How many further events have room.
     pub fn owed(&self) -> usize
         ensures { result ≡ self.now.owed }
@@ -173,13 +182,6 @@ impl<V: Copy> History<V> {
         ensures { result ≡ self.now.place }
     {
         self.place
-    }
-
-    /// The events and those that are owed are no more than a `usize` counts.
-    pub fn has_room(&self)
-        ensures { length self.now.events + self.now.owed ≤ usize.MAX }
-    {
-        let _ = &self.owed;
     }
 
     /// Cuts off the events since the last cut. The outcomes stay, and so does the room for the events that are owed.

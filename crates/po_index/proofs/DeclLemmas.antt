@@ -23,14 +23,14 @@ pos-unsigned_abs (pos n) h = refl
 pos-unsigned_abs (negsuc n) h = absurd (omega (arith, ints))
 
 -- a declaration has as many entries as its width says
-pub length-entries_of : (place : ℕ) (d : Decl) → length (entries_of place d) ≡ width d
+pub length-entries_of : (position : ℕ) (d : Decl) → length (entries_of position d) ≡ width d
 unfolding entries_of
-length-entries_of place d = length-map-range_with_len (entry_at place d) 0 (width d)
+length-entries_of position d = length-map-range_with_len (entry_at position d) 0 (width d)
 
--- the entry at a distance stands at that place of the list
-pub slice_get-entries_of : (place : ℕ) (d : Decl) (n : ℕ) → n < width d → slice_get (entries_of place d) n ≡ Some (entry_at place d n)
+-- the entry at a distance stands at that position of the list
+pub slice_get-entries_of : (position : ℕ) (d : Decl) (n : ℕ) → n < width d → slice_get (entries_of position d) n ≡ Some (entry_at position d n)
 unfolding entries_of
-slice_get-entries_of place d n h = slice_get-map-range_with_len (entry_at place d) (width d) n h
+slice_get-entries_of position d n h = slice_get-map-range_with_len (entry_at position d) (width d) n h
 
 -- a distance below the width of a range is that of an index of the range
 within_range : (low high : ℤ) (n : ℕ) (b : Bool) → int_le low high ≡ b → n < cond b (unsigned_abs (high -ℤ low) + 1) 0 → (low ≤ℤ high) × ((low +ℤ pos n) ≤ℤ high)
@@ -56,8 +56,8 @@ distance_by_kind public true low high n h =
 distance_by_kind public false low high n h = ap Ok (omega arith)
 
 -- the distance of the entry at a distance is that distance
-pub distance-entry_at : (place : ℕ) (d : Decl) (n : ℕ) → n < width d → distance d (entry_at place d n).index ≡ Ok n
-distance-entry_at place d n h = distance_by_kind d.public d.family d.low d.high n h
+pub distance-entry_at : (position : ℕ) (d : Decl) (n : ℕ) → n < width d → distance d (entry_at position d n).index ≡ Ok n
+distance-entry_at position d n h = distance_by_kind d.public d.family d.low d.high n h
 
 -- an index with a distance is within the range
 range_by_tests : (low high i : ℤ) (n : ℕ) (above below : Bool) → int_le low i ≡ above → int_le i high ≡ below → cond (above && below) (Ok (unsigned_abs (i -ℤ low))) (Err BadIndex) ≡ Ok n → (low ≤ℤ i) × (i ≤ℤ high) × (unsigned_abs (i -ℤ low) ≡ n)
@@ -78,5 +78,5 @@ entry_by_kind public false low high None n e = (let z : 0 ≡ n = cc in omega ar
 entry_by_kind public false low high (Some i) n e = cc
 
 -- an index with a distance is that of the entry at the distance
-pub entry_at-distance : (place : ℕ) (d : Decl) (index : Option ℤ) (n : ℕ) → distance d index ≡ Ok n → (n < width d) × ((entry_at place d n).index ≡ index)
-entry_at-distance place d index n e = entry_by_kind d.public d.family d.low d.high index n e
+pub entry_at-distance : (position : ℕ) (d : Decl) (index : Option ℤ) (n : ℕ) → distance d index ≡ Ok n → (n < width d) × ((entry_at position d n).index ≡ index)
+entry_at-distance position d index n e = entry_by_kind d.public d.family d.low d.high index n e

@@ -9,7 +9,7 @@ use Rattle.std.proofs.lemmas.Option.{slice_get-get_or, slice_get_within}
 use Rattle.po_index.specs.declared.decl.Decl.{Decl}
 use Rattle.po_index.specs.declared.decl.EntryRef.{EntryRef}
 use Rattle.po_index.specs.Numbering.{width, entry_count, distance, flat_number}
-use Rattle.po_index.specs.FirstNumbers.{first_numbers, IsPlaceOf}
+use Rattle.po_index.specs.FirstNumbers.{first_numbers, IsPositionOf}
 use Rattle.po_index.proofs.NumberingLemmas.{IsWithin, flat_number-at_distance}
 
 -- there are as many first numbers as declarations
@@ -52,14 +52,14 @@ first_numbers-rise ds i j e h k =
     omega arith
 
 -- where the first numbers pass a number, the declaration before declares the entry of that number
-pub place_from_search : (ds : List Decl) (number p : ℕ) → number < entry_count ds → p ≤ length ds → IsPartitionPoint (λ y. leb y number ≡ true) (λ y. leb y number ≡ false) (first_numbers ds) p → (1 ≤ p) × IsPlaceOf ds number (p - 1)
-place_from_search [] number p h k point = absurd (omega arith)
-place_from_search (d ∷ ds) number zero h k point =
+pub position_from_search : (ds : List Decl) (number p : ℕ) → number < entry_count ds → p ≤ length ds → IsPartitionPoint (λ y. leb y number ≡ true) (λ y. leb y number ≡ false) (first_numbers ds) p → (1 ≤ p) × IsPositionOf ds number (p - 1)
+position_from_search [] number p h k point = absurd (omega arith)
+position_from_search (d ∷ ds) number zero h k point =
     let long = length-first_numbers (d ∷ ds) in
     let above = leb-false _ _ (point.1 0 0 (omega arith) (omega arith)) in
     let first = get_or-first_numbers (d ∷ ds) 0 0 (omega arith) in
     absurd (omega arith)
-place_from_search (d ∷ ds) number (suc q) h k point =
+position_from_search (d ∷ ds) number (suc q) h k point =
     let all = d ∷ ds in
     let long = length-first_numbers all in
     let below = leb-true _ _ (point.0 q 0 (omega arith) (omega arith)) in
@@ -72,19 +72,19 @@ place_from_search (d ∷ ds) number (suc q) h k point =
           omega arith
       | inr more ↦ rw (take_all (q + 1) all more) h
     ] in
-    let place : IsPlaceOf all number q = record { within = omega arith; from_first = omega arith; before_next = next } in
-    (omega arith, let same : q ≡ suc q - 1 = omega arith in subst (λ i. IsPlaceOf all number i) same place)
+    let position : IsPositionOf all number q = record { within = omega arith; from_first = omega arith; before_next = next } in
+    (omega arith, let same : q ≡ suc q - 1 = omega arith in subst (λ i. IsPositionOf all number i) same position)
 
--- the declaration at a number's place
-pub within_from_place : (ds : List Decl) (number place : ℕ) (d : Decl) → IsPlaceOf ds number place → IsWithin ds number place (get_or ds place d)
-within_from_place ds number place d h =
+-- the declaration at a number's position
+pub within_from_position : (ds : List Decl) (number position : ℕ) (d : Decl) → IsPositionOf ds number position → IsWithin ds number position (get_or ds position d)
+within_from_position ds number position d h =
     let inside = h.within in
     let low = h.from_first in
     let high = h.before_next in
-    let more = sum_by_more width ds place d inside in
-    record { declared = slice_get-get_or ds place d inside; from_first = low; before_next = omega arith }
+    let more = sum_by_more width ds position d inside in
+    record { declared = slice_get-get_or ds position d inside; from_first = low; before_next = omega arith }
 
 -- an entry's number, by what is kept of its declaration
-pub flat_number-at_first : (ds : List Decl) (r : EntryRef) (d : Decl) (j : ℕ) (firsts : List ℕ) (place : ℕ) → slice_get ds r.entry ≡ Some d → distance d r.index ≡ Ok j → firsts ≡ first_numbers ds → place ≡ r.entry → flat_number ds r ≡ Ok (get_or firsts place 0 + j)
-flat_number-at_first ds r d j firsts place declared far same here =
+pub flat_number-at_first : (ds : List Decl) (r : EntryRef) (d : Decl) (j : ℕ) (firsts : List ℕ) (position : ℕ) → slice_get ds r.entry ≡ Some d → distance d r.index ≡ Ok j → firsts ≡ first_numbers ds → position ≡ r.entry → flat_number ds r ≡ Ok (get_or firsts position 0 + j)
+flat_number-at_first ds r d j firsts position declared far same here =
     rw (here, get_or-firsts ds firsts r.entry 0 same (slice_get_within ds r.entry d declared)) (flat_number-at_distance ds r d j declared far)

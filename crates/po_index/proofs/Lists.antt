@@ -1,4 +1,4 @@
--- Elements of lists that are joined or made by a function of the place.
+-- Elements of lists that are joined or made by a function of the position.
 use Rattle.std.proofs.Common.{◌≡◌, ℕ, ◌+◌, ◌<◌, List, length, map, slice_get, Some, refl, ap, ◌∙◌, arith, ◌++◌}
 use Rattle.std.specs.List.{range_with_len}
 use Rattle.std.proofs.lemmas.List.FromFn.{length-map-range_with_len, get_or-map-range_with_len}
@@ -17,7 +17,7 @@ slice_get-append_right [] ys i k h = ap (slice_get ys) (omega arith)
 slice_get-append_right (x ∷ xs) ys zero k h = absurd (omega arith)
 slice_get-append_right (x ∷ xs) ys (suc i) k h = slice_get-append_right xs ys i k (omega arith)
 
--- an element of a list that a function of the place makes
+-- an element of a list that a function of the position makes
 pub slice_get-map-range_with_len : {X : Type 0} (f : ℕ → X) (n i : ℕ) → i < n → slice_get (map f (range_with_len 0 n)) i ≡ Some (f i)
 slice_get-map-range_with_len f n i h =
     let long : length (map f (range_with_len 0 n)) ≡ n = length-map-range_with_len f 0 n in

@@ -22,7 +22,7 @@ pub record IsNumbered (ds : List Decl) (r : EntryRef) (n : ℕ) : Type 0 where
   pub reference : r ≡ entry_at r.entry decl further
   pub number : n ≡ entry_count (take r.entry ds) + further
 
--- `entry_references` of declarations of which the first has this place
+-- `entry_references` of declarations of which the first has this position
 abbrev references_from : ℕ → List Decl → List EntryRef
 references_from p ds = flat_map (λ q. entries_of q.0 q.1) (enumerate_from p ds)
 
@@ -74,14 +74,14 @@ pub record IsWithin (ds : List Decl) (n k : ℕ) (d : Decl) : Type 0 where
   pub before_next : n < entry_count (take k ds) + width d
 
 -- a number below the count is within those of some declaration
-place_within : (ds : List Decl) (n : ℕ) → n < entry_count ds → (k : ℕ) × (d : Decl) × IsWithin ds n k d
-place_within [] n h = absurd (omega arith)
-place_within (x ∷ ds) n h =
+position_within : (ds : List Decl) (n : ℕ) → n < entry_count ds → (k : ℕ) × (d : Decl) × IsWithin ds n k d
+position_within [] n h = absurd (omega arith)
+position_within (x ∷ ds) n h =
     elim (cases_lt n (width x)) [
       | inl less ↦ (0, x, record { declared = refl; from_first = omega arith; before_next = omega arith })
       | inr more ↦
           let sums = sum_by-cons width x ds in
-          let rest = place_within ds (n - width x) (omega arith) in
+          let rest = position_within ds (n - width x) (omega arith) in
           let front = sum_by-cons width x (take rest.0 ds) in
           let low = rest.2.from_first in
           let high = rest.2.before_next in
@@ -95,12 +95,12 @@ numbered_within ds n k d h =
     let high = h.before_next in
     record { decl = d; further = n - entry_count (take k ds); declared = h.declared; within = omega arith; reference = refl; number = omega arith }
 
--- an entry that stands in the list is numbered by its place there
+-- an entry that stands in the list is numbered by its position there
 pub numbered_from_slice_get : (ds : List Decl) (r : EntryRef) (n : ℕ) → slice_get (entry_references ds) n ≡ Some r → IsNumbered ds r n
 numbered_from_slice_get ds r n e =
     let inside = slice_get_within (entry_references ds) n r e in
     let counted = length-entry_references ds in
-    let found = place_within ds n (omega arith) in
+    let found = position_within ds n (omega arith) in
     let numbered = numbered_within ds n found.0 found.1 found.2 in
     let there = slice_get-from_numbered ds _ n numbered in
     let same : entry_at found.0 found.1 (n - entry_count (take found.0 ds)) ≡ r = cc in
@@ -122,7 +122,7 @@ pub numbered_from_flat_number : (ds : List Decl) (r : EntryRef) (n : ℕ) → fl
 unfolding flat_number
 numbered_from_flat_number ds r n e = number_by_parts ds r n (slice_get ds r.entry) refl e
 
--- an entry has a number exactly where it stands at that place of the list
+-- an entry has a number exactly where it stands at that position of the list
 pub flat_number-iff-slice_get : (ds : List Decl) (r : EntryRef) (n : ℕ) → (flat_number ds r ≡ Ok n) ↔ (slice_get (entry_references ds) n ≡ Some r)
 flat_number-iff-slice_get ds r n =
     (λ e. slice_get-from_numbered ds r n (numbered_from_flat_number ds r n e), λ e. flat_number-from_numbered ds r n (numbered_from_slice_get ds r n e))

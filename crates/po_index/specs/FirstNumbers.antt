@@ -15,8 +15,8 @@ pub record KeepsNumbers (ds : List Decl) (firsts : List ℕ) (total : ℕ) : Typ
   pub few_declarations : length ds ≤ 4096
   pub few_entries : entry_count ds ≤ 4096
 
--- The declaration at this place declares the entry with this flat number (this project's own).
-pub record IsPlaceOf (ds : List Decl) (number place : ℕ) : Type 0 where
-  pub within : place < length ds
-  pub from_first : entry_count (take place ds) ≤ number
-  pub before_next : number < entry_count (take (place + 1) ds)
+-- The declaration at this position declares the entry with this flat number (this project's own).
+pub record IsPositionOf (ds : List Decl) (number position : ℕ) : Type 0 where
+  pub within : position < length ds
+  pub from_first : entry_count (take position ds) ≤ number
+  pub before_next : number < entry_count (take (position + 1) ds)

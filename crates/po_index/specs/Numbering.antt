@@ -18,14 +18,14 @@ entry_count ds = sum_by width ds
 abbrev pub HasTooMany : List Decl → Type 0
 HasTooMany ds = (4096 < length ds) ⊎ (4096 < entry_count ds)
 
--- The entry at this distance from the first one of the declaration at this place (9.5.2).
+-- The entry at this distance from the first one of the declaration at this position (9.5.2).
 abbrev pub entry_at : ℕ → Decl → ℕ → EntryRef
-entry_at place d distance =
-    record { entry = place; index = if d.family then Some (d.low +ℤ pos distance) else None }
+entry_at position d distance =
+    record { entry = position; index = if d.family then Some (d.low +ℤ pos distance) else None }
 
--- The entries of the declaration at this place, a family's from its first index to its last (9.5.2).
+-- The entries of the declaration at this position, a family's from its first index to its last (9.5.2).
 unfoldable pub entries_of : ℕ → Decl → List EntryRef
-entries_of place d = map (entry_at place d) (range_with_len 0 (width d))
+entries_of position d = map (entry_at position d) (range_with_len 0 (width d))
 
 -- All entries in the order of their flat numbers: of each declaration in turn, all its entries (this project's own).
 unfoldable pub entry_references : List Decl → List EntryRef

@@ -21,7 +21,7 @@ pub struct Decl {
 /// The name of an entry: a single entry, or a member of a family (9.5.2).
 #[derive(Clone, Copy, Debug, PartialEq, Eq)]
 pub struct EntryRef {
-    /// The place of the declaration in the list of declarations.
+    /// The position of the declaration in the list of declarations, from 0 on.
     pub entry: u16,
     /// The index of a family's member; `None` for a single entry.
     pub index: Option<i32>,
@@ -54,10 +54,10 @@ impl Decl {
         }
     }
 
-    /// The entry at this distance from the first one that this declares, as the declaration at this place.
-    pub(crate) fn entry_at(self, place: u16, distance: u16) -> EntryRef
+    /// The entry at this distance from the first one that this declares, as the declaration at this position.
+    pub(crate) fn entry_at(self, position: u16, distance: u16) -> EntryRef
         requires { distance < width self }
-        ensures { result ≡ entry_at place self distance }
+        ensures { result ≡ entry_at position self distance }
     {
         let index = if self.family {
             Some(self.low + i32::from(distance))
@@ -65,7 +65,7 @@ impl Decl {
             None
         };
         EntryRef {
-            entry: place,
+            entry: position,
             index,
         }
     }

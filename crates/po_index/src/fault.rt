@@ -43,7 +43,7 @@ impl From<AllocError> for ShapeFault {
 /// Why a reference names no entry (9.5.2). Where several hold, the first of them is reported.
 #[derive(Clone, Copy, Debug, PartialEq, Eq, Error)]
 pub enum IndexFault {
-    /// There is no declaration at the place.
+    /// There is no declaration at this position of the list.
     #[error("no such entry")]
     NoSuchEntry,
     /// An index was given to a single entry.

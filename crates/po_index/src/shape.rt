@@ -2,7 +2,7 @@
 
 ghost use Rattle.std.specs.Prelude.{◌≡◌, ℕ, ◌<◌, ◌≤◌, ◌↔◌, IsNone, IfSome, IfOk, length, slice_get};
 ghost use Rattle.po_index.specs.Numbering.{HasTooMany, entry_count, entry_references, flat_number, is_public};
-ghost use Rattle.po_index.specs.FirstNumbers.{first_numbers, IsPlaceOf};
+ghost use Rattle.po_index.specs.FirstNumbers.{first_numbers, IsPositionOf};
 
 use crate::decl::{Decl, EntryRef};
 use crate::fault::{IndexFault, ShapeFault};
@@ -77,10 +77,10 @@ impl Shape {
         ensures listed { slice_get (entry_references self.now) number ≡ Some result }
         ensures flat_back { flat_number self.now result ≡ Ok number }
     {
-        let place = self.place_of(number);
-        let first = self.firsts.as_slice()[place];
-        let decl = self.decls.as_slice()[place];
-        decl.entry_at(place as u16, number - first)
+        let position = self.position_of(number);
+        let first = self.firsts.as_slice()[position];
+        let decl = self.decls.as_slice()[position];
+        decl.entry_at(position as u16, number - first)
     }
 
     /// Whether the entry that has this flat number is declared in the visible part (9.4).
@@ -88,7 +88,7 @@ impl Shape {
         requires { number < entry_count self.now }
         ensures { result ≡ is_public self.now number }
     {
-        self.decls.as_slice()[self.place_of(number)].public
+        self.decls.as_slice()[self.position_of(number)].public
     }
 
     /// How many entries there are, each member of a family counted (9.5.2). The flat numbers are those below.
@@ -100,17 +100,17 @@ impl Shape {
         self.total
     }
 
-    /// The declaration at this place in the list, if there is one.
+    /// The declaration at this position in the list, if there is one.
     pub fn decl(&self, entry: u16) -> Option<Decl>
         ensures { result ≡ slice_get self.now entry }
     {
         self.decls.as_slice().get(usize::from(entry)).copied()
     }
 
-    /// The place of the declaration that declares the entry of this flat number.
-    fn place_of(&self, number: u16) -> usize
+    /// The position of the declaration that declares the entry of this flat number.
+    fn position_of(&self, number: u16) -> usize
         requires { number < entry_count self.now }
-        ensures { IsPlaceOf self.now number result }
+        ensures { IsPositionOf self.now number result }
     {
         self.firsts
             .as_slice()

@@ -42,7 +42,7 @@ front : (x : QueuedKey) (ys : List QueuedKey) → All (λ y. x.stamp < y.stamp) 
 front x [] all = refl
 front x (y ∷ ys) all = simp (lt-ltb x.stamp y.stamp (All-head (λ y. x.stamp < y.stamp) y ys all)) refl
 
--- an item that is taken out goes back to its place
+-- an item that is taken out goes back to where it was
 back : (k : ℕ) (items : List QueuedKey) (x : QueuedKey) → RiseBy (λ x. x.stamp) items → AreDistinct (keys_of items)
     → item_of k items ≡ Some x → insert_item x (without_key k items) ≡ items
 back k [] x r d found = let bad : None ≡ Some x = found in absurd (cc)

@@ -19,19 +19,19 @@ use Rattle.po_queues.proofs.KeyLemmas.{without_free}
 use Rattle.po_queues.proofs.HoldLemmas.{keys_same, keys_other}
 
 -- the bit of the entry whose word is written
-pub bit_of-set_same : (words : List ℕ) (e place v : ℕ) → place ≡ e / 64 → place < length words
-    → bit_of (set words place v) e ≡ bit_at v (e % 64)
-bit_of-set_same words e place v here lt = rw (← here) (ap (λ w. bit_at w (e % 64)) (get_or-set_same words place v 0 lt))
+pub bit_of-set_same : (words : List ℕ) (e index v : ℕ) → index ≡ e / 64 → index < length words
+    → bit_of (set words index v) e ≡ bit_at v (e % 64)
+bit_of-set_same words e index v here lt = rw (← here) (ap (λ w. bit_at w (e % 64)) (get_or-set_same words index v 0 lt))
 
 -- the bit of another entry, where the word keeps its other bits
-pub bit_of-set_other : (words : List ℕ) (e f place v : ℕ) → place ≡ e / 64 → place < length words → f ≢ e
-    → ((i : ℕ) → i < 64 → i ≢ e % 64 → bit_at v i ≡ bit_at (get_or words place 0) i)
-    → bit_of (set words place v) f ≡ bit_of words f
-bit_of-set_other words e f place v here lt ne keeps = elim (cases_eq (f / 64) place) [
+pub bit_of-set_other : (words : List ℕ) (e f index v : ℕ) → index ≡ e / 64 → index < length words → f ≢ e
+    → ((i : ℕ) → i < 64 → i ≢ e % 64 → bit_at v i ≡ bit_at (get_or words index 0) i)
+    → bit_of (set words index v) f ≡ bit_of words f
+bit_of-set_other words e f index v here lt ne keeps = elim (cases_eq (f / 64) index) [
   | inl same ↦
       let apart : f % 64 ≢ e % 64 = λ q. ne (omega (arith, q, same, here)) in
-      rw same (ap (λ w. bit_at w (f % 64)) (get_or-set_same words place v 0 lt) ∙ keeps (f % 64) (omega arith) apart)
-  | inr other ↦ ap (λ w. bit_at w (f % 64)) (get_or-set_other words place (f / 64) v 0 other)
+      rw same (ap (λ w. bit_at w (f % 64)) (get_or-set_same words index v 0 lt) ∙ keeps (f % 64) (omega arith) apart)
+  | inr other ↦ ap (λ w. bit_at w (f % 64)) (get_or-set_other words index (f / 64) v 0 other)
 ]
 
 -- the bit of an entry whose word is past the end
@@ -45,11 +45,11 @@ bit_of-zeros n e = elim (cases_lt (e / 64) n) [
   | inr ge ↦ bit_of-past (replicate n 0) e (omega (arith, length-replicate {A = ℕ} n 0, ge))
 ]
 
--- the bit of an entry by its word and its place there
-bit_of-at : (words : List ℕ) (place i e : ℕ) → e ≡ 64 * place + i → i < 64
-    → bit_of words e ≡ bit_at (get_or words place 0) i
-bit_of-at words place i e e_is low =
-    let whole : e / 64 ≡ place = omega (arith, e_is, low) in
+-- the bit of an entry by its word and its bit there
+bit_of-at : (words : List ℕ) (index i e : ℕ) → e ≡ 64 * index + i → i < 64
+    → bit_of words e ≡ bit_at (get_or words index 0) i
+bit_of-at words index i e e_is low =
+    let whole : e / 64 ≡ index = omega (arith, e_is, low) in
     let rest : e % 64 ≡ i = omega (arith, e_is, low) in
     rw (whole, rest) refl
 
@@ -69,53 +69,53 @@ masked_below word mask h k i mask_is low =
     rw mask_is (bit_at_and word (2 ^ h - 2 ^ k) i ∙ ap (min (bit_at word i)) zeros ∙ least)
 
 -- the next bit is the lowest that the mask leaves in the first word where it leaves one
-pub next_bit_found : (words : List ℕ) (from place mask word e : ℕ) → from < 64 * place + 64
-    → mask ≡ 2 ^ 64 - 2 ^ (from - 64 * place) → word ≡ bit_and (get_or words place 0) mask → word < 2 ^ 64 → 0 < word
-    → ((e : ℕ) → from ≤ e → e < 64 * place → bit_of words e ≡ 0) → e ≡ 64 * place + trailing_zeros w64 word
+pub next_bit_found : (words : List ℕ) (from index mask word e : ℕ) → from < 64 * index + 64
+    → mask ≡ 2 ^ 64 - 2 ^ (from - 64 * index) → word ≡ bit_and (get_or words index 0) mask → word < 2 ^ 64 → 0 < word
+    → ((e : ℕ) → from ≤ e → e < 64 * index → bit_of words e ≡ 0) → e ≡ 64 * index + trailing_zeros w64 word
     → IsNextBit words from e
-next_bit_found words from place mask word e near mask_is word_is fits some before e_is =
+next_bit_found words from index mask word e near mask_is word_is fits some before e_is =
     let lowest = bit_at-trailing_zeros w64 word some fits in
     let t = trailing_zeros w64 word in
-    let here : from - 64 * place ≤ t = elim (cases_lt t (from - 64 * place)) [
+    let here : from - 64 * index ≤ t = elim (cases_lt t (from - 64 * index)) [
       | inl low ↦ absurd (omega (
         arith,
         lowest.1,
         ap (λ w. bit_at w t) word_is,
-        masked_below (get_or words place 0)
-            mask 64 (from - 64 * place) t mask_is low,
+        masked_below (get_or words index 0)
+            mask 64 (from - 64 * index) t mask_is low,
       ))
       | inr high ↦ high
     ] in
     record {
       from_here = omega (arith, here, e_is);
-      is_set = bit_of-at words place t e e_is lowest.0 ∙
-          sym (masked (get_or words place 0) mask 64 (from - 64 * place) t mask_is here lowest.0)
+      is_set = bit_of-at words index t e e_is lowest.0 ∙
+          sym (masked (get_or words index 0) mask 64 (from - 64 * index) t mask_is here lowest.0)
           ∙ ap (λ w. bit_at w t) (sym word_is) ∙ lowest.1;
-      clear_before = λ f after below. elim (cases_lt f (64 * place)) [
+      clear_before = λ f after below. elim (cases_lt f (64 * index)) [
         | inl early ↦ before f after early
         | inr late ↦
-            let low : f - 64 * place < t = omega (arith, late, below, e_is) in
-            let high : from - 64 * place ≤ f - 64 * place = omega (arith, late, after) in
-            let width : f - 64 * place < 64 = omega (arith, low, lowest.0) in
-            bit_of-at words place (f - 64 * place) f (omega (arith, late)) width
-            ∙ sym (masked (get_or words place 0) mask 64 (from - 64 * place) (f - 64 * place) mask_is high width)
-            ∙ ap (λ w. bit_at w (f - 64 * place)) (sym word_is) ∙ lowest.2 (f - 64 * place) low
+            let low : f - 64 * index < t = omega (arith, late, below, e_is) in
+            let high : from - 64 * index ≤ f - 64 * index = omega (arith, late, after) in
+            let width : f - 64 * index < 64 = omega (arith, low, lowest.0) in
+            bit_of-at words index (f - 64 * index) f (omega (arith, late)) width
+            ∙ sym (masked (get_or words index 0) mask 64 (from - 64 * index) (f - 64 * index) mask_is high width)
+            ∙ ap (λ w. bit_at w (f - 64 * index)) (sym word_is) ∙ lowest.2 (f - 64 * index) low
       ];
     }
 
 -- where the mask leaves no bit, no bit of the word is the next one
-pub no_bit_here : (words : List ℕ) (from place mask word : ℕ) → from < 64 * place + 64
-    → mask ≡ 2 ^ 64 - 2 ^ (from - 64 * place) → word ≡ bit_and (get_or words place 0) mask → word ≡ 0
-    → ((e : ℕ) → from ≤ e → e < 64 * place → bit_of words e ≡ 0) → (e : ℕ) → from ≤ e → e < 64 * (place + 1)
+pub no_bit_here : (words : List ℕ) (from index mask word : ℕ) → from < 64 * index + 64
+    → mask ≡ 2 ^ 64 - 2 ^ (from - 64 * index) → word ≡ bit_and (get_or words index 0) mask → word ≡ 0
+    → ((e : ℕ) → from ≤ e → e < 64 * index → bit_of words e ≡ 0) → (e : ℕ) → from ≤ e → e < 64 * (index + 1)
     → bit_of words e ≡ 0
-no_bit_here words from place mask word near mask_is word_is none before e here below = elim (cases_lt e (64 * place)) [
+no_bit_here words from index mask word near mask_is word_is none before e here below = elim (cases_lt e (64 * index)) [
   | inl early ↦ before e here early
   | inr late ↦
-      let high : from - 64 * place ≤ e - 64 * place = omega (arith, late, here) in
-      let width : e - 64 * place < 64 = omega (arith, late, below) in
-      bit_of-at words place (e - 64 * place) e (omega (arith, late)) width
-      ∙ sym (masked (get_or words place 0) mask 64 (from - 64 * place) (e - 64 * place) mask_is high width)
-      ∙ ap (λ w. bit_at w (e - 64 * place)) (sym word_is ∙ none) ∙ bit_at-zero (e - 64 * place)
+      let high : from - 64 * index ≤ e - 64 * index = omega (arith, late, here) in
+      let width : e - 64 * index < 64 = omega (arith, late, below) in
+      bit_of-at words index (e - 64 * index) e (omega (arith, late)) width
+      ∙ sym (masked (get_or words index 0) mask 64 (from - 64 * index) (e - 64 * index) mask_is high width)
+      ∙ ap (λ w. bit_at w (e - 64 * index)) (sym word_is ∙ none) ∙ bit_at-zero (e - 64 * index)
 ]
 
 -- a word of which the mask of all its bits leaves none is 0

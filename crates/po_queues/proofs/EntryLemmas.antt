@@ -74,11 +74,8 @@ module _ {reserved : ℕ} {by_entry arrivals : QueuesView} {expirations : Expira
 
   -- The first key of an entry.
   pub seen_first : {view : EntryQueuesView} → lines_view reserved by_entry expirations ≡ view
-      → (e : ℕ) (first : Option (ℕ × ℕ)) → first ≡ first_of (queue_of e by_entry.items)
-      → option_map (λ x. x.0) first ≡ first_key (keys_on e (all_queued view.items))
-  seen_first seen e first is =
-      ap (option_map (λ x. x.0)) is ∙ first_key_is (queue_of e by_entry.items)
-      ∙ ap (λ (items : List QueuedKey). first_key (keys_on e items)) (seen_queued seen)
+      → (e : ℕ) → first_key (keys_on e by_entry.items) ≡ first_key (keys_on e (all_queued view.items))
+  seen_first seen e = ap (λ (items : List QueuedKey). first_key (keys_on e items)) (seen_queued seen)
 
   -- The first key of all arrivals.
   pub seen_oldest : {view : EntryQueuesView} → lines_view reserved by_entry expirations ≡ view
@@ -169,9 +166,9 @@ module _ {reserved : ℕ} {by_entry arrivals : QueuesView} {expirations : Expira
               ∙ sym (filter_map-append _ before (timed x time ∷ [])) ∙ ap expiring_of (sym now);
           keys = All-push (λ x. x.key < reserved) items x lines.keys
               (subst (λ n. x.key < n) (ap (λ (v : EntryQueuesView). v.reserved) (sym seen)) within);
-          entry_places = lines.entry_places;
-          arrival_places = lines.arrival_places;
-          expiration_places = lines.expiration_places;
+          entry_room = lines.entry_room;
+          arrival_room = lines.arrival_room;
+          expiration_room = lines.expiration_room;
         };
         view = ap (λ l. let v = lines_view reserved by_entry expirations in record v { items = l }) now;
       }
@@ -188,9 +185,9 @@ module _ {reserved : ℕ} {by_entry arrivals : QueuesView} {expirations : Expira
         ∙ sym (expiring_without k (with_expirations expirations.items by_entry.items))
         ∙ ap expiring_of (sym (with_without k expirations.items by_entry.items));
     keys = All-filter _ (λ x. x.key < reserved) by_entry.items lines.keys;
-    entry_places = lines.entry_places;
-    arrival_places = lines.arrival_places;
-    expiration_places = lines.expiration_places;
+    entry_room = lines.entry_room;
+    arrival_room = lines.arrival_room;
+    expiration_room = lines.expiration_room;
   }
 
 -- What is seen once a key is taken out.

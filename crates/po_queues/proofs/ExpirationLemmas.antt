@@ -1,10 +1,9 @@
 -- What a change of the chain, the times, the clock or the search makes of what expires.
-use Rattle.std.proofs.Common.{◌≡◌, ℕ, ◌*◌, ◌<◌, ◌≤◌, ◌^◌, ◌⊎◌, min, Bool, true, false, cond, List, [], ◌∷◌, ◌++◌}
+use Rattle.std.proofs.Common.{◌≡◌, ℕ, ◌<◌, ◌≤◌, ◌^◌, min, Bool, true, false, cond, List, [], ◌∷◌, ◌++◌}
 use Rattle.std.proofs.Common.{length, get_or, set, take, replicate, Option, Some, None, sym, ap, subst, ◌∙◌}
-use Rattle.std.proofs.Common.{inl, inr, arith}
+use Rattle.std.proofs.Common.{arith}
 use Rattle.std.specs.Option.{option_or}
 use Rattle.std.specs.List.{All}
-use Rattle.std.proofs.lemmas.Bool.{cases_lt}
 use Rattle.std.proofs.lemmas.List.{length-set, get_or-set_same, map-append}
 use Rattle.std.proofs.lemmas.List.Elements.{All-push, All-filter, All-weaker, All-map}
 use Rattle.po_queues.proofs.ChainLemmas.{keys_with, after_in_chain, key_below, times_set, times_grown, times_without, rising_with}
@@ -74,7 +73,7 @@ module _ {chain : QueuesView} {times : List ℕ} {clock : ℕ} {cursor : Option 
           one = k.one;
           keys = All-push (λ x. x.key < length (set times key time)) chain.items x
               (rw as_many k.keys) (rw as_many here);
-          places = rw as_many k.places;
+          room = rw as_many k.room;
           ahead = k.ahead;
           passed = rw (items_are, is) (passed_push soonest cursor (with_times times chain.items) y k.passed);
         },
@@ -98,7 +97,7 @@ module _ {chain : QueuesView} {times : List ℕ} {clock : ℕ} {cursor : Option 
         record {
           one = k.one;
           keys = All-filter _ (λ x. x.key < length times) chain.items k.keys;
-          places = k.places;
+          room = k.room;
           ahead = k.ahead;
           passed = rw (items_are, is, after)
               (passed_without soonest key cursor all (distinct_with chain times sound) k.passed);
@@ -116,7 +115,7 @@ module _ {chain : QueuesView} {times : List ℕ} {clock : ℕ} {cursor : Option 
       record {
         one = k.one;
         keys = k.keys;
-        places = k.places;
+        room = k.room;
         ahead = omega (arith, k.ahead);
         passed = rw (least_is, time_is) (passed_on soonest key times chain.items next after here);
       }
@@ -126,7 +125,7 @@ module _ {chain : QueuesView} {times : List ℕ} {clock : ℕ} {cursor : Option 
   risen now before = record {
     one = k.one;
     keys = k.keys;
-    places = k.places;
+    room = k.room;
     ahead = before;
     passed = k.passed;
   }
@@ -137,7 +136,7 @@ module _ {chain : QueuesView} {times : List ℕ} {clock : ℕ} {cursor : Option 
   begun now before next is = record {
     one = k.one;
     keys = k.keys;
-    places = k.places;
+    room = k.room;
     ahead = before;
     passed = rw is (passed_first (2 ^ 64) (with_times times chain.items));
   }
@@ -171,40 +170,26 @@ module _ {chain : QueuesView} {times : List ℕ} {clock : ℕ} {cursor : Option 
       rw at (left_less key (keys_of chain.items) next sound.distinct
       (cursor_there soonest key times chain.items here) after)
 
-  -- there are no more times than places in the chain
-  few_times : (n : ℕ) → chain.reserved ≤ n → length times ≤ n
-  few_times n more = elim k.places [ inl same ↦ omega (arith, same) | inr half ↦ omega (arith, half) ]
+  -- where there is room for so many keys in the chain, there are no more times, also where there was no memory for them
+  room_left : (n reserved : ℕ) → length times ≤ n → n ≤ reserved → (grown : Bool) (l : ℕ)
+      → l ≡ cond grown n (length times) → (length times ≤ l) × (l ≤ reserved)
+  room_left n reserved longer enough true l is = (omega (arith, is, longer), omega (arith, is, enough))
+  room_left n reserved longer enough false l is = (omega (arith, is), omega (arith, is, longer, enough))
 
-  -- as many times as places, or half as many at most, where there is room for more keys
-  room_left : (n : ℕ) → chain.reserved ≤ n → (n ≡ chain.reserved) ⊎ (2 * chain.reserved ≤ n)
-      → (grown : Bool) (l : ℕ) → l ≡ cond grown n (length times)
-      → (length times ≤ l) × ((l ≡ n) ⊎ (2 * l ≤ n))
-  room_left n more room true l is = (omega (arith, is, few_times n more), inl is)
-  room_left n more room false l is = (
-    omega (arith, is),
-    elim k.places [
-      | inl same ↦ elim room
-          [ inl stays ↦ inl (omega (arith, is, same, stays)) | inr twice ↦ inr (omega (arith, is, same, twice)) ]
-      | inr half ↦ inr (omega (arith, is, half, more))
-    ],
-  )
-
-  -- there is room for more keys in the chain, and times for them where there was memory
-  pub roomy : (new : QueuesView) → new ≡ record chain { reserved = new.reserved } → chain.reserved ≤ new.reserved
-      → (new.reserved ≡ chain.reserved) ⊎ (2 * chain.reserved ≤ new.reserved)
-      → (grown : Bool) (m : ℕ) (times' : List ℕ)
-      → times' ≡ cond grown (take new.reserved times ++ replicate m 0) times
-      → (l l' : ℕ) → l ≡ length times → l' ≡ length times' → l' ≡ cond grown new.reserved l
+  -- there is room for so many keys in the chain, and times for them where there was memory
+  pub roomy : (new : QueuesView) → new ≡ record chain { reserved = new.reserved }
+      → (n : ℕ) → length times ≤ n → n ≤ new.reserved → (grown : Bool) (m : ℕ) (times' : List ℕ)
+      → times' ≡ cond grown (take n times ++ replicate m 0) times
+      → (l l' : ℕ) → l ≡ length times → l' ≡ length times' → l' ≡ cond grown n l
       → (seen new times' clock ≡ (let v = seen chain times clock in record v { reserved = length times' })) ×
       KeepsExpirations new times' clock cursor soonest
-  roomy new new_is more room grown m times' is l l' l_is l'_is as_many =
-      let n = new.reserved in
+  roomy new new_is n longer enough grown m times' is l l' l_is l'_is as_many =
       let counted : length times' ≡ cond grown n (length times) =
       sym l'_is ∙ as_many ∙ ap (λ l. cond grown n l) l_is in
       let items_are : with_times times' new.items ≡ with_times times chain.items =
       ap (λ (v : QueuesView). with_times times' v.items) new_is
-      ∙ times_grown times times' grown n m chain.items k.keys (few_times n more) is in
-      let left = room_left n more room grown (length times') counted in
+      ∙ times_grown times times' grown n m chain.items k.keys longer is in
+      let left = room_left n new.reserved longer enough grown (length times') counted in
       let view : List Expiring → ExpirationsView = λ items.
       record { reserved = length times'; clock = clock; items = items } in
       let keys = All-weaker (λ (x : QueuedKey). x.key < length times) (λ x. x.key < length times')
@@ -213,15 +198,8 @@ module _ {chain : QueuesView} {times : List ℕ} {clock : ℕ} {cursor : Option 
         record {
           one = ap (λ (v : QueuesView). v.total) new_is ∙ k.one;
           keys = subst (λ (v : QueuesView). All (λ (x : QueuedKey). x.key < length times') v.items) (sym new_is) keys;
-          places = left.1;
+          room = left.1;
           ahead = k.ahead;
           passed = rw items_are k.passed;
         },
       )
-
--- a key has a place already, or the places at least double
-pub room_made : (old new : QueuesView) (key : ℕ) {A : Type 0} → (key < old.reserved → A × (new ≡ old))
-    → (old.reserved ≤ key → 2 * old.reserved ≤ new.reserved)
-    → (new.reserved ≡ old.reserved) ⊎ (2 * old.reserved ≤ new.reserved)
-room_made old new key had doubles = elim (cases_lt key old.reserved)
-    [ inl below ↦ inl (ap (λ (v : QueuesView). v.reserved) (had below).1) | inr past ↦ inr (doubles past) ]

@@ -101,19 +101,19 @@ first_there None key firsts i e ne = get_or-set_other firsts i e (Some key) None
 first_there (Some y) key firsts i e ne = refl
 
 -- the end of the entry from which a key is taken out
-place_here : (places : List (Option ℕ)) (i j : ℕ) (other was now : Option ℕ) → i < length places
-    → get_or places i None ≡ was → now ≡ cond (is_this was j) other was
-    → get_or (cond (is_this was j) (set places i other) places) i None ≡ now
-place_here places i j other was now lt e is = elim (cases_Bool (is_this was j)) [
-  | inl t ↦ simp t (get_or-set_same places i other None lt ∙ sym (simp t at is))
+end_here : (ends : List (Option ℕ)) (i j : ℕ) (other was now : Option ℕ) → i < length ends
+    → get_or ends i None ≡ was → now ≡ cond (is_this was j) other was
+    → get_or (cond (is_this was j) (set ends i other) ends) i None ≡ now
+end_here ends i j other was now lt e is = elim (cases_Bool (is_this was j)) [
+  | inl t ↦ simp t (get_or-set_same ends i other None lt ∙ sym (simp t at is))
   | inr f ↦ simp f (e ∙ sym (simp f at is))
 ]
 
 -- the end of another entry
-place_there : (b : Bool) (places : List (Option ℕ)) (i e : ℕ) (other : Option ℕ) → (e ≡ i → ⊥)
-    → get_or (cond b (set places i other) places) e None ≡ get_or places e None
-place_there true places i e other ne = get_or-set_other places i e other None ne
-place_there false places i e other ne = refl
+end_there : (b : Bool) (ends : List (Option ℕ)) (i e : ℕ) (other : Option ℕ) → (e ≡ i → ⊥)
+    → get_or (cond b (set ends i other) ends) e None ≡ get_or ends e None
+end_there true ends i e other ne = get_or-set_other ends i e other None ne
+end_there false ends i e other ne = refl
 
 -- the keys but one
 pub keys_of-without : (j : ℕ) (items : List QueuedKey) → keys_of (without_key j items) ≡ without j (keys_of items)
@@ -252,17 +252,17 @@ module _ (total : ℕ) (links : List (Option Link)) (firsts lasts : List (Option
         first = λ e lt. field_less first_key firsts
             (cond (is_this (get_or firsts y.entry None) j) (set firsts y.entry n) firsts) None total j y h.first
             h.distinct found
-            (rw (h.first y.entry entry) (place_here firsts y.entry j n (first_key ks) (first_key (without j ks))
+            (rw (h.first y.entry entry) (end_here firsts y.entry j n (first_key ks) (first_key (without j ks))
             in_firsts (h.first y.entry entry) (head_without j ks distinct_k)))
-            (λ e elsewhere. place_there (is_this (get_or firsts y.entry None) j) firsts y.entry e n
+            (λ e elsewhere. end_there (is_this (get_or firsts y.entry None) j) firsts y.entry e n
             (λ q. eqb-false y.entry e elsewhere (sym q))) e lt;
         last = λ e lt. field_less (last_key_or None) lasts
             (cond (is_this (get_or lasts y.entry None) j) (set lasts y.entry p) lasts) None total j y h.last
             h.distinct found
-            (rw (h.last y.entry entry) (place_here lasts y.entry j p (last_key_or None ks)
+            (rw (h.last y.entry entry) (end_here lasts y.entry j p (last_key_or None ks)
             (last_key_or None (without j ks)) in_lasts (h.last y.entry entry)
             (last_without None j ks distinct_k refl)))
-            (λ e elsewhere. place_there (is_this (get_or lasts y.entry None) j) lasts y.entry e p
+            (λ e elsewhere. end_there (is_this (get_or lasts y.entry None) j) lasts y.entry e p
             (λ q. eqb-false y.entry e elsewhere (sym q))) e lt;
         count = λ e lt. field_less length counts (set counts y.entry (get_or counts y.entry 0 - 1)) 0 total j y
             h.count h.distinct found

@@ -137,19 +137,19 @@ module _ {links : List (Option Link)} {firsts lasts : List (Option ℕ)} {counts
         keeps = p.1;
       }
 
-  -- the same, by the place of the entry
-  pub push_at : (x : QueuedKey) (place : ℕ) → place ≡ x.entry → x.entry < length counts → x.key < length links
+  -- the same, by the index of the entry
+  pub push_at : (x : QueuedKey) (index : ℕ) → index ≡ x.entry → x.entry < length counts → x.key < length links
       → occurs x.key (keys_of (arrivals links)) ≡ false
       → All (λ y. y.stamp < x.stamp) (arrivals links)
-      → (last : Option ℕ) → last ≡ get_or lasts place None
-      → (n : ℕ) → n ≡ get_or counts place 0
+      → (last : Option ℕ) → last ≡ get_or lasts index None
+      → (n : ℕ) → n ≡ get_or counts index 0
       → (links' : List (Option Link)) (firsts' : List (Option ℕ)) (words' : List ℕ)
       → links' ≡ write_after (set links x.key (Some (link_at_end x last))) last (Some x.key)
-      → firsts' ≡ cond (is_missing last) (set firsts place (Some x.key)) firsts
+      → firsts' ≡ cond (is_missing last) (set firsts index (Some x.key)) firsts
       → WritesBit words words' x.entry 1
-      → IsNow links counts links' firsts' (set lasts place (Some x.key)) (set counts place (n + 1)) words'
+      → IsNow links counts links' firsts' (set lasts index (Some x.key)) (set counts index (n + 1)) words'
       (queued + 1) (arrivals links ++ x ∷ [])
-  push_at x place here entry key free rises last last_is n n_is links' firsts' words' links_are firsts_are writes =
+  push_at x index here entry key free rises last last_is n n_is links' firsts' words' links_are firsts_are writes =
       rw here (push_is x entry key free rises last (rw here at last_is) n (rw here at n_is) links' firsts' words'
       links_are (rw here at firsts_are) writes)
 
@@ -197,17 +197,17 @@ module _ {links : List (Option Link)} {firsts lasts : List (Option ℕ)} {counts
         keeps = p.1;
       }
 
-  -- the same, by the place of the entry
-  pub remove_at : (j : ℕ) (l : Link) (place : ℕ) → place ≡ l.entry → get_or links j None ≡ Some l
-      → (n : ℕ) → n ≡ get_or counts place 0
+  -- the same, by the index of the entry
+  pub remove_at : (j : ℕ) (l : Link) (index : ℕ) → index ≡ l.entry → get_or links j None ≡ Some l
+      → (n : ℕ) → n ≡ get_or counts index 0
       → (links' : List (Option Link)) (firsts' lasts' : List (Option ℕ)) (words' : List ℕ)
       → links' ≡ write_before (write_after (set links j None) l.before l.after) l.after l.before
-      → firsts' ≡ cond (is_this (get_or firsts place None) j) (set firsts place l.after) firsts
-      → lasts' ≡ cond (is_this (get_or lasts place None) j) (set lasts place l.before) lasts
+      → firsts' ≡ cond (is_this (get_or firsts index None) j) (set firsts index l.after) firsts
+      → lasts' ≡ cond (is_this (get_or lasts index None) j) (set lasts index l.before) lasts
       → WritesBit words words' l.entry (bit_when (ltb 0 (n - 1)))
-      → IsNow links counts links' firsts' lasts' (set counts place (n - 1)) words' (queued - 1)
+      → IsNow links counts links' firsts' lasts' (set counts index (n - 1)) words' (queued - 1)
       (without_key j (arrivals links))
-  remove_at j l place here read n n_is links' firsts' lasts' words' links_are firsts_are lasts_are writes =
+  remove_at j l index here read n n_is links' firsts' lasts' words' links_are firsts_are lasts_are writes =
       rw here (remove_is j l read n (rw here at n_is) links' firsts' lasts' words' links_are (rw here at firsts_are)
       (rw here at lasts_are) writes)
 
@@ -233,11 +233,11 @@ module _ {links : List (Option Link)} {firsts lasts : List (Option ℕ)} {counts
 
   -- the first key of an entry has the link of what is queued first
   pub first_link : {v : QueuesView} → view_of links counts ≡ v
-      → (e place : ℕ) → place ≡ e → e < v.total
-      → (k : ℕ) → get_or firsts place None ≡ Some k
+      → (e index : ℕ) → index ≡ e → e < v.total
+      → (k : ℕ) → get_or firsts index None ≡ Some k
       → (x : QueuedKey) × (first_of (queue_of e v.items) ≡ Some (k, x.stamp)) ×
       (link_of v.items k ≡ Some (link_with (keys_on x.entry v.items) x))
-  first_link {v} seen e place here entry k some =
+  first_link {v} seen e index here entry k some =
       let entry' : e < length counts = omega (arith, entry, ap (λ (v : QueuesView). v.total) seen) in
       let f = first_some e k (arrivals links) q.holds.distinct (sym (q.holds.first e entry') ∙ rw here at some) in
       let back = ap (λ (v : QueuesView). v.items) (sym seen) in (

@@ -1,4 +1,4 @@
--- Places for more keys, the room that the counts have, and queues with nothing queued.
+-- Room for more keys, the room that the counts have, and queues with nothing queued.
 use Rattle.std.proofs.Common.{◌≡◌, ℕ, zero, suc, ◌+◌, ◌/◌, ◌^◌, ◌<◌, ◌≤◌, Bool, true, false, cond, eqb, ltb}
 use Rattle.std.proofs.Common.{List, [], ◌∷◌, ◌++◌, length, get_or, replicate, take, Option, Some, None, refl, sym, ap}
 use Rattle.std.proofs.Common.{◌∙◌, inl, inr, arith}
@@ -13,7 +13,7 @@ use Rattle.po_queues.specs.Links.{HoldsQueues, link_of_item}
 use Rattle.po_queues.specs.Arrivals.{arrivals, arrivals_from, insert_item, KeepsQueues}
 use Rattle.po_queues.specs.declared.link.Link.{Link}
 
--- a place for more keys holds none
+-- room for more keys holds none
 arrivals_from-none : (k m : ℕ) → arrivals_from k (replicate m None) ≡ []
 arrivals_from-none k zero = refl
 arrivals_from-none k (suc m) = arrivals_from-none (k + 1) m
@@ -26,7 +26,7 @@ arrivals_room k m (None ∷ links) = arrivals_room (k + 1) m links
 arrivals_room k m (Some l ∷ links) = ap (insert_item (record { entry = l.entry; key = k; stamp = l.stamp }))
     (arrivals_room (k + 1) m links)
 
--- what is read at a place for more keys
+-- what is read in the room for more keys
 read_none : (m k : ℕ) → get_or (let r : List (Option Link) = replicate m None in r) k None ≡ None
 read_none zero zero = refl
 read_none zero (suc k) = refl
@@ -45,7 +45,7 @@ pub record HoldsSame (links links' : List (Option Link)) (firsts lasts : List (O
   pub items : arrivals links' ≡ arrivals links
   pub keeps : KeepsQueues links' firsts lasts counts words queued
 
--- places for more keys change nothing that is queued
+-- room for more keys changes nothing that is queued
 room_is : {links : List (Option Link)} {firsts lasts : List (Option ℕ)} {counts words : List ℕ} {queued : ℕ}
     (q : KeepsQueues links firsts lasts counts words queued) (m : ℕ)
     → HoldsSame links (links ++ replicate m None) firsts lasts counts words queued

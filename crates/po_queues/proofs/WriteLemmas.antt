@@ -2,5 +2,5 @@
 use Rattle.std.proofs.lemmas.List.{set_past}
 use Rattle.std.proofs.lemmas.Grind.{common_steps}
 
--- for a write at a place that may be past the end
+-- for a write at an index that may be past the end
 pub ruleset write_steps = (set_past, common_steps)

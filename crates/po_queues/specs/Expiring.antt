@@ -31,7 +31,7 @@ first_due v = option_map (λ x. x.key) (find (is_due v.clock) v.items)
 abbrev pub without_expiring : ℕ → List Expiring → List Expiring
 without_expiring key items = filter (λ x. not (x.key == key)) items
 
--- What all expirations keep: each key stands once, stamps rise, and each key has a place (this project's own).
+-- What all expirations keep: each key stands once, stamps rise, and each key is reserved (this project's own).
 pub record AreSound (view : ExpirationsView) : Type 0 where
   pub distinct : AreDistinct (expiring_keys view.items)
   pub rising : RiseBy (λ x. x.stamp) view.items

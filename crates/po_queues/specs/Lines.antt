@@ -28,12 +28,12 @@ abbrev pub expiring_of : List Arrived → List Expiring
 expiring_of items = filter_map (λ x. expiring_at x.key x.stamp x.expires) items
 
 -- All that is queued on the entries has arrived in the same order, what may expire is queued, and each of the three
--- has a place for each reserved key, which the queued ones are.
+-- has room for each reserved key, which the queued ones are.
 pub record KeepsLines (reserved : ℕ) (by_entry arrivals : QueuesView) (expirations : ExpirationsView) : Type 0 where
   pub one : arrivals.total ≡ 1
   pub arrived : arrivals.items ≡ map as_arrival by_entry.items
   pub expiring : expirations.items ≡ expiring_of (with_expirations expirations.items by_entry.items)
   pub keys : All (λ x. x.key < reserved) by_entry.items
-  pub entry_places : reserved ≤ by_entry.reserved
-  pub arrival_places : reserved ≤ arrivals.reserved
-  pub expiration_places : reserved ≤ expirations.reserved
+  pub entry_room : reserved ≤ by_entry.reserved
+  pub arrival_room : reserved ≤ arrivals.reserved
+  pub expiration_room : reserved ≤ expirations.reserved

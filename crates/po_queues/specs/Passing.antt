@@ -1,5 +1,5 @@
 -- How a chain of keys and their times, by key, hold what expires, and how far it was searched (this project's own).
-use Rattle.std.specs.Prelude.{ℕ, ◌≡◌, ◌<◌, ◌≤◌, ◌*◌, ◌⊎◌, List, [], ◌∷◌, map, length, Option, None, slice_index_or}
+use Rattle.std.specs.Prelude.{ℕ, ◌≡◌, ◌<◌, ◌≤◌, List, [], ◌∷◌, map, length, Option, None, slice_index_or}
 use Rattle.std.specs.Prelude.{false}
 use Rattle.std.specs.List.{All}
 use Rattle.po_queues.specs.QueuedKeys.{QueuedKey, QueuesView, is_this}
@@ -24,6 +24,6 @@ pub record KeepsExpirations (chain : QueuesView) (times : List ℕ) (clock : ℕ
     : Type 0 where
   pub one : chain.total ≡ 1
   pub keys : All (λ x. x.key < length times) chain.items
-  pub places : (length times ≡ chain.reserved) ⊎ (2 * length times ≤ chain.reserved)
+  pub room : length times ≤ chain.reserved
   pub ahead : clock < soonest
   pub passed : Passed soonest cursor (with_times times chain.items)

@@ -35,8 +35,8 @@ impl Bits {
         ensures other_words { (w : ℕ) → w ≢ bit / 64 →
             slice_index_or self.new.words.items w 0 ≡ slice_index_or self.old.words.items w 0 }
     {
-        let place = usize::from(bit / WORD);
-        self.words[place] = with_bit(self.words[place], bit % WORD, is_set);
+        let word = usize::from(bit / WORD);
+        self.words[word] = with_bit(self.words[word], bit % WORD, is_set);
     }
 
     /// Whether a bit of the word is set.
@@ -51,17 +51,18 @@ impl Bits {
     pub(crate) fn next_in_word(&self, from: u16) -> Option<u16>
         requires { length self.now.words.items ≤ 1024 }
         ensures some { IfSome result (λ b. IsNextBit self.now.words.items from b) }
+        ensures same_word { IfSome result (λ b. b / 64 ≡ from / 64) }
         ensures none { IsNone result → (b : ℕ) → from ≤ b → b / 64 ≡ from / 64 →
             bit_of self.now.words.items b ≡ 0 }
         ensures none_at_all { IsNone result → from ≡ 64 * (from / 64) →
             slice_index_or self.now.words.items (from / 64) 0 ≡ 0 }
     {
-        let place = from / WORD;
-        let later = self.words.get(usize::from(place))? & (u64::MAX << (from % WORD));
+        let word = from / WORD;
+        let later = self.words.get(usize::from(word))? & (u64::MAX << (from % WORD));
         if later == 0 {
             return None;
         }
-        Some(WORD * place + later.trailing_zeros() as u16)
+        Some(WORD * word + later.trailing_zeros() as u16)
     }
 
     /// The first bit from here on that is set.

@@ -1,7 +1,7 @@
 //! The entry queues of an object, as one list of what is queued, in order of arrival.
 
 ghost use Rattle.std.specs.Prelude.{◌≡◌, ◌<◌, ◌≤◌, ◌∷◌, ◌++◌, [], length, slice_index, false, max, ℕ};
-ghost use Rattle.std.specs.Prelude.{IfOk, IsOk, OnOk, OnErr};
+ghost use Rattle.std.specs.Prelude.{◌+◌, IfOk, IsOk, IfSome, IfNone, OnOk, OnErr};
 ghost use Rattle.std.specs.List.{All};
 ghost use Rattle.po_queues.specs.QueuedKeys.{occurs, first_key, key_after, keys_on, queue_of, stamp_of};
 ghost use Rattle.po_queues.specs.Arrived.{AreInOrder, all_queued, arrived_keys, first_due, without_arrived};
@@ -23,7 +23,7 @@ pub struct EntryQueues {
     arrivals: Queues,
     /// The keys whose calls expire, with their times.
     expirations: Expirations,
-    /// How many keys have a place in each of the three.
+    /// How many keys are reserved in each of the three.
     reserved: usize,
 }
 
@@ -56,13 +56,16 @@ impl EntryQueues {
         })
     }
 
-    /// Makes a place for the key, which it never loses, and for the keys below it.
+    /// Reserves the key and all keys below it, which stay reserved.
+    ///
+    /// The memory is that of three calls, one for each list, which say how much they take; no clause here sees it.
     pub fn reserve(&mut self, key: usize) -> Result<(), AllocError>
         ensures ok { OnOk result (key < self.new.reserved) }
         ensures err { OnErr result (self.new ≡ self.old) }
-        ensures had_place { key < self.old.reserved → IsOk result × (self.new ≡ self.old) }
-        ensures only_places { self.new ≡ record self.old { reserved = self.new.reserved } }
+        ensures had_room { key < self.old.reserved → IsOk result × (self.new ≡ self.old) }
+        ensures only_room { self.new ≡ record self.old { reserved = self.new.reserved } }
         ensures grows { self.old.reserved ≤ self.new.reserved }
+        ensures no_more { self.new.reserved ≤ max (key + 1) self.old.reserved }
     {
         if key < self.reserved {
             return Ok(());
@@ -77,6 +80,9 @@ impl EntryQueues {
 
     /// Queues the key on the entry, after all that are queued there (9.5.3, D.4). Its call expires at this time, if at
     /// any (9.7.2).
+    ///
+    /// The entries are those of `counts`, and `reserved` and `contains` tell whether the key may be queued. That the stamp
+    /// is above all others the caller knows, who takes the stamps from a count that only rises.
     pub fn append(&mut self, entry: u16, key: usize, stamp: u128, expires: Option<u64>)
         requires entry { entry < self.old.total }
         requires reserved { key < self.old.reserved }
@@ -104,12 +110,17 @@ impl EntryQueues {
         self.by_entry.remove(key)
     }
 
-    /// The first key of the entry's queue: the next to be served (D.4).
-    pub fn first(&self, entry: u16) -> Option<usize>
-        requires { entry < self.now.total }
-        ensures { result ≡ first_key (keys_on entry (all_queued self.now.items)) }
+    /// Takes the first key out of the entry's queue, if it has one: the next to be served (D.4).
+    pub fn take_first(&mut self, entry: u16) -> Option<usize>
+        requires { entry < self.old.total }
+        ensures first { result ≡ first_key (keys_on entry (all_queued self.old.items)) }
+        ensures others { IfSome result (λ key. self.new
+            ≡ record self.old { items = without_arrived key self.old.items }) }
+        ensures none { IfNone result (self.new ≡ self.old) }
     {
-        let (key, _) = self.by_entry.first(entry)?;
+        let key = self.by_entry.take_first(entry)?;
+        self.arrivals.remove(key);
+        self.expirations.remove(key);
         Some(key)
     }
 
@@ -126,6 +137,13 @@ impl EntryQueues {
         ensures { result ≡ key_after key (arrived_keys self.now.items) }
     {
         self.arrivals.after(key)
+    }
+
+    /// How many keys are reserved: those below this one.
+    pub fn reserved(&self) -> usize
+        ensures { result ≡ self.now.reserved }
+    {
+        self.reserved
     }
 
     /// The stamp with which the key was queued, if it is queued.

@@ -1,11 +1,12 @@
 //! The calls that expire, in order of arrival, beside the clock.
 
-ghost use Rattle.std.specs.Prelude.{◌≡◌, ◌<◌, ◌≤◌, ◌*◌, ◌++◌, [], ◌∷◌, max, false, IfOk, IsOk, OnOk, OnErr, if◌then◌else◌};
+ghost use Rattle.std.specs.Prelude.{◌≡◌, ◌<◌, ◌≤◌, ◌+◌, ◌*◌, ◌++◌, [], ◌∷◌, max, false, IfOk, IsOk, OnOk, OnErr, if◌then◌else◌};
 ghost use Rattle.std.specs.List.{All};
 ghost use Rattle.po_queues.specs.QueuedKeys.{occurs, first_key, is_this, key_after_in_queue};
 ghost use Rattle.po_queues.specs.Expiring.{AreSound, expiring_keys, first_due, without_expiring};
 
 use crate::queues::Queues;
+use crate::room::grown;
 use std::alloc::{AllocError, Global};
 use std::marker::Model;
 
@@ -15,8 +16,8 @@ const NEVER: u128 = 1 << 64;
 /// The waiting calls that may be cancelled when their time comes, in order of arrival, beside the clock (9.7.2).
 ///
 /// A key stands for a call. Times and the clock count the same unit, from the same start. But for
-/// `new` and `reserve`, no method takes memory, and but for `first_due` and `clear`, the time of
-/// none depends on how many keys there are.
+/// `new` and `reserve`, no method takes memory, and but for `first_due`, the time of none depends
+/// on how many keys there are.
 #[derive(Debug, Drop)]
 pub struct Expirations {
     // The keys, all on entry 0, in order of arrival.
@@ -60,27 +61,32 @@ impl Expirations {
         })
     }
 
-    /// Makes a place for the key, which it never loses, and for the keys below it.
+    /// Reserves the key and all keys below it, which stay reserved.
     ///
-    /// Where there is none, the places at least double in number, so that many calls take little
-    /// memory and time each. It fails where there is no memory.
+    /// Where it isn't, the number of reserved keys at least doubles, so that many calls take little
+    /// memory and time each; it grows no further than that or this key asks for.
     pub fn reserve(&mut self, key: usize) -> Result<(), AllocError>
         ensures ok { OnOk result (key < self.new.reserved) }
         ensures err { OnErr result (self.new ≡ self.old) }
-        ensures had_place { key < self.old.reserved → IsOk result × (self.new ≡ self.old) }
-        ensures only_places { self.new ≡ record self.old { reserved = self.new.reserved } }
+        ensures had_room { key < self.old.reserved → IsOk result × (self.new ≡ self.old) }
+        ensures only_room { self.new ≡ record self.old { reserved = self.new.reserved } }
         ensures grows { self.old.reserved ≤ self.new.reserved }
         ensures doubles { self.old.reserved ≤ key →
             OnOk result (2 * self.old.reserved ≤ self.new.reserved) }
+        ensures no_more { self.new.reserved ≤ max (key + 1) (2 * self.old.reserved) }
     {
-        if key < self.times.len() {
+        let reserved = self.times.len();
+        if key < reserved {
             return Ok(());
         }
-        self.chain.reserve(key)?;
-        self.times.resize(self.chain.reserved(), 0)
+        let more = grown(reserved, key)?;
+        self.chain.reserve(more - 1)?;
+        self.times.resize(more, 0)
     }
 
     /// Adds the key, whose call expires at this time, after all that there are (9.7.2).
+    ///
+    /// The caller knows which keys it has reserved and added, and takes the stamps from a count that only rises.
     pub fn append(&mut self, key: usize, stamp: u128, time: u64)
         requires reserved { key < self.old.reserved }
         requires not_queued { occurs key (expiring_keys self.old.items) ≡ false }
@@ -142,15 +148,6 @@ impl Expirations {
         ensures { result ≡ self.now.clock }
     {
         self.clock
-    }
-
-    /// Takes out all keys, at a cost for each.
-    pub fn clear(&mut self)
-        ensures { self.new ≡ record self.old { items = [] } }
-    {
-        while let Some(key) = self.first() {
-            self.remove(key);
-        }
     }
 
     /// What all expirations keep.

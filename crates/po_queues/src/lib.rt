@@ -7,6 +7,7 @@ mod entry_queues;
 mod expirations;
 mod link;
 mod queues;
+mod room;
 mod writes;
 
 pub use entry_queues::EntryQueues;

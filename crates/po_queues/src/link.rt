@@ -1,6 +1,6 @@
-//! The place of a key in its queue.
+//! How a key stands in its queue.
 
-/// The place of a key in its entry's queue, and the stamp of its arrival there.
+/// How a key stands in its entry's queue: between which keys, and with which stamp of its arrival.
 #[derive(Clone, Copy, Debug)]
 pub(crate) struct Link {
     pub(crate) entry: u16,

@@ -1,7 +1,7 @@
 //! The entry queues of a protected object.
 
 ghost use Rattle.std.specs.Prelude.{◌≡◌, ◌<◌, ◌≤◌, ◌+◌, ◌*◌, ◌↔◌, ℕ, [], ◌∷◌, ◌++◌, length};
-ghost use Rattle.std.specs.Prelude.{slice_index, false};
+ghost use Rattle.std.specs.Prelude.{slice_index, max, false};
 ghost use Rattle.std.specs.Prelude.{IfOk, IfSome, IsNone, IsOk, IsTrue, OnOk, OnErr};
 ghost use Rattle.std.specs.List.{All};
 ghost use Rattle.po_queues.specs.QueuedKeys.{QueuesView, IsSound, queue_of, keys_on, is_queued};
@@ -12,6 +12,7 @@ ghost use Rattle.po_queues.specs.Links.{link_of};
 
 use crate::busy::BusyEntries;
 use crate::link::Link;
+use crate::room::grown;
 use crate::writes::{replace_if, set_after, set_before, set_first};
 use std::alloc::{AllocError, Global};
 use std::marker::Model;
@@ -22,7 +23,7 @@ use std::marker::Model;
 /// method takes memory, and its time doesn't depend on how many keys are queued.
 #[derive(Debug, Drop)]
 pub struct Queues {
-    // By key: its place, if it is queued.
+    // By key: its link, if it is queued.
     links: Vec<Option<Link>>,
     // By entry: the first key of its queue, the last one, and how many there are.
     firsts: Vec<Option<usize>>,
@@ -66,29 +67,31 @@ impl Queues {
         })
     }
 
-    /// Makes a place for the key, which it never loses, and for the keys below it.
+    /// Reserves the key and all keys below it, which stay reserved.
     ///
-    /// Where there is none, the places at least double in number, so that many calls take little
-    /// memory and time each.
+    /// Where it isn't, the number of reserved keys at least doubles, so that many calls take little
+    /// memory and time each; it grows no further than that or this key asks for.
     pub fn reserve(&mut self, key: usize) -> Result<(), AllocError>
         ensures ok { OnOk result (key < self.new.reserved) }
         ensures err { OnErr result (self.new ≡ self.old) }
-        ensures had_place { key < self.old.reserved → IsOk result × (self.new ≡ self.old) }
-        ensures only_places { self.new ≡ record self.old { reserved = self.new.reserved } }
+        ensures had_room { key < self.old.reserved → IsOk result × (self.new ≡ self.old) }
+        ensures only_room { self.new ≡ record self.old { reserved = self.new.reserved } }
         ensures grows { self.old.reserved ≤ self.new.reserved }
         ensures doubles { self.old.reserved ≤ key →
             OnOk result (2 * self.old.reserved ≤ self.new.reserved) }
+        ensures no_more { self.new.reserved ≤ max (key + 1) (2 * self.old.reserved) }
     {
         let reserved = self.links.len();
         if key < reserved {
             return Ok(());
         }
-        let least = key.checked_add(1).ok_or(AllocError)?;
-        self.links
-            .resize(least.max(reserved.saturating_mul(2)), None)
+        self.links.resize(grown(reserved, key)?, None)
     }
 
     /// Queues the key on the entry, after all that are queued there (9.5.3, D.4).
+    ///
+    /// `total`, `reserved` and `contains` tell whether the key may be queued so. That the stamp is above all others the
+    /// caller knows, who takes the stamps from a count that only rises.
     pub fn append(&mut self, entry: u16, key: usize, stamp: u128)
         requires entry { entry < self.old.total }
         requires reserved { key < self.old.reserved }
@@ -99,8 +102,8 @@ impl Queues {
               self.old.items ++ record { entry = entry; key = key; stamp = stamp } ∷ [];
         } }
     {
-        let place = usize::from(entry);
-        let last = self.lasts[place];
+        let index = usize::from(entry);
+        let last = self.lasts[index];
         self.links[key] = Some(Link {
             entry,
             stamp,
@@ -108,9 +111,9 @@ impl Queues {
             after: None,
         });
         set_after(&mut self.links, last, Some(key));
-        set_first(&mut self.firsts, last, place, key);
-        self.lasts[place] = Some(key);
-        self.counts[place] += 1;
+        set_first(&mut self.firsts, last, index, key);
+        self.lasts[index] = Some(key);
+        self.counts[index] += 1;
         self.busy.mark(entry, true);
         self.queued += 1;
     }
@@ -152,14 +155,14 @@ impl Queues {
         let Some(link) = self.link(key) else {
             return false;
         };
-        let place = usize::from(link.entry);
+        let index = usize::from(link.entry);
         self.links[key] = None;
         set_after(&mut self.links, link.before, link.after);
         set_before(&mut self.links, link.after, link.before);
-        replace_if(&mut self.firsts, place, key, link.after);
-        replace_if(&mut self.lasts, place, key, link.before);
-        let count = self.counts[place] - 1;
-        self.counts[place] = count;
+        replace_if(&mut self.firsts, index, key, link.after);
+        replace_if(&mut self.lasts, index, key, link.before);
+        let count = self.counts[index] - 1;
+        self.counts[index] = count;
         self.busy.mark(link.entry, count > 0);
         self.queued -= 1;
         true
@@ -213,8 +216,8 @@ impl Queues {
         self.counts.len() as u16
     }
 
-    /// How many keys have a place: those below this one.
-    pub(crate) fn reserved(&self) -> usize
+    /// How many keys are reserved: those below this one.
+    pub fn reserved(&self) -> usize
         ensures { result ≡ self.now.reserved }
     {
         self.links.len()
@@ -234,7 +237,7 @@ impl Queues {
         let _ = &self.queued;
     }
 
-    /// The place of the key, if it is queued.
+    /// The link of the key, if it is queued.
     fn link(&self, key: usize) -> Option<Link>
         ensures { result ≡ link_of self.now.items key }
     {

@@ -37,37 +37,37 @@ pub(crate) fn set_before(links: &mut Vec<Option<Link>>, key: Option<usize>, befo
     }
 }
 
-/// Makes the key the first one at this place, if no key was last there.
+/// Makes the key the first one of the entry with this index, if none was the last one there.
 pub(crate) fn set_first(
     firsts: &mut Vec<Option<usize>>,
     last: Option<usize>,
-    place: usize,
+    index: usize,
     key: usize,
 )
-    requires { place < length firsts.old.items }
+    requires { index < length firsts.old.items }
     ensures { firsts.new.items
         ≡ (if is_missing last
-        then slice_set firsts.old.items place (Some key)
+        then slice_set firsts.old.items index (Some key)
         else firsts.old.items) }
 {
     if last.is_none() {
-        firsts[place] = Some(key);
+        firsts[index] = Some(key);
     }
 }
 
-/// Puts another key, or none, in the place of the key, if it stands there.
+/// Where the key is the end of the queue of the entry with this index, makes another key the end, or none.
 pub(crate) fn replace_if(
     ends: &mut Vec<Option<usize>>,
-    place: usize,
+    index: usize,
     key: usize,
     other: Option<usize>,
 )
-    requires { place < length ends.old.items }
+    requires { index < length ends.old.items }
     ensures { ends.new.items
-        ≡ (if is_this (slice_index_or ends.old.items place None) key
-        then slice_set ends.old.items place other else ends.old.items) }
+        ≡ (if is_this (slice_index_or ends.old.items index None) key
+        then slice_set ends.old.items index other else ends.old.items) }
 {
-    if ends[place] == Some(key) {
-        ends[place] = other;
+    if ends[index] == Some(key) {
+        ends[index] = other;
     }
 }

@@ -1,4 +1,4 @@
--- The number is that of the declaration's first entry and the distance from it, and the list has the entry at that place.
+-- The number is that of the declaration's first entry and the distance from it, and the list has the entry at that position.
 use Rattle.std.proofs.Common.{◌≡◌, ◌≤◌, slice_get, Ok, Err, Some, sym, ◌∙◌, arith}
 use Rattle.std.proofs.lemmas.Option.{slice_get_within}
 use Rattle.std.proofs.lemmas.Result.{err_from_is_err_and}

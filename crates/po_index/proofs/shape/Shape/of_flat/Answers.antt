@@ -4,33 +4,33 @@ use Rattle.po_index.specs.declared.decl.Decl.{Decl}
 use Rattle.po_index.specs.Numbering.{entry_count, entry_at}
 use Rattle.po_index.specs.FirstNumbers.{first_numbers}
 use Rattle.po_index.proofs.NumberingLemmas.{IsNumbered, numbered_within, slice_get-from_numbered, flat_number-from_numbered}
-use Rattle.po_index.proofs.FirstNumbersLemmas.{length-firsts, get_or-firsts, within_from_place}
+use Rattle.po_index.proofs.FirstNumbersLemmas.{length-firsts, get_or-firsts, within_from_position}
 use Rattle.po_index.proofs.shape.Shape.of_flat.Goals as goal
 
--- a declaration for a place past the end, which no reference names
+-- a declaration for a position past the end, which no reference names
 abbrev missing : Decl
 missing = record { public = false; family = false; low = pos 0; high = pos 0 }
 
-pub bounds-as_slice-place : goal.bounds-as_slice-place
-bounds-as_slice-place c =
+pub bounds-as_slice-position : goal.bounds-as_slice-position
+bounds-as_slice-position c =
     let same : c.as_slice.result.now ≡ first_numbers c.args.self.now = cc in
     let long = length-firsts c.args.self.now c.as_slice.result.now same in
-    let inside = c.place_of-place.ensures.within in
+    let inside = c.position_of-position.ensures.within in
     omega arith
 
 pub overflow_sub-number : goal.overflow_sub-number
 overflow_sub-number c =
     let same : c.as_slice.result.now ≡ first_numbers c.args.self.now = cc in
-    let first = get_or-firsts c.args.self.now c.as_slice.result.now c.place_of-place.result 0 same c.place_of-place.ensures.within in
-    let low = c.place_of-place.ensures.from_first in
+    let first = get_or-firsts c.args.self.now c.as_slice.result.now c.position_of-position.result 0 same c.position_of-position.ensures.within in
+    let low = c.position_of-position.ensures.from_first in
     omega arith
 
 pub entry_at-requires : goal.entry_at-requires
 entry_at-requires c =
     let ds = c.args.self.now in
     let same : c.as_slice.result.now ≡ first_numbers ds = cc in
-    let first = get_or-firsts ds c.as_slice.result.now c.place_of-place.result 0 same c.place_of-place.ensures.within in
-    let here = within_from_place ds c.args.number c.place_of-place.result missing c.place_of-place.ensures in
+    let first = get_or-firsts ds c.as_slice.result.now c.position_of-position.result 0 same c.position_of-position.ensures.within in
+    let here = within_from_position ds c.args.number c.position_of-position.result missing c.position_of-position.ensures in
     let low = here.from_first in
     let high = here.before_next in
     let decls : c.as_slice-2.result.now ≡ ds = cc in
@@ -40,12 +40,12 @@ entry_at-requires c =
 numbered : (c : goal.After-entry_at) → IsNumbered c.args.self.now c.entry_at.result c.args.number
 numbered c =
     let ds = c.args.self.now in
-    let place = c.place_of-place.result in
+    let position = c.position_of-position.result in
     let same : c.as_slice.result.now ≡ first_numbers ds = cc in
-    let first = get_or-firsts ds c.as_slice.result.now place 0 same c.place_of-place.ensures.within in
+    let first = get_or-firsts ds c.as_slice.result.now position 0 same c.position_of-position.ensures.within in
     let decls : c.as_slice-2.result.now ≡ ds = cc in
-    let here = numbered_within ds c.args.number place (get_or ds place missing) (within_from_place ds c.args.number place missing c.place_of-place.ensures) in
-    let entry : c.entry_at.result ≡ entry_at place (get_or ds place missing) (c.args.number - entry_count (take place ds)) =
+    let here = numbered_within ds c.args.number position (get_or ds position missing) (within_from_position ds c.args.number position missing c.position_of-position.ensures) in
+    let entry : c.entry_at.result ≡ entry_at position (get_or ds position missing) (c.args.number - entry_count (take position ds)) =
     rw (decls, first) at c.entry_at.ensures in
     rw entry here
 

@@ -17,10 +17,10 @@ mask_from from =
     ones_shl 64 (from % 64) (omega arith) ∙ ap (λ k. 2 ^ 64 - 2 ^ k) rest
 
 -- the word of a bit, which was read
-read_word : (words read : List ℕ) (from place word : ℕ) → read ≡ words → place ≡ from / 64
-    → true ≡ ltb place (length read) → word ≡ get_or read place word → word ≡ get_or words (from / 64) 0
-read_word words read from place word same here low found =
-    rw (← here, ← same) (get_or_read read place word (ltb-true place (length read) (sym low)) found 0)
+read_word : (words read : List ℕ) (from index word : ℕ) → read ≡ words → index ≡ from / 64
+    → true ≡ ltb index (length read) → word ≡ get_or read index word → word ≡ get_or words (from / 64) 0
+read_word words read from index word same here low found =
+    rw (← here, ← same) (get_or_read read index word (ltb-true index (length read) (sym low)) found 0)
 
 pub returns-then-later-eq0-clause-none : goal.returns-then-later-eq0-clause-none
 returns-then-later-eq0-clause-none c = λ _ b here same.

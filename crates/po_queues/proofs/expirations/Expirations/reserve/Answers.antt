@@ -1,24 +1,28 @@
--- More places change nothing else.
-use Rattle.std.proofs.Common.{arith}
-use Rattle.po_queues.proofs.ExpirationLemmas.{roomy, room_made}
+-- Room for more keys changes nothing else.
+use Rattle.std.proofs.Common.{◌≤◌, length, arith}
+use Rattle.po_queues.proofs.ExpirationLemmas.{roomy}
 use Rattle.po_queues.proofs.expirations.Expirations.reserve.Goals as goal
 
 pub invariant_of-self-2 : goal.invariant_of-self-2
 invariant_of-self-2 c =
-    let r = c.in_ok-reserve.ensures in
     let s = c.self.inside in
     let t = c.resize.new.self in
-    let room = room_made s.chain c.reserve.new.self c.args.key r.had_place r.doubles in
-    let e = rw c.reserved.ensures at c.resize.ensures in
-    (roomy c.self.invariant c.reserve.new.self r.only_places r.grows room _ _ t.items e.items _ _
-    (omega (arith, s.times.ok.0)) (omega (arith, t.ok.0)) e.len).1
+    let more = c.in_ok-more in
+    let chain = c.in_ok-reserve.ensures in
+    let longer : length s.times.items ≤ more.more =
+    omega (arith, more.ensures, c.len-reserved.ensures, c.len-reserved.type_inv, s.times.ok.0) in
+    let enough : more.more ≤ c.reserve.new.self.reserved = omega (arith, chain.ok) in
+    (roomy c.self.invariant c.reserve.new.self chain.only_room more.more longer enough _ _ t.items
+    c.resize.ensures.items _ _ (omega (arith, s.times.ok.0)) (omega (arith, t.ok.0)) c.resize.ensures.len).1
 
-pub returns-clause-only_places : goal.returns-clause-only_places
-returns-clause-only_places c =
-    let r = c.in_ok-reserve.ensures in
+pub returns-clause-only_room : goal.returns-clause-only_room
+returns-clause-only_room c =
     let s = c.self.inside in
     let t = c.resize.new.self in
-    let room = room_made s.chain c.reserve.new.self c.args.key r.had_place r.doubles in
-    let e = rw c.reserved.ensures at c.resize.ensures in
-    rw (← c.self.view_is) (roomy c.self.invariant c.reserve.new.self r.only_places r.grows room _ _ t.items e.items _ _
-    (omega (arith, s.times.ok.0)) (omega (arith, t.ok.0)) e.len).0
+    let more = c.in_ok-more in
+    let chain = c.in_ok-reserve.ensures in
+    let longer : length s.times.items ≤ more.more =
+    omega (arith, more.ensures, c.len-reserved.ensures, c.len-reserved.type_inv, s.times.ok.0) in
+    let enough : more.more ≤ c.reserve.new.self.reserved = omega (arith, chain.ok) in
+    rw (← c.self.view_is) (roomy c.self.invariant c.reserve.new.self chain.only_room more.more longer enough _ _ t.items
+    c.resize.ensures.items _ _ (omega (arith, s.times.ok.0)) (omega (arith, t.ok.0)) c.resize.ensures.len).0

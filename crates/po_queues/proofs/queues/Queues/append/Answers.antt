@@ -12,13 +12,13 @@ invariant_of-self c =
     let i = c.self.invariant in
     let x : QueuedKey = record { entry = c.args.entry; key = c.args.key; stamp = c.args.stamp } in
     let r = rw (← c.self.view_is) at c.requires in
-    let here = c.from-place.ensures in
-    let place = c.from-place.result in
-    let last = get_or_read s.lasts.items place _ (omega (arith, here, i.lasts_len, r.entry)) c.index-last.ensures None
+    let here = c.from-index.ensures in
+    let index = c.from-index.result in
+    let last = get_or_read s.lasts.items index _ (omega (arith, here, i.lasts_len, r.entry)) c.index-last.ensures None
     in
-    let count = get_or_read s.counts.items place _ (omega (arith, here, r.entry)) c.index_mut-3.ensures.value 0 in
+    let count = get_or_read s.counts.items index _ (omega (arith, here, r.entry)) c.index_mut-3.ensures.value 0 in
     let m = c.mark.ensures in
-    (push_at i x place here r.entry r.reserved r.not_queued r.rises _ last _ count _ _ _ c.set_after.ensures
+    (push_at i x index here r.entry r.reserved r.not_queued r.rises _ last _ count _ _ _ c.set_after.ensures
     c.set_first.ensures (record { same = m.same; others = m.others; len = m.words })).keeps
 
 pub returns : goal.returns
@@ -27,21 +27,21 @@ returns c =
     let i = c.self.invariant in
     let x : QueuedKey = record { entry = c.args.entry; key = c.args.key; stamp = c.args.stamp } in
     let r = rw (← c.self.view_is) at c.requires in
-    let here = c.from-place.ensures in
-    let place = c.from-place.result in
-    let last = get_or_read s.lasts.items place _ (omega (arith, here, i.lasts_len, r.entry)) c.index-last.ensures None
+    let here = c.from-index.ensures in
+    let index = c.from-index.result in
+    let last = get_or_read s.lasts.items index _ (omega (arith, here, i.lasts_len, r.entry)) c.index-last.ensures None
     in
-    let count = get_or_read s.counts.items place _ (omega (arith, here, r.entry)) c.index_mut-3.ensures.value 0 in
+    let count = get_or_read s.counts.items index _ (omega (arith, here, r.entry)) c.index_mut-3.ensures.value 0 in
     let m = c.mark.ensures in
-    rw (← c.self.view_is) (push_at i x place here r.entry r.reserved r.not_queued r.rises _ last _ count _ _ _
+    rw (← c.self.view_is) (push_at i x index here r.entry r.reserved r.not_queued r.rises _ last _ count _ _ _
     c.set_after.ensures c.set_first.ensures (record { same = m.same; others = m.others; len = m.words })).view
 
 pub overflow_add-index_mut : goal.overflow_add-index_mut
 overflow_add-index_mut c =
     let s = c.self.inside in
     let r = rw (← c.self.view_is) at c.requires in
-    let here = c.from-place.ensures in
-    let count = get_or_read s.counts.items c.from-place.result _ (omega (arith, here, r.entry))
+    let here = c.from-index.ensures in
+    let count = get_or_read s.counts.items c.from-index.result _ (omega (arith, here, r.entry))
     c.index_mut-3.ensures.value 0 in
     let room = count_fits c.self.invariant c.args.entry c.args.key r.entry r.reserved r.not_queued in
     omega (arith, rw here at count, room.count, s.links.ok.0)

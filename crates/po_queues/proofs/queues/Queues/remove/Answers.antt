@@ -15,23 +15,23 @@ pub replace_if-requires : goal.replace_if-requires
 replace_if-requires c =
     let i = c.self.invariant in
     let l = has_link i c.self.view_is c.args.key c.in-Some.link c.in-Some.ensures in
-    omega (arith, l.entry, i.firsts_len, c.from-place.ensures)
+    omega (arith, l.entry, i.firsts_len, c.from-index.ensures)
 
 pub replace_if-requires-2 : goal.replace_if-requires-2
 replace_if-requires-2 c =
     let i = c.self.invariant in
     let l = has_link i c.self.view_is c.args.key c.in-Some.link c.in-Some.ensures in
-    omega (arith, l.entry, i.lasts_len, c.from-place.ensures)
+    omega (arith, l.entry, i.lasts_len, c.from-index.ensures)
 
 pub index-requires : goal.index-requires
 index-requires c =
     let l = has_link c.self.invariant c.self.view_is c.args.key c.in-Some.link c.in-Some.ensures in
-    omega (arith, l.entry, c.self.inside.counts.ok.0, c.from-place.ensures)
+    omega (arith, l.entry, c.self.inside.counts.ok.0, c.from-index.ensures)
 
 pub index_mut-requires-2 : goal.index_mut-requires-2
 index_mut-requires-2 c =
     let l = has_link c.self.invariant c.self.view_is c.args.key c.in-Some.link c.in-Some.ensures in
-    omega (arith, l.entry, c.self.inside.counts.ok.0, c.from-place.ensures)
+    omega (arith, l.entry, c.self.inside.counts.ok.0, c.from-index.ensures)
 
 pub mark-requires : goal.mark-requires
 mark-requires c =
@@ -42,9 +42,9 @@ mark-requires c =
 pub overflow_sub-count : goal.overflow_sub-count
 overflow_sub-count c =
     let l = has_link c.self.invariant c.self.view_is c.args.key c.in-Some.link c.in-Some.ensures in
-    let count = get_or_read c.self.inside.counts.items c.from-place.result _
-    (omega (arith, l.entry, c.from-place.ensures)) c.index.ensures 0 in
-    omega (arith, rw c.from-place.ensures at count, l.is_counted)
+    let count = get_or_read c.self.inside.counts.items c.from-index.result _
+    (omega (arith, l.entry, c.from-index.ensures)) c.index.ensures 0 in
+    omega (arith, rw c.from-index.ensures at count, l.is_counted)
 
 pub overflow_sub-self : goal.overflow_sub-self
 overflow_sub-self c = (has_link c.self.invariant c.self.view_is c.args.key c.in-Some.link
@@ -58,25 +58,25 @@ returns-clause-was_queued c =
 pub invariant_of-self : goal.invariant_of-self
 invariant_of-self c =
     let i = c.self.invariant in
-    let place = c.from-place.result in
-    let here = c.from-place.ensures in
+    let index = c.from-index.result in
+    let here = c.from-index.ensures in
     let link = c.in-Some.link in
     let l = has_link i c.self.view_is c.args.key link c.in-Some.ensures in
-    let count = get_or_read c.self.inside.counts.items place _ (omega (arith, l.entry, here)) c.index.ensures 0 in
+    let count = get_or_read c.self.inside.counts.items index _ (omega (arith, l.entry, here)) c.index.ensures 0 in
     let m = c.mark.ensures in
-    (remove_at i c.args.key link place here l.read _ count _ _ _ _ (rw c.set_after.ensures at c.set_before.ensures)
+    (remove_at i c.args.key link index here l.read _ count _ _ _ _ (rw c.set_after.ensures at c.set_before.ensures)
     c.replace_if.ensures c.replace_if-2.ensures
     (record { same = m.same; others = m.others; len = m.words })).keeps
 
 pub returns-clause-others : goal.returns-clause-others
 returns-clause-others c =
     let i = c.self.invariant in
-    let place = c.from-place.result in
-    let here = c.from-place.ensures in
+    let index = c.from-index.result in
+    let here = c.from-index.ensures in
     let link = c.in-Some.link in
     let l = has_link i c.self.view_is c.args.key link c.in-Some.ensures in
-    let count = get_or_read c.self.inside.counts.items place _ (omega (arith, l.entry, here)) c.index.ensures 0 in
+    let count = get_or_read c.self.inside.counts.items index _ (omega (arith, l.entry, here)) c.index.ensures 0 in
     let m = c.mark.ensures in
-    rw (← c.self.view_is) (remove_at i c.args.key link place here l.read _ count _ _ _ _
+    rw (← c.self.view_is) (remove_at i c.args.key link index here l.read _ count _ _ _ _
     (rw c.set_after.ensures at c.set_before.ensures) c.replace_if.ensures c.replace_if-2.ensures
     (record { same = m.same; others = m.others; len = m.words })).view
