@@ -1,9 +1,9 @@
 -- What a cut of the history makes of the present picture, and of the volumes.
-use Rattle.std.proofs.Common.{◌≡◌, ℕ, ◌+◌, ◌<◌, ◌==◌, List, [], ◌∷◌, ◌++◌, length, map, refl, subst, ap, sym, ◌∙◌, arith, Bool, true, false, Option, if◌then◌else◌}
-use Rattle.std.specs.List.{All}
+use Rattle.std.proofs.Common.{◌≡◌, ℕ, ◌+◌, ◌<◌, ◌≤◌, ◌==◌, List, [], ◌∷◌, ◌++◌, length, map, refl, subst, ap, sym, ◌∙◌, arith, Bool, true, false, cond, Option, if◌then◌else◌}
+use Rattle.std.specs.List.{All, count_by}
 use Rattle.std.proofs.lemmas.List.{take_all}
 use Rattle.std.proofs.lemmas.List.Elements.{All-nil, All-cons, All-head, All-tail, All-weaker, All-append}
-use Rattle.std.proofs.lemmas.List.Sums.{count_by-le-length}
+use Rattle.std.proofs.lemmas.List.Sums.{sum_by-append}
 use Rattle.std.proofs.lemmas.Bool.Decides.{nat_tests}
 use Rattle.po_unit.specs.Meaning.{Meaning, IsLawful}
 use Rattle.po_index.specs.Numbering.{entry_count}
@@ -16,11 +16,12 @@ use Rattle.po_actions.specs.Step.{replay, IsLegal}
 use Rattle.po_actions.specs.Base.{Base, state_with, arrived, arrived_among, is_ran}
 use Rattle.po_actions.specs.Public.{NamesPublic}
 use Rattle.po_actions.specs.Making.{Making}
-use Rattle.po_actions.specs.View.{View, Replays, IsInOnePlace, base_state}
+use Rattle.po_actions.specs.View.{View, Replays, IsInOnePlace, base_state, next_place}
 use Rattle.po_actions.specs.Arrival.{Rises, AreAt, arrival}
 use Rattle.po_actions.specs.StateView.{StateView}
 use Rattle.po_actions.specs.History.{IsBase, IsHistory, IsKept}
-use Rattle.po_actions.specs.Cutting.{present_base, cut, cut_off, Leads, AreVolumes, KeepsArrivals}
+use Rattle.po_actions.specs.Cutting.{present_base, cut, cut_off, Leads, AreVolumes, KeepsArrivals, procedures_run}
+use Rattle.po_actions.proofs.Counting.{replay-next, counted-apart}
 use Rattle.po_actions.proofs.Runs.{replay-append, legal-append}
 use Rattle.po_actions.proofs.Wells.{well, well_base}
 use Rattle.po_actions.proofs.Orders.{Ordered, ordered_all}
@@ -104,7 +105,15 @@ module _ {S V : Type 0} (m : Meaning S V) where
       } in record {
         run_on = run_on-append view.making.first_place volumes view.base.place (cut_off view) are.run_on refl;
         leads = subst (λ events. Leads m view.making events start (base_state (cut m view))) (sym (joined-append volumes (cut_off view))) all;
+        ran = ap (λ n. n + count_by is_ran view.events) are.ran
+            ∙ sym (ap (count_by is_ran) (joined-append volumes (cut_off view)) ∙ sum_by-append (λ event. cond (is_ran event) 1 0) (joined volumes) view.events);
       }
+
+  -- each call and each procedure of the history is an event
+  pub counted_so_far : (view : View S V) → IsHistory m view.making view.base view.state view.events → view.making.first_place + view.state.next + procedures_run view ≤ view.making.first_number + next_place view
+  counted_so_far view h =
+      let issued = replay-next m view.making.max_queue (base_state view) view.events in
+      omega (arith, issued, counted-apart view.events, h.base.counted, ap (λ s. s.next) h.leads)
 
   -- the present picture is a base
   pub present_is_base : IsLawful m → (view : View S V) → IsHistory m view.making view.base view.state view.events → IsBase m view.making (present_base m view) view.state.ended
@@ -128,7 +137,7 @@ module _ {S V : Type 0} (m : Meaning S V) where
         before = before_by f (arrived (present_base m view)) k view.state.waiting agree o.before;
         emptied = subst IsEmptied h.leads (emptied m law limit (base_state view) view.events h.legal h.base.emptied);
         ended = omega arith;
-        ran = omega (arith, h.base.ran, count_by-le-length is_ran view.events);
+        counted = counted_so_far view h;
       }
 
 module _ {S V : Type 0} (m : Meaning S V) (making : Making S) (b : Base S V) (s : StateView S V) (h : HistoryView V) (served : Option ℕ) (procedures before : ℕ) where

@@ -81,7 +81,7 @@ module _ {S V : Type 0} (m : Meaning S V) (making : Making S) where
       before = All-nil (λ x. 0 < making.first_place);
       emptied = λ _. refl;
       ended = omega arith;
-      ran = omega arith;
+      counted = omega arith;
     };
     legal = tt;
     leads = refl;
@@ -103,7 +103,7 @@ module _ {S V : Type 0} (m : Meaning S V) (making : Making S) where
           before = h.base.before;
           emptied = h.base.emptied;
           ended = ended_on m limit p r e b.ended is h.base.ended;
-          ran = h.base.ran;
+          counted = h.base.counted;
         };
         legal = subst (λ q. IsLegal m limit q (es ++ e ∷ [])) same k.legal;
         leads = subst (λ q. replay m limit q (es ++ e ∷ []) ≡ r) same k.leads;

@@ -1,4 +1,5 @@
 pub mod Aborts
+pub mod Counting
 pub mod CutLemmas
 pub mod Ends
 pub mod Falls

@@ -27,7 +27,7 @@ pub record IsBase {S V : Type 0} (m : Meaning S V) (making : Making S) (b : Base
   pub before : All (λ x. arrived b x.number < b.place) b.waiting
   pub emptied : b.finalized ≡ true → b.waiting ≡ []
   pub ended : b.ended ≤ length ends
-  pub ran : b.ran ≤ b.place
+  pub counted : making.first_place + b.next + b.ran ≤ making.first_number + b.place
 
 -- From the base legal events lead to the state, and they issue calls on public entries alone.
 pub record IsHistory {S V : Type 0} (m : Meaning S V) (making : Making S) (b : Base S V) (s : ObjectState S V) (events : List (Event V)) : Type 0 where

@@ -421,6 +421,13 @@ impl<U: Unit> Core<U> {
         self.recorded.state().next()
     }
 
+    /// How many procedures have run in the whole history, before the base and since.
+    pub fn procedures_run(&self) -> u64
+        ensures { result ≡ procedures_run self.now.object }
+    {
+        self.action.procedures_run()
+    }
+
     /// The clock.
     pub fn clock(&self) -> u64
         ensures { result ≡ self.now.object.state.clock }

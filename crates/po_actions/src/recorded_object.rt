@@ -14,7 +14,7 @@ ghost use Rattle.po_actions.specs.ProtectedAction.{settled, without_event};
 ghost use Rattle.po_actions.specs.Tickets.{place_of_ticket, end_of_ticket};
 ghost use Rattle.po_accepted.specs.Tickets.{number_at, SetsTicket};
 ghost use Rattle.po_actions.specs.Headline.{IsSound};
-ghost use Rattle.po_actions.specs.Cutting.{cut, cut_off, AreVolumes, Leads};
+ghost use Rattle.po_actions.specs.Cutting.{cut, cut_off, procedures_run, AreVolumes, Leads};
 
 use crate::base::Base;
 use crate::making::Making;
@@ -330,6 +330,13 @@ impl<U: Unit> RecordedObject<U> {
         ensures { result ≡ option_map (λ x. x.end) (find (has_ended n) self.now.object.state.ended) }
     {
         self.history.outcome(n)
+    }
+
+    /// How many procedures have run in the whole history.
+    pub(crate) fn procedures_run(&self) -> u64
+        ensures { result ≡ procedures_run self.now.object }
+    {
+        self.ran
     }
 
     /// The place of the next event.

@@ -1,6 +1,6 @@
 //! A part of a history that was cut off.
 
-ghost use Rattle.std.specs.Prelude.{◌≡◌};
+ghost use Rattle.std.specs.Prelude.{◌≡◌, ◌<◌, ◌+◌, ◌^◌, length};
 
 use crate::event::Event;
 use std::marker::Model;
@@ -13,16 +13,20 @@ pub struct Volume<V: Copy> {
 }
 
 impl<V: Copy> Model for Volume<V> {
+    ghost use Rattle.std.specs.Prelude.{◌<◌, ◌+◌, ◌^◌, vec_len};
     ghost use Rattle.po_history.specs.Histories.{VolumeView};
 
     ghost Value = { VolumeView V };
 
     ghost view = { λ v. record { first_place = v.first_place; events = v.events.items } };
+
+    ghost invariant = { λ v. v.first_place + vec_len v.events < 2 ^ 64 };
 }
 
 impl<V: Copy> Volume<V> {
     /// The volume of these events, of which the first has this place.
     pub(crate) fn new(first_place: u64, events: Vec<Event<V>>) -> Volume<V>
+        requires { first_place + length events.items < 2 ^ 64 }
         ensures { result ≡ record { first_place = first_place; events = events.items } }
     {
         Volume {
@@ -43,5 +47,12 @@ impl<V: Copy> Volume<V> {
         ensures { result.now ≡ self.now.events }
     {
         self.events.as_slice()
+    }
+
+    /// The place of the event that came next, which fits: a history is cut at no other places.
+    pub fn place_after(&self) -> u64
+        ensures { result ≡ self.now.first_place + length self.now.events }
+    {
+        self.events.len() as u64 + self.first_place
     }
 }
