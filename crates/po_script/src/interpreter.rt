@@ -68,9 +68,7 @@ impl Interpreter {
             Ok(Some(command)) => command,
         };
         self.begun = begun_after(self.begun, command);
-        let Ok(()) = self.session.answer(alloc, command, &mut self.reply) else {
-            return Err(RunFault::Memory);
-        };
+        self.session.answer(alloc, command, &mut self.reply)?;
         match write_all(writer, self.reply.as_bytes()) {
             Ok(()) => Ok(()),
             Err(_) => Err(RunFault::Write),

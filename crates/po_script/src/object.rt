@@ -9,14 +9,13 @@ ghost use Rattle.po_script.specs.Tickets.{Knows, AreCollected, tickets_of, HasCo
 ghost use Rattle.po_script.specs.Session.{making_of, made_of, after_on, lines_on, view_of};
 
 use crate::operate::operate;
-use crate::session::OutOfMemory;
 use crate::tickets::Tickets;
 use po_actions::{Core, MakeFault, Start};
 use po_classic_units::{Allocator, Broadcast, Buffer, Meeting, Pulse, Relay, Signal, Trap};
 use po_index::{Shape, ShapeFault};
 use po_language::{Beginning, Operation, UnitChoice};
 use po_unit::Unit;
-use std::alloc::Global;
+use std::alloc::{AllocError, Global};
 
 /// The object that a `unit` line made.
 #[derive(Drop)]
@@ -37,7 +36,7 @@ fn make<U: Unit + Drop>(
     shape: Result<Shape, ShapeFault>,
     unit: U,
     beginning: Beginning,
-) -> Result<Core<U>, OutOfMemory>
+) -> Result<Core<U>, AllocError>
     requires counted { IfOk shape (λ s. entry_count s ≡ U.meaning.entries unit) }
     requires within_limits { shape ≢ Err ShapeFault.TooManyEntries }
     ensures core { IfOk result (λ core. IfOk shape (λ s. core.object ≡ opening_view (making_of unit s beginning.order beginning.max_queue))) }
@@ -47,7 +46,7 @@ fn make<U: Unit + Drop>(
 {
     let shape = match shape {
         Ok(shape) => shape,
-        Err(ShapeFault::OutOfMemory) => return Err(OutOfMemory),
+        Err(ShapeFault::OutOfMemory) => return Err(AllocError),
         Err(ShapeFault::TooManyEntries) => unreachable!(),
     };
     let start = Start {
@@ -57,7 +56,7 @@ fn make<U: Unit + Drop>(
     };
     match Core::start(alloc, unit, shape, beginning.order, start) {
         Ok(core) => Ok(core),
-        Err(MakeFault::OutOfMemory) => Err(OutOfMemory),
+        Err(MakeFault::OutOfMemory) => Err(AllocError),
         Err(MakeFault::ShapeMismatch) => unreachable!(),
     }
 }
@@ -65,7 +64,7 @@ fn make<U: Unit + Drop>(
 #[tactic(auto)]
 impl Object {
     /// The object that a `unit` line begins.
-    pub(crate) fn new(alloc: Global, beginning: Beginning) -> Result<Object, OutOfMemory>
+    pub(crate) fn new(alloc: Global, beginning: Beginning) -> Result<Object, AllocError>
         requires { HasSize beginning.unit }
         ensures object { IfOk result (λ object. view_of object ≡ made_of beginning.unit beginning.order beginning.max_queue) }
         ensures tickets { IfOk result (λ object. tickets_of object ≡ []) }
@@ -73,9 +72,7 @@ impl Object {
     {
         match beginning.unit {
             UnitChoice::Buffer { capacity } => {
-                let Ok(unit) = Buffer::new(alloc, capacity) else {
-                    return Err(OutOfMemory);
-                };
+                let unit = Buffer::new(alloc, capacity)?;
                 Ok(Object::Buffer(make(alloc, unit.shape(alloc), unit, beginning)?))
             }
             UnitChoice::Signal => {
@@ -115,7 +112,7 @@ impl Object {
         tickets: &mut Tickets,
         operation: Operation,
         reply: &mut String,
-    ) -> Result<(), OutOfMemory>
+    ) -> Result<(), AllocError>
         requires empty { string_bytes reply.old ≡ [] }
         requires knows { Knows (tickets_of self.old) tickets.old }
         requires collected { HasCollected self.old }

@@ -13,21 +13,21 @@ use crate::lines::{
     push_abort, push_clock, push_count, push_ended, push_final, push_next, push_refused,
     push_reply, push_ticket, push_value,
 };
-use crate::session::OutOfMemory;
 use crate::tickets::Tickets;
 use po_actions::{Core, Deadline, Refusal};
 use po_index::EntryRef;
 use po_language::Operation;
 use po_unit::Unit;
+use std::alloc::AllocError;
 
 /// Puts the line of a refusal into the empty reply. Want of memory is no line.
-fn refuse(reply: &mut String, refusal: Refusal) -> Result<(), OutOfMemory>
+fn refuse(reply: &mut String, refusal: Refusal) -> Result<(), AllocError>
     requires { string_bytes reply.old ≡ [] }
     ensures line { OnOk result (string_bytes reply.new ≡ refused_line refusal) }
     ensures memory { OnOk result (is_memory refusal ≡ false) }
 {
     if refusal == Refusal::OutOfMemory {
-        return Err(OutOfMemory);
+        return Err(AllocError);
     }
     push_refused(reply, refusal)
 }
@@ -63,9 +63,9 @@ fn collect<U: Unit<Value = u64>>(core: &mut Core<U>, tickets: &mut Tickets)
 fn finish<U: Unit<Value = u64>>(
     core: &mut Core<U>,
     tickets: &mut Tickets,
-    answered: Result<(), OutOfMemory>,
+    answered: Result<(), AllocError>,
     reply: &mut String,
-) -> Result<(), OutOfMemory>
+) -> Result<(), AllocError>
     requires { Knows core.old.tickets tickets.old }
     ensures object { core.new.object ≡ core.old.object }
     ensures answered { OnOk result (IsOk answered) }
@@ -90,7 +90,7 @@ fn call<U: Unit<Value = u64>>(
     value: u64,
     deadline: Deadline,
     reply: &mut String,
-) -> Result<(), OutOfMemory>
+) -> Result<(), AllocError>
     requires empty { string_bytes reply.old ≡ [] }
     requires knows { Knows core.old.tickets tickets.old }
     requires collected { AreCollected core.old }
@@ -119,7 +119,7 @@ fn run<U: Unit<Value = u64>>(
     op: u16,
     value: u64,
     reply: &mut String,
-) -> Result<(), OutOfMemory>
+) -> Result<(), AllocError>
     requires empty { string_bytes reply.old ≡ [] }
     requires knows { Knows core.old.tickets tickets.old }
     requires collected { AreCollected core.old }
@@ -143,7 +143,7 @@ fn read<U: Unit<Value = u64>>(
     op: u16,
     value: u64,
     reply: &mut String,
-) -> Result<(), OutOfMemory>
+) -> Result<(), AllocError>
     requires { string_bytes reply.old ≡ [] }
     ensures object { OnOk result (core.now.object ≡ after_operation U.meaning core.now.object (Operation.Read op value)) }
     ensures lines { OnOk result (string_bytes reply.new ≡ reply_lines U.meaning core.now.object (Operation.Read op value)) }
@@ -160,7 +160,7 @@ fn abort<U: Unit<Value = u64>>(
     tickets: &mut Tickets,
     n: u64,
     reply: &mut String,
-) -> Result<(), OutOfMemory>
+) -> Result<(), AllocError>
     requires empty { string_bytes reply.old ≡ [] }
     requires knows { Knows core.old.tickets tickets.old }
     requires collected { AreCollected core.old }
@@ -185,7 +185,7 @@ fn tick<U: Unit<Value = u64>>(
     tickets: &mut Tickets,
     time: u64,
     reply: &mut String,
-) -> Result<(), OutOfMemory>
+) -> Result<(), AllocError>
     requires empty { string_bytes reply.old ≡ [] }
     requires knows { Knows core.old.tickets tickets.old }
     requires collected { AreCollected core.old }
@@ -208,7 +208,7 @@ fn finalize<U: Unit<Value = u64>>(
     core: &mut Core<U>,
     tickets: &mut Tickets,
     reply: &mut String,
-) -> Result<(), OutOfMemory>
+) -> Result<(), AllocError>
     requires empty { string_bytes reply.old ≡ [] }
     requires knows { Knows core.old.tickets tickets.old }
     requires collected { AreCollected core.old }
@@ -232,7 +232,7 @@ fn push_entry<U: Unit<Value = u64>>(
     flat: u16,
     names: &[&str],
     reply: &mut String,
-) -> Result<(), OutOfMemory>
+) -> Result<(), AllocError>
     requires { flat < entry_count core.now.object.making.shape }
     ensures { OnOk result ((reference : Reference)
         × (slice_get (entry_references core.now.object.making.shape) flat ≡ Some reference)
@@ -251,7 +251,7 @@ fn push_entries<U: Unit<Value = u64>>(
     core: &Core<U>,
     names: &[&str],
     reply: &mut String,
-) -> Result<(), OutOfMemory>
+) -> Result<(), AllocError>
     ensures { OnOk result (string_bytes reply.new ≡ string_bytes reply.old ++ entry_lines U.meaning (texts_of names.now) core.now.object) }
 {
     for flat in 0..core.shape().total() {
@@ -265,7 +265,7 @@ fn show<U: Unit<Value = u64>>(
     core: &Core<U>,
     names: &[&str],
     reply: &mut String,
-) -> Result<(), OutOfMemory>
+) -> Result<(), AllocError>
     requires { string_bytes reply.old ≡ [] }
     ensures { OnOk result (string_bytes reply.new ≡ show_lines U.meaning (texts_of names.now) core.now.object) }
 {
@@ -282,7 +282,7 @@ pub(crate) fn operate<U: Unit<Value = u64>>(
     operation: Operation,
     names: &[&str],
     reply: &mut String,
-) -> Result<(), OutOfMemory>
+) -> Result<(), AllocError>
     requires empty { string_bytes reply.old ≡ [] }
     requires knows { Knows core.old.tickets tickets.old }
     requires collected { AreCollected core.old }

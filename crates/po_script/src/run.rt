@@ -42,9 +42,7 @@ impl Run {
         ensures ok { IfOk result (λ run. (start : Option (List ℕ)) → Stands run [] start start) }
         ensures err { IfErr result (λ fault. fault ≡ RunFault.Memory) }
     {
-        let Ok(line) = Vec::with_capacity(alloc, LINE_LIMIT) else {
-            return Err(RunFault::Memory);
-        };
+        let line = Vec::with_capacity(alloc, LINE_LIMIT)?;
         Ok(Run {
             line,
             number: 1,

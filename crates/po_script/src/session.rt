@@ -7,11 +7,7 @@ ghost use Rattle.po_script.specs.Tickets.{Knows, tickets_of, HasCollected};
 use crate::object::Object;
 use crate::tickets::Tickets;
 use po_language::Command;
-use std::alloc::Global;
-
-/// Memory ran out.
-#[derive(Clone, Copy, Debug, PartialEq, Eq)]
-pub struct OutOfMemory;
+use std::alloc::{AllocError, Global};
 
 /// A session: the object that a line began, if one did, and the tickets of its uncollected calls.
 #[derive(Drop)]
@@ -43,7 +39,7 @@ impl Session {
         alloc: Global,
         command: Command,
         reply: &mut String,
-    ) -> Result<(), OutOfMemory>
+    ) -> Result<(), AllocError>
         requires { CanBegin command }
         ensures state { OnOk result (state_of self.new ≡ after (state_of self.old) command) }
         ensures text { OnOk result (string_bytes reply.new ≡ answer (state_of self.old) command) }
