@@ -1,10 +1,10 @@
 -- How a run ends, by its fault.
 use Rattle.std.proofs.Common.{◌≡◌, ◌⊎◌, ℕ, ◌+◌, ◌<◌, ◌≤◌, eqb, Bool, true, false, List, [], ◌∷◌, ◌++◌, length, take, drop, get_or, Option, Result, Ok, Err, IfErr, ◌||◌, ◌==◌, refl, sym, ap, ◌∙◌, inl, inr, append_assoc}
-use Rattle.std.proofs.lemmas.List.{append-nil, take-append-drop, drop_more}
+use Rattle.std.proofs.lemmas.List.{take-append-drop, drop_more}
 use Rattle.std.specs.Io.KnownBytes.{Appends}
-use Rattle.po_script.proofs.FailLemmas.{memory_ends, script_ends, write_ends, past_ends, long_ends, end_well, end_script, end_write}
+use Rattle.po_script.proofs.FailLemmas.{wanted_ends, end_wanted, script_ends, write_ends, past_ends, long_ends, end_well, end_script, end_write}
 use Rattle.po_language.specs.Commands.{command_of}
-use Rattle.po_script.specs.Script.{cut}
+use Rattle.po_script.specs.Script.{cut, whole_lines}
 use Rattle.po_script.specs.Session.{state_of, answer}
 use Rattle.po_script.specs.AnySession.{text_with}
 use Rattle.po_script.specs.Ends.{IsLineRead, EndsAs, EndsWell}
@@ -42,7 +42,8 @@ module _ (run : Run) (bytes : List ℕ) (start now : Option (List ℕ)) (s : Sta
       let e = write_ends _ _ _ _ _ _ _ _ bytes start now s more later h.0 h.2 room short h.1 h.3 in
       (refl, h.4, e.0, e.1, e.2, e.3)
   newline_ends Memory more later before bad ended room short fine h =
-      (refl, h.1 ∙ fine, length (cut bytes).full, rw h.0 (memory_ends _ _ _ _ _ _ _ _ bytes start now s (10 ∷ more)))
+      let w = wanted_ends _ _ _ _ _ _ _ _ bytes start now s more h.0 ended room short h.1 in
+      (refl, h.3 ∙ fine, (whole_lines bytes).commands, inr (h.0, w.0, w.1), rw h.2 s.told)
 
   pub run_past_ends : (b : ℕ) (more : List ℕ) (ended : Bool) → run.total ≡ 67108864 → length run.line.items ≤ 4096 → EndsAs (Script run.number ScriptTooLong) (bytes ++ b ∷ more) start now ended false false
   run_past_ends b more ended all short = let e = past_ends _ _ _ _ _ _ _ _ bytes start now s b more all short in (e.0, tt, refl, refl, e.1)
@@ -60,7 +61,7 @@ module _ (run : Run) (bytes : List ℕ) (start now : Option (List ℕ)) (s : Sta
       let e = end_write _ _ _ _ _ _ _ _ bytes start now s later h.0 h.2 room short h.1 h.3 in
       (refl, h.4, e.0, e.1, e.2, e.3)
   end_ends Memory later before bad room short fine h =
-      (refl, h.1 ∙ fine, length (cut bytes).full, rw h.0 (rw append-nil at (memory_ends _ _ _ _ _ _ _ _ bytes start now s [])))
+      (refl, h.3 ∙ fine, (whole_lines bytes).commands, inr (h.0, [], end_wanted _ _ _ _ _ _ _ _ bytes start now s h.0 room short h.1), rw h.2 s.told)
 
   -- the last line is carried out
   pub run_end_well : (c : Option Command) (later : Option (List ℕ)) (bad : Bool) → run.total ≤ 67108864 → length run.line.items ≤ 4096 → command_of run.interpreter.begun run.line.items ≡ Ok c → Appends now later (text_with answer (state_of run.interpreter.session) c) → bad ≡ false → EndsWell bytes start later true false bad

@@ -1,15 +1,15 @@
 -- What a script says and its answers are, over any session, where a line isn't carried out or is the last.
-use Rattle.std.proofs.Common.{◌≡◌, ℕ, ◌+◌, ◌<◌, ◌≤◌, eqb, false, List, [], ◌∷◌, ◌++◌, length, take, drop, Option, Some, None, Result, Ok, Err, refl, sym, ap, ◌∙◌, arith, append_assoc, length-append}
-use Rattle.std.proofs.lemmas.List.{length_push, take_at, take-append-drop}
+use Rattle.std.proofs.Common.{◌≡◌, ℕ, ◌+◌, ◌<◌, ◌≤◌, eqb, Bool, true, false, List, [], ◌∷◌, ◌++◌, length, take, drop, Option, Some, None, Result, Ok, Err, sym, ap, ◌∙◌, arith, append_assoc, length-append}
+use Rattle.std.proofs.lemmas.List.{length_push, take-append-drop}
 use Rattle.std.proofs.lemmas.Bool.{le-ltb}
 use Rattle.std.proofs.KnownBytes.{Appends-trans}
 use Rattle.std.specs.Io.KnownBytes.{Appends}
 use Rattle.po_script.proofs.CutLemmas.{full_grows, cut-newline}
-use Rattle.po_script.proofs.ReadingLemmas.{extend, reading-push, text_by-append}
+use Rattle.po_script.proofs.ReadingLemmas.{extend, reading-push, reading_front, text_by-append}
 use Rattle.po_script.proofs.StandLemmas.{line_of-short, whole_lines-newline, extend-fine, extend-text}
 use Rattle.po_script.proofs.ScriptLemmas.{script_within-all, script_front, script_fault, script_past, script_long}
 use Rattle.po_language.specs.Commands.{command_of}
-use Rattle.po_script.specs.Script.{Cut, cut, Reading, reading, whole_lines, line_of, script_of, script_within}
+use Rattle.po_script.specs.Script.{Cut, cut, Reading, reading, whole_lines, line_of, script_of, script_within, commands_read}
 use Rattle.po_script.specs.AnySession.{begun_by, state_by, text_by, text_with, StandsBy}
 use Rattle.po_language.specs.declared.command.UnitChoice.{UnitChoice}
 use Rattle.po_language.specs.declared.command.Command.{Command}
@@ -20,8 +20,13 @@ use Rattle.po_language.specs.declared.command.FaultKind.TheVariants.{ScriptTooLo
 parted : (bytes : List ℕ) (b : ℕ) (more : List ℕ) → bytes ++ b ∷ more ≡ (bytes ++ b ∷ []) ++ more
 parted bytes b more = sym (append_assoc bytes (b ∷ []) more)
 
-front_taken : (bytes more : List ℕ) → take (length (cut bytes).full) (cut (bytes ++ more)).full ≡ (cut bytes).full
-front_taken bytes more = let m = full_grows bytes more in ap (λ ls. take (length (cut bytes).full) ls) m.1 ∙ take_at (cut bytes).full m.0 (length (cut bytes).full) refl
+-- the commands read of more bytes begin with those of the whole lines so far
+read_front : (ended : Bool) (bytes more : List ℕ) → length bytes ≤ 67108864 → (cs : List Command) × (commands_read (bytes ++ more) ended ≡ (whole_lines bytes).commands ++ cs)
+read_front true bytes more h = script_front 67108864 bytes more h
+read_front false bytes more h =
+    let m = full_grows bytes more in
+    let r = reading_front None 1 (cut bytes).full m.0 in
+    (r.0, ap (λ ls. (reading None 1 ls).commands) m.1 ∙ r.1)
 
 -- a part of a text is taken, and the rest follows
 split_text : (first text : List ℕ) (k : ℕ) (tail : List ℕ) → (first ++ text) ++ tail ≡ (first ++ take k text) ++ (drop k text ++ tail)
@@ -31,9 +36,12 @@ module _ {S : Type 0} (after : S → Command → S) (answer : S → Command → 
   says_rest : (says : Result (Option Command) FaultKind) → length line ≤ 4096 → command_of begun line ≡ says → line_of (begun_by None (whole_lines bytes).commands) (cut bytes).rest ≡ says
   says_rest says short e = rw (← s.begun_is, ← s.line_is) (line_of-short begun line short ∙ e)
 
-  -- the answers so far are those of some first lines
-  pub memory_ends : (more : List ℕ) → Appends start now (text_by after answer opening (reading None 1 (take (length (cut bytes).full) (cut (bytes ++ more)).full)).commands)
-  memory_ends more = rw (front_taken bytes more) s.told
+  -- the commands so far, that of a line which a newline ends, and others
+  pub wanted_ends : (more : List ℕ) (c : Command) (ended : Bool) → total < 67108864 → length line ≤ 4096 → command_of begun line ≡ Ok (Some c) → (later : List Command) × (commands_read (bytes ++ 10 ∷ more) ended ≡ (whole_lines bytes).commands ++ c ∷ later)
+  wanted_ends more c ended room short says =
+      let w = whole_lines-newline bytes (Ok (Some c)) s.fine (says_rest (Ok (Some c)) short says) in
+      let front = read_front ended (bytes ++ 10 ∷ []) more (omega (arith, s.total_is, length_push bytes 10)) in
+      (front.0, ap (λ b. commands_read b ended) (parted bytes 10 more) ∙ front.1 ∙ ap (λ (q : Reading). q.commands ++ front.0) w ∙ append_assoc (whole_lines bytes).commands (c ∷ []) front.0)
 
   -- a newline whose line has a fault
   pub script_ends : (more : List ℕ) (n : ℕ) (k : FaultKind) → total < 67108864 → length line ≤ 4096 → command_of begun line ≡ Err k → n ≡ number → ((script_of (bytes ++ 10 ∷ more)).fault ≡ Some (n, k)) × (n ≤ length (cut (bytes ++ 10 ∷ more)).full) × Appends start now (text_by after answer opening (script_of (bytes ++ 10 ∷ more)).commands)
@@ -76,6 +84,10 @@ module _ {S : Type 0} (after : S → Command → S) (answer : S → Command → 
   at_end : (says : Result (Option Command) FaultKind) → total ≤ 67108864 → length line ≤ 4096 → command_of begun line ≡ says → script_of bytes ≡ extend (whole_lines bytes) (1 + length (cut bytes).full) says
   at_end says room short e =
       script_within-all 67108864 bytes (le-ltb 67108864 (length bytes) (omega (arith, s.total_is))) ∙ reading-push None 1 (cut bytes).full (cut bytes).rest s.fine ∙ ap (extend (whole_lines bytes) (1 + length (cut bytes).full)) (says_rest says short e)
+
+  -- the commands so far, and that of the last line
+  pub end_wanted : (c : Command) → total ≤ 67108864 → length line ≤ 4096 → command_of begun line ≡ Ok (Some c) → (script_of bytes).commands ≡ (whole_lines bytes).commands ++ c ∷ []
+  end_wanted c room short says = ap (λ (q : Reading). q.commands) (at_end (Ok (Some c)) room short says)
 
   -- the last line is carried out
   pub end_well : (c : Option Command) (later : Option (List ℕ)) → total ≤ 67108864 → length line ≤ 4096 → command_of begun line ≡ Ok c → Appends now later (text_with answer state c) → ((script_of bytes).fault ≡ None) × Appends start later (text_by after answer opening (script_of bytes).commands)

@@ -1,7 +1,7 @@
 -- What a script's run writes, and how it ends.
-use Rattle.std.specs.Prelude.{ℕ, ◌≡◌, ◌≤◌, ◌⊎◌, Bool, true, false, List, ◌++◌, length, take, Option, Some, None}
+use Rattle.std.specs.Prelude.{ℕ, ◌≡◌, ◌≤◌, ◌⊎◌, Bool, true, false, List, [], ◌∷◌, ◌++◌, length, Option, Some, None}
 use Rattle.std.specs.Io.KnownBytes.{Appends}
-use Rattle.po_script.specs.Script.{cut, reading, whole_lines, script_of}
+use Rattle.po_script.specs.Script.{cut, whole_lines, script_of, commands_read}
 use Rattle.po_script.specs.Session.{SessionState, opening_state, after, answer}
 use Rattle.po_script.specs.AnySession.{state_by, text_by}
 use Rattle.po_language.specs.declared.command.Command.{Command}
@@ -28,6 +28,12 @@ IsLineRead ScriptTooLong n bytes ended = Unit {0}
 IsLineRead LineTooLong n bytes ended = Unit {0}
 IsLineRead _ n bytes ended = (n ≤ length (cut bytes).full) ⊎ (ended ≡ true)
 
+-- memory was wanting after these commands: for the next one of the lines that were read whole, or before the first byte
+abbrev pub WantsMemoryAfter : List Command → List ℕ → Bool → Type 0
+WantsMemoryAfter first bytes ended =
+    ((first ≡ []) × (bytes ≡ []))
+    ⊎ ((command : Command) × (later : List Command) × (commands_read bytes ended ≡ first ++ command ∷ later))
+
 -- a run that read these bytes ended well: what the writer had and has; whether the reader gave no byte, whether it
 -- failed, and whether the writer failed or took none
 abbrev pub EndsWell : List ℕ → Option (List ℕ) → Option (List ℕ) → Bool → Bool → Bool → Type 0
@@ -53,4 +59,5 @@ EndsAs Write bytes start now ended failed bad =
     × Appends start now text
 EndsAs Memory bytes start now ended failed bad =
     (failed ≡ false) × (bad ≡ false)
-    × (lines : ℕ) × Appends start now (answers opening_state (reading None 1 (take lines (cut bytes).full)).commands)
+    × (first : List Command) × WantsMemoryAfter first bytes ended
+    × Appends start now (answers opening_state first)

@@ -1,5 +1,5 @@
 -- What carrying out a line does.
-use Rattle.std.specs.Prelude.{ℕ, ◌≡◌, Bool, true, List, take, Option, Ok, Err}
+use Rattle.std.specs.Prelude.{ℕ, ◌≡◌, Bool, true, List, take, Option, Some, Ok, Err}
 use Rattle.std.specs.Io.KnownBytes.{Appends}
 use Rattle.po_language.specs.Commands.{command_of}
 use Rattle.po_script.specs.Session.{state_of, after, answer}
@@ -26,4 +26,6 @@ Fails Write old number line had has before bad =
     (command : Option Command) × (command_of old.begun line ≡ Ok command)
     × (count : ℕ) × Appends had has (take count (text_with answer (state_of old.session) command))
     × (bad ≡ true)
-Fails Memory old number line had has before bad = (has ≡ had) × (bad ≡ before)
+Fails Memory old number line had has before bad =
+    (command : Command) × (command_of old.begun line ≡ Ok (Some command))
+    × (has ≡ had) × (bad ≡ before)

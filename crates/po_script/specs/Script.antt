@@ -1,5 +1,5 @@
 -- What a script says: its lines, and its commands up to the first fault.
-use Rattle.std.specs.Prelude.{ℕ, ◌+◌, nat_lt, ◌==◌, List, [], ◌∷◌, ◌++◌, length, take, Option, Some, None, Result, Ok, Err, if◌then◌else◌}
+use Rattle.std.specs.Prelude.{ℕ, ◌+◌, nat_lt, ◌==◌, Bool, true, false, List, [], ◌∷◌, ◌++◌, length, take, Option, Some, None, Result, Ok, Err, if◌then◌else◌}
 use Rattle.po_language.specs.Commands.{command_of}
 use Rattle.po_language.specs.declared.command.UnitChoice.{UnitChoice}
 use Rattle.po_language.specs.declared.command.Command.{Command}
@@ -74,3 +74,8 @@ script_within most bytes =
 -- what the script says: a script has at most 67,108,864 bytes
 abbrev pub script_of : List ℕ → Reading
 script_of bytes = script_within 67108864 bytes
+
+-- the commands of the lines that were read whole: a newline stands behind each, or the end
+abbrev pub commands_read : List ℕ → Bool → List Command
+commands_read bytes true = (script_of bytes).commands
+commands_read bytes false = (whole_lines bytes).commands

@@ -1,11 +1,12 @@
 //! The object of a script: a core of one of the units.
 
-ghost use Rattle.std.specs.Prelude.{◌≡◌, ◌≢◌, [], IfOk, OnOk, IsOk, Err, string_bytes};
+ghost use Rattle.std.specs.Prelude.{◌≡◌, ◌≢◌, [], IfOk, OnOk, OnErr, IsOk, Err, string_bytes};
 ghost use Rattle.po_index.specs.Numbering.{entry_count};
 ghost use Rattle.po_index.specs.declared.fault.ShapeFault.{ShapeFault};
 ghost use Rattle.po_actions.specs.View.{opening_view};
 ghost use Rattle.po_language.specs.Commands.{HasSize};
 ghost use Rattle.po_script.specs.Tickets.{Knows, AreCollected, tickets_of, HasCollected};
+ghost use Rattle.po_script.specs.Operations.{IsEither};
 ghost use Rattle.po_script.specs.Session.{making_of, made_of, after_on, lines_on, view_of};
 
 use crate::operate::operate;
@@ -117,6 +118,7 @@ impl Object {
         requires knows { Knows (tickets_of self.old) tickets.old }
         requires collected { HasCollected self.old }
         ensures object { OnOk result (view_of self.new ≡ after_on (view_of self.old) operation) }
+        ensures failed { OnErr result (IsEither (view_of self.new) (view_of self.old) (after_on (view_of self.old) operation)) }
         ensures lines { OnOk result (string_bytes reply.new ≡ lines_on (view_of self.old) operation) }
         ensures knows { Knows (tickets_of self.new) tickets.new }
         ensures collected { HasCollected self.new }

@@ -1,11 +1,11 @@
 //! The operations of a script, carried out on the core of any unit.
 
-ghost use Rattle.std.specs.Prelude.{◌≡◌, ℕ, ◌<◌, ◌++◌, [], Some, slice_get, OnOk, IsOk, string_bytes, false};
+ghost use Rattle.std.specs.Prelude.{◌≡◌, ℕ, ◌<◌, ◌++◌, [], Some, slice_get, OnOk, OnErr, IsOk, string_bytes, false};
 ghost use Rattle.po_actions.specs.View.{ended_now};
 ghost use Rattle.po_index.specs.Numbering.{entry_count, entry_references};
 ghost use Rattle.po_index.specs.declared.decl.EntryRef.{EntryRef as Reference};
 ghost use Rattle.po_classic_units.specs.Names.{texts_of};
-ghost use Rattle.po_script.specs.Operations.{after_operation, reply_lines, operation_lines, entry_line, entry_lines, show_lines, is_memory};
+ghost use Rattle.po_script.specs.Operations.{after_operation, reply_lines, operation_lines, entry_line, entry_lines, show_lines, is_memory, IsEither};
 ghost use Rattle.po_script.specs.Lines.{refused_line, ended_lines};
 ghost use Rattle.po_script.specs.Tickets.{Knows, IsCollected, HasEnded, AreCollected};
 
@@ -95,6 +95,7 @@ fn call<U: Unit<Value = u64>>(
     requires knows { Knows core.old.tickets tickets.old }
     requires collected { AreCollected core.old }
     ensures object { OnOk result (core.new.object ≡ after_operation U.meaning core.old.object (Operation.Call entry value deadline)) }
+    ensures failed { OnErr result (IsEither core.new.object core.old.object (after_operation U.meaning core.old.object (Operation.Call entry value deadline))) }
     ensures lines { OnOk result (string_bytes reply.new ≡ reply_lines U.meaning core.old.object (Operation.Call entry value deadline)) }
     ensures knows { Knows core.new.tickets tickets.new }
     ensures collected { AreCollected core.new }
@@ -124,6 +125,7 @@ fn run<U: Unit<Value = u64>>(
     requires knows { Knows core.old.tickets tickets.old }
     requires collected { AreCollected core.old }
     ensures object { OnOk result (core.new.object ≡ after_operation U.meaning core.old.object (Operation.Run op value)) }
+    ensures failed { OnErr result (IsEither core.new.object core.old.object (after_operation U.meaning core.old.object (Operation.Run op value))) }
     ensures lines { OnOk result (string_bytes reply.new ≡ reply_lines U.meaning core.old.object (Operation.Run op value)) }
     ensures knows { Knows core.new.tickets tickets.new }
     ensures collected { AreCollected core.new }
@@ -165,6 +167,7 @@ fn abort<U: Unit<Value = u64>>(
     requires knows { Knows core.old.tickets tickets.old }
     requires collected { AreCollected core.old }
     ensures object { OnOk result (core.new.object ≡ after_operation U.meaning core.old.object (Operation.Abort n)) }
+    ensures failed { OnErr result (IsEither core.new.object core.old.object (after_operation U.meaning core.old.object (Operation.Abort n))) }
     ensures lines { OnOk result (string_bytes reply.new ≡ reply_lines U.meaning core.old.object (Operation.Abort n)) }
     ensures knows { Knows core.new.tickets tickets.new }
     ensures collected { AreCollected core.new }
@@ -190,6 +193,7 @@ fn tick<U: Unit<Value = u64>>(
     requires knows { Knows core.old.tickets tickets.old }
     requires collected { AreCollected core.old }
     ensures object { OnOk result (core.new.object ≡ after_operation U.meaning core.old.object (Operation.Tick time)) }
+    ensures failed { OnErr result (IsEither core.new.object core.old.object (after_operation U.meaning core.old.object (Operation.Tick time))) }
     ensures lines { OnOk result (string_bytes reply.new ≡ reply_lines U.meaning core.old.object (Operation.Tick time)) }
     ensures knows { Knows core.new.tickets tickets.new }
     ensures collected { AreCollected core.new }
@@ -213,6 +217,7 @@ fn finalize<U: Unit<Value = u64>>(
     requires knows { Knows core.old.tickets tickets.old }
     requires collected { AreCollected core.old }
     ensures object { OnOk result (core.new.object ≡ after_operation U.meaning core.old.object Operation.Finalize) }
+    ensures failed { OnErr result (IsEither core.new.object core.old.object (after_operation U.meaning core.old.object Operation.Finalize)) }
     ensures lines { OnOk result (string_bytes reply.new ≡ reply_lines U.meaning core.old.object Operation.Finalize) }
     ensures knows { Knows core.new.tickets tickets.new }
     ensures collected { AreCollected core.new }
@@ -287,6 +292,7 @@ pub(crate) fn operate<U: Unit<Value = u64>>(
     requires knows { Knows core.old.tickets tickets.old }
     requires collected { AreCollected core.old }
     ensures object { OnOk result (core.new.object ≡ after_operation U.meaning core.old.object operation) }
+    ensures failed { OnErr result (IsEither core.new.object core.old.object (after_operation U.meaning core.old.object operation)) }
     ensures lines { OnOk result (string_bytes reply.new ≡ operation_lines U.meaning (texts_of names.now) core.old.object operation) }
     ensures knows { Knows core.new.tickets tickets.new }
     ensures collected { AreCollected core.new }

@@ -1,6 +1,6 @@
 //! A run of a script, from the bytes to the answers.
 
-ghost use Rattle.std.specs.Prelude.{◌≡◌, ◌+◌, ◌<◌, ◌≤◌, ◌∷◌, [], ◌||◌, List, Option, ℕ, Bool, true, false, eqb, vec_len, vec_capacity, length, OnOk, IfOk, IfErr};
+ghost use Rattle.std.specs.Prelude.{◌≡◌, ◌+◌, ◌<◌, ◌≤◌, ◌∷◌, [], ◌||◌, List, Option, ℕ, Bool, true, false, eqb, vec_len, vec_capacity, length, OnOk, IfOk, Err, IfErr};
 ghost use Rattle.std.specs.Io.KnownBytes.{Consumes};
 ghost use Rattle.po_script.specs.Ends.{EndsWell, EndsAs};
 ghost use Rattle.po_script.specs.declared.run.TheConstants.{LINE_LIMIT, SCRIPT_LIMIT};
@@ -87,8 +87,9 @@ impl Run {
         requires other { eqb byte 10 ≡ false }
         ensures ok { (now : Option (List ℕ)) → OnOk result (GoesOn self.old self.new (byte ∷ []) now now) }
         ensures total { OnOk result (self.new.total ≡ self.old.total + 1) }
-        ensures err { (now : Option (List ℕ)) (bad : Bool)
-            → IfErr result (λ fault. FailsAt fault self.old (byte ∷ []) now now bad bad) }
+        ensures short { OnOk result (vec_len self.old.line < LINE_LIMIT) }
+        ensures err { IfErr result (λ fault. (vec_len self.old.line ≡ LINE_LIMIT)
+            × (fault ≡ RunFault.Script self.old.number FaultKind.LineTooLong)) }
     {
         if self.line.len() == LINE_LIMIT {
             return Err(self.fault(FaultKind::LineTooLong));
@@ -100,6 +101,8 @@ impl Run {
 
     /// Takes the next byte.
     fn byte<W: Sink>(&mut self, alloc: Global, byte: u8, writer: &mut W) -> Result<(), RunFault>
+        ensures at_limit { self.old.total ≡ SCRIPT_LIMIT
+            → result ≡ Err (RunFault.Script self.old.number FaultKind.ScriptTooLong) }
         ensures ok { OnOk result (GoesOn self.old self.new (byte ∷ [])
             (W.taken writer.old) (W.taken writer.new)) }
         ensures fine { OnOk result ((W.failed writer.new ≡ W.failed writer.old)

@@ -1,7 +1,8 @@
 //! What the commands of a script are carried out on.
 
-ghost use Rattle.std.specs.Prelude.{◌≡◌, OnOk, string_bytes};
+ghost use Rattle.std.specs.Prelude.{◌≡◌, OnOk, OnErr, string_bytes};
 ghost use Rattle.std.specs.Option.{ForSome};
+ghost use Rattle.po_script.specs.Operations.{IsEither};
 ghost use Rattle.po_script.specs.Tickets.{Knows, tickets_of, HasCollected};
 
 use crate::object::Object;
@@ -34,6 +35,9 @@ impl Session {
     }
 
     /// Carries out the command, and puts the lines that answer it in the place of the reply's text.
+    ///
+    /// Where memory is wanting the command was carried out or it wasn't, and nothing is said of the reply's text: the run
+    /// ends there, and writes none of it.
     pub fn answer(
         &mut self,
         alloc: Global,
@@ -42,6 +46,7 @@ impl Session {
     ) -> Result<(), AllocError>
         requires { CanBegin command }
         ensures state { OnOk result (state_of self.new ≡ after (state_of self.old) command) }
+        ensures failed { OnErr result (IsEither (state_of self.new) (state_of self.old) (after (state_of self.old) command)) }
         ensures text { OnOk result (string_bytes reply.new ≡ answer (state_of self.old) command) }
     {
         reply.clear();
