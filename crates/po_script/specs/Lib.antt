@@ -8,3 +8,4 @@ pub mod AnySession
 pub mod Ends
 pub mod Interpreter
 pub mod Run
+pub mod Source

@@ -2,6 +2,7 @@
 
 ghost use Rattle.std.specs.Prelude.{◌≡◌, ◌+◌, ◌<◌, ◌≤◌, ◌∷◌, [], ◌||◌, List, Option, ℕ, Bool, true, false, eqb, vec_len, vec_capacity, length, OnOk, IfOk, Err, IfErr};
 ghost use Rattle.std.specs.Io.KnownBytes.{Consumes};
+ghost use Rattle.po_script.specs.Source.{CountsMore};
 ghost use Rattle.po_script.specs.Ends.{EndsWell, EndsAs};
 ghost use Rattle.po_script.specs.declared.run.TheConstants.{LINE_LIMIT, SCRIPT_LIMIT};
 
@@ -166,6 +167,8 @@ impl Run {
         requires fresh { Stands self.old [] (W.taken writer.old) (W.taken writer.old) }
         requires reader { (R.failed reader.old ≡ false) × (R.ended reader.old ≡ false) }
         requires writer { (W.failed writer.old || W.stuck writer.old) ≡ false }
+        ensures reads { (more : ℕ) × (more ≤ SCRIPT_LIMIT + 1)
+            × CountsMore (R.reads reader.old) (R.reads reader.new) more }
         ensures ok { OnOk result ((bytes : List ℕ) × Consumes (R.left reader.old) (R.left reader.new) bytes
             × EndsWell bytes (W.taken writer.old) (W.taken writer.new) (R.ended reader.new) (R.failed reader.new)
             (W.failed writer.new || W.stuck writer.new)) }
@@ -195,6 +198,8 @@ pub fn run_script<R: Source, W: Sink>(
 ) -> Result<(), RunFault>
     requires reader { (R.failed reader.old ≡ false) × (R.ended reader.old ≡ false) }
     requires writer { (W.failed writer.old || W.stuck writer.old) ≡ false }
+    ensures reads { (more : ℕ) × (more ≤ SCRIPT_LIMIT + 1)
+        × CountsMore (R.reads reader.old) (R.reads reader.new) more }
     ensures ok { OnOk result ((bytes : List ℕ) × Consumes (R.left reader.old) (R.left reader.new) bytes
         × EndsWell bytes (W.taken writer.old) (W.taken writer.new) (R.ended reader.new) (R.failed reader.new)
         (W.failed writer.new || W.stuck writer.new)) }
