@@ -8,6 +8,9 @@ use crate::source::{IoFailed, Source};
 use std::io::{Read, Write};
 
 /// A reader or a writer of std, and what its calls have shown.
+///
+/// Each call asks once what lies under it, and fails where that fails. No clause says that it fails nowhere else: std says of no
+/// call of a reader or a writer that it succeeds.
 #[derive(Drop)]
 pub struct OverStd<T> {
     inner: T,
