@@ -1,5 +1,6 @@
 pub mod Lines
 pub mod Operations
+pub mod Units
 pub mod Session
 pub mod Tickets
 pub mod OverStd

@@ -75,14 +75,14 @@ pub(crate) fn push_final(reply: &mut String) -> Result<(), AllocError>
     write!(reply, "final\n")
 }
 
-/// The name of the declaration at this place, or no text where there is none.
+/// The name of the declaration with this number, or no text where there is none.
 #[tactic(auto, using(crate::proofs::ShowLemmas::name_there, crate::proofs::ShowLemmas::name_past))]
-fn name_at<'a>(names: &[&'a str], place: u16) -> &'a str
-    ensures { result.now ≡ name_at (texts_of names.now) place }
+fn name_at<'a>(names: &[&'a str], number: u16) -> &'a str
+    ensures { result.now ≡ name_at (texts_of names.now) number }
 {
-    let place = usize::from(place);
-    if place < names.len() {
-        names[place]
+    let number = usize::from(number);
+    if number < names.len() {
+        names[number]
     } else {
         ""
     }

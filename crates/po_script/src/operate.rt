@@ -53,8 +53,8 @@ fn collect<U: Unit<Value = u64>>(core: &mut Core<U>, tickets: &mut Tickets)
     ensures knows { Knows core.new.tickets tickets.new }
     ensures collected { AreCollected core.new }
 {
-    for place in 0..core.ended_now().len() {
-        let number = core.ended_now()[place].number;
+    for index in 0..core.ended_now().len() {
+        let number = core.ended_now()[index].number;
         collect_one(core, tickets, number);
     }
 }
