@@ -1,7 +1,7 @@
 //! The core on which commands are measured.
 
 use po_actions::{Core, Order};
-use po_classic_units::Trap;
+use po_classic_units::{ScriptUnit, Trap};
 use std::alloc::{AllocError, Global};
 
 /// A trap at the level 0, which closes the entries of its family Wait.

@@ -1,13 +1,13 @@
 //! What a procedure takes on objects of few and of many entries, of which few have queued calls, in the service order
 //! by which the oldest call goes first.
 
-ghost use Rattle.std.specs.Prelude.{◌≤◌};
+ghost use Rattle.po_classic_units.specs.Sizes.{IsSize};
 
 use crate::measure::Measure;
 use crate::plan::Plan;
 use crate::report::pair;
 use po_actions::{Core, Deadline, Order};
-use po_classic_units::Allocator;
+use po_classic_units::{Allocator, ScriptUnit};
 use po_index::EntryRef;
 use std::alloc::{AllocError, Global};
 use std::io::{self, Print};
@@ -30,8 +30,7 @@ const SMALL: u16 = 16;
 
 /// An allocator of this size. It has two entries more.
 fn make(alloc: Global, size: u16) -> Option<Core<Allocator>>
-    requires at_least { 1 ≤ size }
-    requires at_most { size ≤ Allocator.MAX_SIZE }
+    requires { IsSize size }
 {
     let unit = Allocator::new(size);
     let shape = unit.shape(alloc).ok()?;
@@ -51,8 +50,7 @@ fn release(core: &mut Core<Allocator>, times: u64) -> u64 {
 
 /// Measures the procedure on an allocator of this size.
 fn measure<R: Clock + AllocGlobal>(rt: &R, plan: &Plan, size: u16) -> io::Result<Measure>
-    requires at_least { 1 ≤ size }
-    requires at_most { size ≤ Allocator.MAX_SIZE }
+    requires { IsSize size }
 {
     let mut measure = Measure::new();
     for _ in 0..plan.batches {

@@ -7,6 +7,8 @@ use Rattle.po_unit.specs.Meaning.{Meaning, IsLawful, LowersRank, SameNumbers}
 use Rattle.po_unit.specs.declared.outcome.Outcome.{Outcome}
 use Rattle.po_unit.specs.declared.outcome.Outcome.TheVariants.{Complete, Raise, Requeue}
 use Rattle.po_classic_units.specs.Declarations.{public_entry, private_family}
+use Rattle.po_classic_units.specs.ScriptUnit.{KnownUnit}
+use Rattle.po_classic_units.specs.Sizes.{IsSize}
 
 -- how many there are of the resource, and how many of them are free
 pub record AllocatorState : Type 0 where
@@ -19,15 +21,13 @@ new_allocator size = record { size = size; free = size }
 
 -- An allocator of a size that it may have, of which no more are free than there are.
 pub record KeepsWithin (a : AllocatorState) : Type 0 where
-  pub some : 1 ≤ a.size
-  pub most : a.size ≤ 1024
+  pub sized : IsSize a.size
   pub within : a.free ≤ a.size
 
 -- An allocator as it is made, of any size that it may have.
 pub record IsNewAllocator (a : AllocatorState) : Type 0 where
   pub all_free : a.free ≡ a.size
-  pub some : 1 ≤ a.size
-  pub most : a.size ≤ 1024
+  pub sized : IsSize a.size
 
 -- Request and Claim, the entries 0 and 1, are always open, and Grant(i), the entry i + 1, where so many are free
 abbrev pub allocator_gate : AllocatorState → ℕ → Bool
@@ -72,15 +72,19 @@ allocator_meaning = record {
 abbrev pub allocator_declarations : ℕ → List Decl
 allocator_declarations size = public_entry ∷ public_entry ∷ private_family (pos 1) (pos size) ∷ []
 
--- the names of an allocator's declarations of entries, its procedures and functions, in the order of their numbers
-abbrev pub allocator_entry_names : List (List ℕ)
-allocator_entry_names = codes "Request" ∷ codes "Claim" ∷ codes "Grant" ∷ []
-
-abbrev pub allocator_procedure_names : List (List ℕ)
-allocator_procedure_names = codes "Release" ∷ []
-
-abbrev pub allocator_function_names : List (List ℕ)
-allocator_function_names = codes "State" ∷ []
+-- what scripts know of an allocator
+abbrev pub allocator_unit : KnownUnit AllocatorState
+allocator_unit = record {
+  names = record {
+    unit = codes "allocator";
+    is_sized = true;
+    entries = codes "Request" ∷ codes "Claim" ∷ codes "Grant" ∷ [];
+    procedures = codes "Release" ∷ [];
+    functions = codes "State" ∷ [];
+  };
+  opening = new_allocator;
+  declarations = λ a. allocator_declarations a.size;
+}
 
 split_or : (a b : Bool) → (a || b) ≡ false → (a ≡ false) × (b ≡ false)
 split_or true b h = cc

@@ -5,6 +5,7 @@ use Rattle.po_unit.specs.Meaning.{Meaning, IsLawful}
 use Rattle.po_unit.specs.declared.outcome.Outcome.{Outcome}
 use Rattle.po_unit.specs.declared.outcome.Outcome.TheVariants.{Complete}
 use Rattle.po_classic_units.specs.Declarations.{public_entry}
+use Rattle.po_classic_units.specs.ScriptUnit.{KnownUnit}
 
 -- whether a message is being given to the calls that waited for it, and the last message
 pub record BroadcastState : Type 0 where
@@ -42,15 +43,19 @@ broadcast_meaning = record {
 abbrev pub broadcast_declarations : List Decl
 broadcast_declarations = public_entry ∷ []
 
--- the names of a broadcast's entries, procedures and functions, in the order of their numbers
-abbrev pub broadcast_entry_names : List (List ℕ)
-broadcast_entry_names = codes "Receive" ∷ []
-
-abbrev pub broadcast_procedure_names : List (List ℕ)
-broadcast_procedure_names = codes "Send" ∷ []
-
-abbrev pub broadcast_function_names : List (List ℕ)
-broadcast_function_names = codes "State" ∷ []
+-- what scripts know of a broadcast
+abbrev pub broadcast_unit : KnownUnit BroadcastState
+broadcast_unit = record {
+  names = record {
+    unit = codes "broadcast";
+    is_sized = false;
+    entries = codes "Receive" ∷ [];
+    procedures = codes "Send" ∷ [];
+    functions = codes "State" ∷ [];
+  };
+  opening = λ size. new_broadcast;
+  declarations = λ b. broadcast_declarations;
+}
 
 pub broadcast_lawful : IsLawful broadcast_meaning
 broadcast_lawful = record {

@@ -5,6 +5,8 @@ use Rattle.po_unit.specs.Meaning.{Meaning, IsLawful, LowersRank}
 use Rattle.po_unit.specs.declared.outcome.Outcome.{Outcome}
 use Rattle.po_unit.specs.declared.outcome.Outcome.TheVariants.{Complete}
 use Rattle.po_classic_units.specs.Declarations.{public_entry}
+use Rattle.po_classic_units.specs.ScriptUnit.{KnownUnit}
+use Rattle.po_classic_units.specs.Sizes.{IsSize}
 
 -- a buffer's values in the order in which they came, and how many there is room for
 pub record BufferState : Type 0 where
@@ -18,15 +20,13 @@ new_buffer capacity = record { values = []; capacity = capacity }
 -- a buffer that keeps to its capacity, where there is memory for this many values
 pub record HasRoomFor (memory : ℕ) (b : BufferState) : Type 0 where
   pub values : length b.values ≤ b.capacity
-  pub some_room : 1 ≤ b.capacity
-  pub most_room : b.capacity ≤ 1024
+  pub sized : IsSize b.capacity
   pub reserved : b.capacity ≤ memory
 
 -- a buffer as it is made, of any capacity that it may have
 pub record IsNewBuffer (b : BufferState) : Type 0 where
   pub no_values : b.values ≡ []
-  pub some_room : 1 ≤ b.capacity
-  pub most_room : b.capacity ≤ 1024
+  pub sized : IsSize b.capacity
 
 -- whether there is room for one more value
 abbrev pub has_room : BufferState → Bool
@@ -64,15 +64,19 @@ buffer_meaning = record {
 abbrev pub buffer_declarations : List Decl
 buffer_declarations = public_entry ∷ public_entry ∷ []
 
--- the names of a buffer's entries, procedures and functions, in the order of their numbers
-abbrev pub buffer_entry_names : List (List ℕ)
-buffer_entry_names = codes "Put" ∷ codes "Get" ∷ []
-
-abbrev pub buffer_procedure_names : List (List ℕ)
-buffer_procedure_names = []
-
-abbrev pub buffer_function_names : List (List ℕ)
-buffer_function_names = codes "State" ∷ []
+-- what scripts know of a buffer
+abbrev pub buffer_unit : KnownUnit BufferState
+buffer_unit = record {
+  names = record {
+    unit = codes "buffer";
+    is_sized = true;
+    entries = codes "Put" ∷ codes "Get" ∷ [];
+    procedures = [];
+    functions = codes "State" ∷ [];
+  };
+  opening = new_buffer;
+  declarations = λ b. buffer_declarations;
+}
 
 -- no body requeues
 completes : (puts : Bool) (b : BufferState) (xs : List ℕ) (e v : ℕ) → LowersRank buffer_meaning b e v (if puts then put b v else get b xs v).1

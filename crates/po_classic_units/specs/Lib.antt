@@ -6,5 +6,7 @@ pub mod Meeting
 pub mod Names
 pub mod Pulse
 pub mod Relay
+pub mod ScriptUnit
 pub mod Signal
+pub mod Sizes
 pub mod Trap

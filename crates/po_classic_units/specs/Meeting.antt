@@ -1,9 +1,11 @@
 -- What a meeting means: calls on the entry Wait go together, as many as its size.
-use Rattle.std.specs.Prelude.{ℕ, ◌≡◌, ◌≤◌, List, [], ◌∷◌, slice_index, nat_lt, ◌==◌, ◌||◌, Bool, false, Ok, refl, codes}
+use Rattle.std.specs.Prelude.{ℕ, ◌≡◌, List, [], ◌∷◌, slice_index, nat_lt, ◌==◌, ◌||◌, Bool, false, Ok, refl, codes, true}
 use Rattle.po_index.specs.declared.decl.Decl.{Decl}
 use Rattle.po_unit.specs.Meaning.{Meaning, IsLawful}
 use Rattle.po_unit.specs.declared.outcome.Outcome.TheVariants.{Complete}
 use Rattle.po_classic_units.specs.Declarations.{public_entry}
+use Rattle.po_classic_units.specs.ScriptUnit.{KnownUnit}
+use Rattle.po_classic_units.specs.Sizes.{IsSize}
 
 -- how many calls a meeting is of, and whether calls are leaving one
 pub record MeetingState : Type 0 where
@@ -14,16 +16,10 @@ pub record MeetingState : Type 0 where
 abbrev pub new_meeting : ℕ → MeetingState
 new_meeting size = record { size = size; leaving = false }
 
--- A meeting of a size that it may have.
-pub record HasMeetingSize (s : MeetingState) : Type 0 where
-  pub some_call : 1 ≤ s.size
-  pub most_calls : s.size ≤ 1024
-
 -- A meeting as it is made, of any size that it may have.
 pub record IsNewMeeting (s : MeetingState) : Type 0 where
   pub none_leaving : s.leaving ≡ false
-  pub some_call : 1 ≤ s.size
-  pub most_calls : s.size ≤ 1024
+  pub sized : IsSize s.size
 
 -- Wait, the only entry, is open while calls are leaving, and when as many are queued on it as the meeting is of (9.9)
 abbrev pub meeting_gate : MeetingState → ℕ → Bool
@@ -46,15 +42,19 @@ meeting_meaning = record {
 abbrev pub meeting_declarations : List Decl
 meeting_declarations = public_entry ∷ []
 
--- the names of a meeting's entries, procedures and functions, in the order of their numbers
-abbrev pub meeting_entry_names : List (List ℕ)
-meeting_entry_names = codes "Wait" ∷ []
-
-abbrev pub meeting_procedure_names : List (List ℕ)
-meeting_procedure_names = []
-
-abbrev pub meeting_function_names : List (List ℕ)
-meeting_function_names = codes "State" ∷ []
+-- what scripts know of a meeting
+abbrev pub meeting_unit : KnownUnit MeetingState
+meeting_unit = record {
+  names = record {
+    unit = codes "meeting";
+    is_sized = true;
+    entries = codes "Wait" ∷ [];
+    procedures = [];
+    functions = codes "State" ∷ [];
+  };
+  opening = new_meeting;
+  declarations = λ s. meeting_declarations;
+}
 
 pub meeting_lawful : IsLawful meeting_meaning
 meeting_lawful = record {

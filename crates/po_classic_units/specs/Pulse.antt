@@ -6,6 +6,7 @@ use Rattle.po_unit.specs.Meaning.{Meaning, IsLawful, LowersRank}
 use Rattle.po_unit.specs.declared.outcome.Outcome.{Outcome}
 use Rattle.po_unit.specs.declared.outcome.Outcome.TheVariants.{Complete, Requeue}
 use Rattle.po_classic_units.specs.Declarations.{public_entry, private_entry}
+use Rattle.po_classic_units.specs.ScriptUnit.{KnownUnit}
 
 -- whether a pulse has occurred whose calls haven't all gone
 pub record PulseState : Type 0 where
@@ -54,15 +55,19 @@ pulse_meaning = record {
 abbrev pub pulse_declarations : List Decl
 pulse_declarations = public_entry ∷ public_entry ∷ private_entry ∷ []
 
--- the names of a pulse's entries, procedures and functions, in the order of their numbers
-abbrev pub pulse_entry_names : List (List ℕ)
-pulse_entry_names = codes "Wait" ∷ codes "Signal" ∷ codes "Reset" ∷ []
-
-abbrev pub pulse_procedure_names : List (List ℕ)
-pulse_procedure_names = []
-
-abbrev pub pulse_function_names : List (List ℕ)
-pulse_function_names = codes "State" ∷ []
+-- what scripts know of a pulse
+abbrev pub pulse_unit : KnownUnit PulseState
+pulse_unit = record {
+  names = record {
+    unit = codes "pulse";
+    is_sized = false;
+    entries = codes "Wait" ∷ codes "Signal" ∷ codes "Reset" ∷ [];
+    procedures = [];
+    functions = codes "State" ∷ [];
+  };
+  opening = λ size. new_pulse;
+  declarations = λ p. pulse_declarations;
+}
 
 -- the requeue on Reset lowers the rank
 lowers : (wait signals none : Bool) (p : PulseState) (e v : ℕ) → (e == 1) ≡ signals → LowersRank pulse_meaning p e v (if◌then◌else◌ {A = PulseState × Outcome ℕ} wait (p, Complete v) (if signals then (if none then (p, Complete v) else (record { occurred = true }, Requeue 2 false v)) else (record { occurred = false }, Complete v))).1

@@ -6,6 +6,7 @@ use Rattle.po_unit.specs.Meaning.{Meaning, IsLawful, LowersRank}
 use Rattle.po_unit.specs.declared.outcome.Outcome.{Outcome}
 use Rattle.po_unit.specs.declared.outcome.Outcome.TheVariants.{Complete, Requeue}
 use Rattle.po_classic_units.specs.Declarations.{public_entry, private_entry}
+use Rattle.po_classic_units.specs.ScriptUnit.{KnownUnit}
 
 -- a relay's level
 pub record RelayState : Type 0 where
@@ -43,15 +44,19 @@ relay_meaning = record {
 abbrev pub relay_declarations : List Decl
 relay_declarations = public_entry ∷ private_entry ∷ private_entry ∷ []
 
--- the names of a relay's entries, procedures and functions, in the order of their numbers
-abbrev pub relay_entry_names : List (List ℕ)
-relay_entry_names = codes "First" ∷ codes "Second" ∷ codes "Third" ∷ []
-
-abbrev pub relay_procedure_names : List (List ℕ)
-relay_procedure_names = codes "Set" ∷ []
-
-abbrev pub relay_function_names : List (List ℕ)
-relay_function_names = codes "State" ∷ []
+-- what scripts know of a relay
+abbrev pub relay_unit : KnownUnit RelayState
+relay_unit = record {
+  names = record {
+    unit = codes "relay";
+    is_sized = false;
+    entries = codes "First" ∷ codes "Second" ∷ codes "Third" ∷ [];
+    procedures = codes "Set" ∷ [];
+    functions = codes "State" ∷ [];
+  };
+  opening = λ size. new_relay;
+  declarations = λ r. relay_declarations;
+}
 
 -- each requeue lowers the rank
 lowers : (a b : Bool) (r : RelayState) (e v : ℕ) → (e == 0) ≡ a → (e == 1) ≡ b → LowersRank relay_meaning r e v (if a then Requeue 1 false v else (if b then Requeue 2 true v else Complete v))

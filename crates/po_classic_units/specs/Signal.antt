@@ -4,6 +4,7 @@ use Rattle.po_index.specs.declared.decl.Decl.{Decl}
 use Rattle.po_unit.specs.Meaning.{Meaning, IsLawful}
 use Rattle.po_unit.specs.declared.outcome.Outcome.TheVariants.{Complete}
 use Rattle.po_classic_units.specs.Declarations.{public_entry}
+use Rattle.po_classic_units.specs.ScriptUnit.{KnownUnit}
 
 -- whether a signal was sent that no call has taken
 pub record SignalState : Type 0 where
@@ -30,15 +31,19 @@ signal_meaning = record {
 abbrev pub signal_declarations : List Decl
 signal_declarations = public_entry ∷ []
 
--- the names of a signal's entries, procedures and functions, in the order of their numbers
-abbrev pub signal_entry_names : List (List ℕ)
-signal_entry_names = codes "Wait" ∷ []
-
-abbrev pub signal_procedure_names : List (List ℕ)
-signal_procedure_names = codes "Send" ∷ []
-
-abbrev pub signal_function_names : List (List ℕ)
-signal_function_names = codes "State" ∷ []
+-- what scripts know of a signal
+abbrev pub signal_unit : KnownUnit SignalState
+signal_unit = record {
+  names = record {
+    unit = codes "signal";
+    is_sized = false;
+    entries = codes "Wait" ∷ [];
+    procedures = codes "Send" ∷ [];
+    functions = codes "State" ∷ [];
+  };
+  opening = λ size. new_signal;
+  declarations = λ s. signal_declarations;
+}
 
 pub signal_lawful : IsLawful signal_meaning
 signal_lawful = record {

@@ -5,6 +5,7 @@ use Rattle.po_unit.specs.Meaning.{Meaning, IsLawful, LowersRank}
 use Rattle.po_unit.specs.declared.outcome.Outcome.{Outcome}
 use Rattle.po_unit.specs.declared.outcome.Outcome.TheVariants.{Complete, Raise}
 use Rattle.po_classic_units.specs.Declarations.{public_entry, public_family}
+use Rattle.po_classic_units.specs.ScriptUnit.{KnownUnit}
 
 -- a trap's level
 pub record TrapState : Type 0 where
@@ -52,15 +53,19 @@ trap_meaning = record {
 abbrev pub trap_declarations : List Decl
 trap_declarations = public_family (pos 1) (pos 3) ∷ public_entry ∷ public_entry ∷ []
 
--- the names of a trap's declarations of entries, its procedures and functions, in the order of their numbers
-abbrev pub trap_entry_names : List (List ℕ)
-trap_entry_names = codes "Wait" ∷ codes "Fail" ∷ codes "Exact" ∷ []
-
-abbrev pub trap_procedure_names : List (List ℕ)
-trap_procedure_names = codes "Set" ∷ []
-
-abbrev pub trap_function_names : List (List ℕ)
-trap_function_names = codes "State" ∷ []
+-- what scripts know of a trap
+abbrev pub trap_unit : KnownUnit TrapState
+trap_unit = record {
+  names = record {
+    unit = codes "trap";
+    is_sized = false;
+    entries = codes "Wait" ∷ codes "Fail" ∷ codes "Exact" ∷ [];
+    procedures = codes "Set" ∷ [];
+    functions = codes "State" ∷ [];
+  };
+  opening = λ size. new_trap;
+  declarations = λ t. trap_declarations;
+}
 
 -- no body requeues
 ends : (fails : Bool) (t : TrapState) (e v : ℕ) → LowersRank trap_meaning t e v (if fails then fail v else (t, Complete v)).1

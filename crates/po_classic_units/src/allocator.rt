@@ -47,10 +47,11 @@
 //! end Allocator;
 //! ```
 ghost use Rattle.std.specs.Prelude.{◌≡◌, ◌≢◌, ◌≤◌, ◌↔◌, IfOk, IsTrue};
+ghost use Rattle.po_classic_units.specs.Sizes.{IsSize};
 ghost use Rattle.po_classic_units.specs.Allocator.{IsNewAllocator, allocator_meaning};
 
 use crate::declarations::PUBLIC_ENTRY;
-use crate::names::place_of;
+use crate::script_unit::{ScriptUnit, UnitNames};
 use po_index::{Decl, Shape, ShapeFault};
 use po_unit::{Outcome, Unit};
 use std::alloc::{AllocError, Global};
@@ -92,18 +93,17 @@ impl Model for Allocator {
     ghost invariant = { λ a. KeepsWithin (record { size = a.size; free = a.free }) };
 }
 
+const _: () = prove!(Allocator::MAX_SIZE == 1_024);
+
 impl Allocator {
-    ghost use Rattle.po_index.specs.Numbering.{entry_count};
-    ghost use Rattle.po_classic_units.specs.Names.{place_of_name, texts_of};
-    ghost use Rattle.po_classic_units.specs.Allocator.{IsNewAllocator, new_allocator, ask, allocator_declarations, allocator_meaning, allocator_entry_names, allocator_procedure_names, allocator_function_names};
+    ghost use Rattle.po_classic_units.specs.Allocator.{IsNewAllocator, new_allocator, ask};
 
     /// The greatest size.
     pub const MAX_SIZE: u16 = 1_024;
 
     /// An allocator of so many, all of them free.
     pub fn new(size: u16) -> Allocator
-        requires at_least { 1 ≤ size }
-        requires at_most { size ≤ Self.MAX_SIZE }
+        requires { IsSize size }
         ensures { result ≡ new_allocator size }
     {
         Allocator { size, free: size }
@@ -114,63 +114,6 @@ impl Allocator {
         ensures { IsTrue result ↔ IsNewAllocator self.now }
     {
         self.free == self.size
-    }
-
-    /// The shape that the entries' declarations make (9.5.2). Only memory can be missing.
-    pub fn shape(&self, alloc: Global) -> Result<Shape, ShapeFault>
-        ensures shape { IfOk result (λ shape. shape ≡ allocator_declarations self.now.size) }
-        ensures counted { IfOk result (λ shape. entry_count shape ≡ allocator_meaning.entries self.now) }
-        ensures within_limits { result ≢ Err ShapeFault.TooManyEntries }
-    {
-        let grant = Decl {
-            public: false,
-            family: true,
-            low: 1,
-            high: i32::from(self.size),
-        };
-        Shape::new(alloc, &[PUBLIC_ENTRY, PUBLIC_ENTRY, grant])
-    }
-
-    /// The names of the entries and of the family, in the order of their declarations (9.5.2).
-    pub fn entry_names() -> &'static [&'static str]
-        ensures { texts_of result.now ≡ allocator_entry_names }
-    {
-        &ENTRY_NAMES
-    }
-
-    /// The names of the protected procedures, in the order of their numbers (9.5.1).
-    pub fn procedure_names() -> &'static [&'static str]
-        ensures { texts_of result.now ≡ allocator_procedure_names }
-    {
-        &PROCEDURE_NAMES
-    }
-
-    /// The names of the protected functions, in the order of their numbers (9.5.1).
-    pub fn function_names() -> &'static [&'static str]
-        ensures { texts_of result.now ≡ allocator_function_names }
-    {
-        &FUNCTION_NAMES
-    }
-
-    /// The place of the entry's declaration, or how many declarations there are where no entry has this name.
-    pub fn entry_named(word: &[u8]) -> u16
-        ensures { result ≡ place_of_name allocator_entry_names word.now }
-    {
-        place_of(&ENTRY_NAMES, word)
-    }
-
-    /// The number of the procedure, or how many there are where none has this name.
-    pub fn procedure_named(word: &[u8]) -> u16
-        ensures { result ≡ place_of_name allocator_procedure_names word.now }
-    {
-        place_of(&PROCEDURE_NAMES, word)
-    }
-
-    /// The number of the function, or how many there are where none has this name.
-    pub fn function_named(word: &[u8]) -> u16
-        ensures { result ≡ place_of_name allocator_function_names word.now }
-    {
-        place_of(&FUNCTION_NAMES, word)
     }
 
     /// How a call ends that asks for so many: on the queue of `Grant` of that number, if there ever are so many.
@@ -252,4 +195,34 @@ impl Unit for Allocator {
     ghost use Rattle.std.proofs.Common.{rules};
 
     ghost equality = { Prim.search rules };
+}
+
+impl ScriptUnit for Allocator {
+    ghost use Rattle.po_classic_units.specs.Allocator.{allocator_unit};
+
+    ghost known = { allocator_unit };
+
+    fn names() -> UnitNames {
+        UnitNames {
+            unit: "allocator",
+            is_sized: true,
+            entries: &ENTRY_NAMES,
+            procedures: &PROCEDURE_NAMES,
+            functions: &FUNCTION_NAMES,
+        }
+    }
+
+    fn made(_alloc: Global, size: u16) -> Result<Allocator, AllocError> {
+        Ok(Allocator::new(size))
+    }
+
+    fn shape(&self, alloc: Global) -> Result<Shape, ShapeFault> {
+        let grant = Decl {
+            public: false,
+            family: true,
+            low: 1,
+            high: i32::from(self.size),
+        };
+        Shape::new(alloc, &[PUBLIC_ENTRY, PUBLIC_ENTRY, grant])
+    }
 }

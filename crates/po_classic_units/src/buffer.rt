@@ -31,10 +31,11 @@
 //! end Buffer;
 //! ```
 ghost use Rattle.std.specs.Prelude.{◌≡◌, ◌≢◌, ◌≤◌, ◌↔◌, IfOk, IsTrue};
+ghost use Rattle.po_classic_units.specs.Sizes.{IsSize};
 ghost use Rattle.po_classic_units.specs.Buffer.{IsNewBuffer, buffer_meaning};
 
 use crate::declarations::PUBLIC_ENTRY;
-use crate::names::place_of;
+use crate::script_unit::{ScriptUnit, UnitNames};
 use po_index::{Decl, Shape, ShapeFault};
 use po_unit::{Outcome, Unit};
 use std::alloc::{AllocError, Global};
@@ -72,18 +73,17 @@ impl Model for Buffer {
     ghost invariant = { λ b. HasRoomFor (deque_capacity b.values) (record { values = b.values.items; capacity = b.capacity }) };
 }
 
+const _: () = prove!(Buffer::MAX_CAPACITY == 1_024);
+
 impl Buffer {
-    ghost use Rattle.po_classic_units.specs.Buffer.{IsNewBuffer, new_buffer, buffer_declarations, buffer_meaning, buffer_entry_names, buffer_procedure_names, buffer_function_names};
-    ghost use Rattle.po_index.specs.Numbering.{entry_count};
-    ghost use Rattle.po_classic_units.specs.Names.{place_of_name, texts_of};
+    ghost use Rattle.po_classic_units.specs.Buffer.{IsNewBuffer, new_buffer};
 
     /// The greatest capacity.
     pub const MAX_CAPACITY: u16 = 1_024;
 
     /// A buffer without values, and with all the memory that it needs.
     pub fn new(alloc: Global, capacity: u16) -> Result<Buffer, AllocError>
-        requires at_least { 1 ≤ capacity }
-        requires at_most { capacity ≤ Self.MAX_CAPACITY }
+        requires { IsSize capacity }
         ensures { IfOk result (λ b. b ≡ new_buffer capacity) }
     {
         Ok(Buffer {
@@ -98,57 +98,6 @@ impl Buffer {
         ensures { IsTrue result ↔ IsNewBuffer self.now }
     {
         self.values.is_empty()
-    }
-
-    /// The shape that the entries' declarations make (9.5.2). Only memory can be missing.
-    pub fn shape(&self, alloc: Global) -> Result<Shape, ShapeFault>
-        ensures shape { IfOk result (λ shape. shape ≡ buffer_declarations) }
-        ensures counted { IfOk result (λ shape. entry_count shape ≡ buffer_meaning.entries self.now) }
-        ensures within_limits { result ≢ Err ShapeFault.TooManyEntries }
-    {
-        Shape::new(alloc, &DECLARATIONS)
-    }
-
-    /// The names of the entries, in the order of their declarations (9.5.2).
-    pub fn entry_names() -> &'static [&'static str]
-        ensures { texts_of result.now ≡ buffer_entry_names }
-    {
-        &ENTRY_NAMES
-    }
-
-    /// The names of the protected procedures, of which there are none (9.5.1).
-    pub fn procedure_names() -> &'static [&'static str]
-        ensures { texts_of result.now ≡ buffer_procedure_names }
-    {
-        &PROCEDURE_NAMES
-    }
-
-    /// The names of the protected functions, in the order of their numbers (9.5.1).
-    pub fn function_names() -> &'static [&'static str]
-        ensures { texts_of result.now ≡ buffer_function_names }
-    {
-        &FUNCTION_NAMES
-    }
-
-    /// The place of the entry's declaration, or how many declarations there are where no entry has this name.
-    pub fn entry_named(word: &[u8]) -> u16
-        ensures { result ≡ place_of_name buffer_entry_names word.now }
-    {
-        place_of(&ENTRY_NAMES, word)
-    }
-
-    /// The number of the procedure, or how many there are where none has this name: always 0.
-    pub fn procedure_named(word: &[u8]) -> u16
-        ensures { result ≡ place_of_name buffer_procedure_names word.now }
-    {
-        place_of(&PROCEDURE_NAMES, word)
-    }
-
-    /// The number of the function, or how many there are where none has this name.
-    pub fn function_named(word: &[u8]) -> u16
-        ensures { result ≡ place_of_name buffer_function_names word.now }
-    {
-        place_of(&FUNCTION_NAMES, word)
     }
 }
 
@@ -220,4 +169,28 @@ impl Unit for Buffer {
     ghost use Rattle.std.proofs.Common.{rules};
 
     ghost equality = { Prim.search rules };
+}
+
+impl ScriptUnit for Buffer {
+    ghost use Rattle.po_classic_units.specs.Buffer.{buffer_unit};
+
+    ghost known = { buffer_unit };
+
+    fn names() -> UnitNames {
+        UnitNames {
+            unit: "buffer",
+            is_sized: true,
+            entries: &ENTRY_NAMES,
+            procedures: &PROCEDURE_NAMES,
+            functions: &FUNCTION_NAMES,
+        }
+    }
+
+    fn made(alloc: Global, size: u16) -> Result<Buffer, AllocError> {
+        Buffer::new(alloc, size)
+    }
+
+    fn shape(&self, alloc: Global) -> Result<Shape, ShapeFault> {
+        Shape::new(alloc, &DECLARATIONS)
+    }
 }

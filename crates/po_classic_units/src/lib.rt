@@ -13,6 +13,7 @@ mod meeting;
 mod names;
 mod pulse;
 mod relay;
+mod script_unit;
 mod signal;
 mod trap;
 
@@ -22,5 +23,6 @@ pub use buffer::Buffer;
 pub use meeting::Meeting;
 pub use pulse::Pulse;
 pub use relay::Relay;
+pub use script_unit::{ScriptUnit, UnitNames};
 pub use signal::Signal;
 pub use trap::Trap;

@@ -18,10 +18,11 @@
 //! end Meeting;
 //! ```
 ghost use Rattle.std.specs.Prelude.{◌≡◌, ◌≢◌, ◌≤◌, ◌↔◌, IfOk, IsTrue};
+ghost use Rattle.po_classic_units.specs.Sizes.{IsSize};
 ghost use Rattle.po_classic_units.specs.Meeting.{IsNewMeeting, meeting_meaning};
 
 use crate::declarations::PUBLIC_ENTRY;
-use crate::names::place_of;
+use crate::script_unit::{ScriptUnit, UnitNames};
 use po_index::{Decl, Shape, ShapeFault};
 use po_unit::{Outcome, Unit};
 use std::alloc::{AllocError, Global};
@@ -46,27 +47,27 @@ pub struct Meeting {
 }
 
 impl Model for Meeting {
-    ghost use Rattle.po_classic_units.specs.Meeting.{MeetingState, HasMeetingSize};
+    ghost use Rattle.po_classic_units.specs.Meeting.{MeetingState};
+    ghost use Rattle.po_classic_units.specs.Sizes.{IsSize};
 
     ghost Value = { MeetingState };
 
     ghost view = { λ s. record { size = s.size; leaving = s.leaving } };
 
-    ghost invariant = { λ s. HasMeetingSize (record { size = s.size; leaving = s.leaving }) };
+    ghost invariant = { λ s. IsSize s.size };
 }
 
+const _: () = prove!(Meeting::MAX_SIZE == 1_024);
+
 impl Meeting {
-    ghost use Rattle.po_index.specs.Numbering.{entry_count};
-    ghost use Rattle.po_classic_units.specs.Names.{place_of_name, texts_of};
-    ghost use Rattle.po_classic_units.specs.Meeting.{IsNewMeeting, new_meeting, meeting_declarations, meeting_meaning, meeting_entry_names, meeting_procedure_names, meeting_function_names};
+    ghost use Rattle.po_classic_units.specs.Meeting.{IsNewMeeting, new_meeting};
 
     /// The greatest number of calls that a meeting can be of.
     pub const MAX_SIZE: u16 = 1_024;
 
     /// A meeting of so many calls, which none is leaving.
     pub fn new(size: u16) -> Meeting
-        requires at_least { 1 ≤ size }
-        requires at_most { size ≤ Self.MAX_SIZE }
+        requires { IsSize size }
         ensures { result ≡ new_meeting size }
     {
         Meeting {
@@ -80,57 +81,6 @@ impl Meeting {
         ensures { IsTrue result ↔ IsNewMeeting self.now }
     {
         !self.leaving
-    }
-
-    /// The shape that the entries' declarations make (9.5.2). Only memory can be missing.
-    pub fn shape(&self, alloc: Global) -> Result<Shape, ShapeFault>
-        ensures shape { IfOk result (λ shape. shape ≡ meeting_declarations) }
-        ensures counted { IfOk result (λ shape. entry_count shape ≡ meeting_meaning.entries self.now) }
-        ensures within_limits { result ≢ Err ShapeFault.TooManyEntries }
-    {
-        Shape::new(alloc, &DECLARATIONS)
-    }
-
-    /// The names of the entries, in the order of their declarations (9.5.2).
-    pub fn entry_names() -> &'static [&'static str]
-        ensures { texts_of result.now ≡ meeting_entry_names }
-    {
-        &ENTRY_NAMES
-    }
-
-    /// The names of the protected procedures, of which there are none (9.5.1).
-    pub fn procedure_names() -> &'static [&'static str]
-        ensures { texts_of result.now ≡ meeting_procedure_names }
-    {
-        &PROCEDURE_NAMES
-    }
-
-    /// The names of the protected functions, in the order of their numbers (9.5.1).
-    pub fn function_names() -> &'static [&'static str]
-        ensures { texts_of result.now ≡ meeting_function_names }
-    {
-        &FUNCTION_NAMES
-    }
-
-    /// The place of the entry's declaration, or how many declarations there are where no entry has this name.
-    pub fn entry_named(word: &[u8]) -> u16
-        ensures { result ≡ place_of_name meeting_entry_names word.now }
-    {
-        place_of(&ENTRY_NAMES, word)
-    }
-
-    /// The number of the procedure, or how many there are where none has this name: always 0.
-    pub fn procedure_named(word: &[u8]) -> u16
-        ensures { result ≡ place_of_name meeting_procedure_names word.now }
-    {
-        place_of(&PROCEDURE_NAMES, word)
-    }
-
-    /// The number of the function, or how many there are where none has this name.
-    pub fn function_named(word: &[u8]) -> u16
-        ensures { result ≡ place_of_name meeting_function_names word.now }
-    {
-        place_of(&FUNCTION_NAMES, word)
     }
 }
 
@@ -189,4 +139,28 @@ impl Unit for Meeting {
     ghost use Rattle.std.proofs.Common.{rules};
 
     ghost equality = { Prim.search rules };
+}
+
+impl ScriptUnit for Meeting {
+    ghost use Rattle.po_classic_units.specs.Meeting.{meeting_unit};
+
+    ghost known = { meeting_unit };
+
+    fn names() -> UnitNames {
+        UnitNames {
+            unit: "meeting",
+            is_sized: true,
+            entries: &ENTRY_NAMES,
+            procedures: &PROCEDURE_NAMES,
+            functions: &FUNCTION_NAMES,
+        }
+    }
+
+    fn made(_alloc: Global, size: u16) -> Result<Meeting, AllocError> {
+        Ok(Meeting::new(size))
+    }
+
+    fn shape(&self, alloc: Global) -> Result<Shape, ShapeFault> {
+        Shape::new(alloc, &DECLARATIONS)
+    }
 }

@@ -1,18 +1,18 @@
 //! Looking a name up in a table of names.
 ghost use Rattle.std.specs.Prelude.{◌≡◌, ◌<◌, ◌^◌, length};
-ghost use Rattle.po_classic_units.specs.Names.{place_of_name, texts_of};
+ghost use Rattle.po_classic_units.specs.Names.{number_of_name, texts_of};
 
-/// The place of the first name that is this word, or the number of names where none is.
-pub(crate) fn place_of(names: &[&str], word: &[u8]) -> u16
+/// The number of the first name that is this word, counted from 0, or how many names there are where none is.
+pub(crate) fn number_of_name(names: &[&str], word: &[u8]) -> u16
     requires { length names.now < 2 ^ 16 }
-    ensures { result ≡ place_of_name (texts_of names.now) word.now }
+    ensures { result ≡ number_of_name (texts_of names.now) word.now }
 {
-    let mut place = 0;
+    let mut number = 0;
     for name in names {
         if name.as_bytes() == word {
-            return place;
+            return number;
         }
-        place += 1;
+        number += 1;
     }
-    place
+    number
 }

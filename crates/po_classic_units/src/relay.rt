@@ -38,7 +38,7 @@
 ghost use Rattle.std.specs.Prelude.{◌≡◌, ◌≢◌, IfOk};
 
 use crate::declarations::{PRIVATE_ENTRY, PUBLIC_ENTRY};
-use crate::names::place_of;
+use crate::script_unit::{ScriptUnit, UnitNames};
 use po_index::{Decl, Shape, ShapeFault};
 use po_unit::{Outcome, Unit};
 use std::alloc::{AllocError, Global};
@@ -77,66 +77,13 @@ impl Model for Relay {
 }
 
 impl Relay {
-    ghost use Rattle.po_index.specs.Numbering.{entry_count};
-    ghost use Rattle.po_classic_units.specs.Names.{place_of_name, texts_of};
-    ghost use Rattle.po_classic_units.specs.Relay.{new_relay, relay_declarations, relay_meaning, relay_entry_names, relay_procedure_names, relay_function_names};
+    ghost use Rattle.po_classic_units.specs.Relay.{new_relay};
 
     /// A relay at the level 0.
     pub fn new() -> Relay
         ensures { result ≡ new_relay }
     {
         Relay { level: 0 }
-    }
-
-    /// The shape that the entries' declarations make (9.5.2). Only memory can be missing.
-    pub fn shape(&self, alloc: Global) -> Result<Shape, ShapeFault>
-        ensures shape { IfOk result (λ shape. shape ≡ relay_declarations) }
-        ensures counted { IfOk result (λ shape. entry_count shape ≡ relay_meaning.entries self.now) }
-        ensures within_limits { result ≢ Err ShapeFault.TooManyEntries }
-    {
-        Shape::new(alloc, &DECLARATIONS)
-    }
-
-    /// The names of the entries, in the order of their declarations (9.5.2).
-    pub fn entry_names() -> &'static [&'static str]
-        ensures { texts_of result.now ≡ relay_entry_names }
-    {
-        &ENTRY_NAMES
-    }
-
-    /// The names of the protected procedures, in the order of their numbers (9.5.1).
-    pub fn procedure_names() -> &'static [&'static str]
-        ensures { texts_of result.now ≡ relay_procedure_names }
-    {
-        &PROCEDURE_NAMES
-    }
-
-    /// The names of the protected functions, in the order of their numbers (9.5.1).
-    pub fn function_names() -> &'static [&'static str]
-        ensures { texts_of result.now ≡ relay_function_names }
-    {
-        &FUNCTION_NAMES
-    }
-
-    /// The place of the entry's declaration, or how many declarations there are where no entry has this name.
-    pub fn entry_named(word: &[u8]) -> u16
-        ensures { result ≡ place_of_name relay_entry_names word.now }
-    {
-        place_of(&ENTRY_NAMES, word)
-    }
-
-    /// The number of the procedure, or how many there are where none has this name.
-    pub fn procedure_named(word: &[u8]) -> u16
-        ensures { result ≡ place_of_name relay_procedure_names word.now }
-    {
-        place_of(&PROCEDURE_NAMES, word)
-    }
-
-    /// The number of the function, or how many there are where none has this name.
-    pub fn function_named(word: &[u8]) -> u16
-        ensures { result ≡ place_of_name relay_function_names word.now }
-    {
-        place_of(&FUNCTION_NAMES, word)
     }
 }
 
@@ -209,4 +156,28 @@ impl Unit for Relay {
     ghost use Rattle.std.proofs.Common.{rules};
 
     ghost equality = { Prim.search rules };
+}
+
+impl ScriptUnit for Relay {
+    ghost use Rattle.po_classic_units.specs.Relay.{relay_unit};
+
+    ghost known = { relay_unit };
+
+    fn names() -> UnitNames {
+        UnitNames {
+            unit: "relay",
+            is_sized: false,
+            entries: &ENTRY_NAMES,
+            procedures: &PROCEDURE_NAMES,
+            functions: &FUNCTION_NAMES,
+        }
+    }
+
+    fn made(_alloc: Global, _size: u16) -> Result<Relay, AllocError> {
+        Ok(Relay::new())
+    }
+
+    fn shape(&self, alloc: Global) -> Result<Shape, ShapeFault> {
+        Shape::new(alloc, &DECLARATIONS)
+    }
 }

@@ -2,7 +2,7 @@
 
 use crate::transcript::{Step, compare};
 use po_actions::{Core, Order, Start};
-use po_classic_units::{Buffer, Relay, Signal};
+use po_classic_units::{Buffer, Relay, ScriptUnit, Signal};
 use po_index::EntryRef;
 use std::process::Abort;
 use std::test::Fail;

@@ -8,7 +8,8 @@ use po_actions::{Core, Deadline, End, Order};
 use po_index::{EntryRef, Shape, ShapeFault};
 use po_unit::Unit;
 use po_units::{
-    Allocator, Buffer, Meeting, Pulse, allocator_law, buffer_law, meeting_law, pulse_law,
+    Allocator, Buffer, Meeting, Pulse, ScriptUnit, allocator_law, buffer_law, meeting_law,
+    pulse_law,
 };
 use std::alloc::Global;
 use std::test::Fail;

@@ -1,10 +1,10 @@
 //! Runs of whole cores, against values worked out by hand from the standard and from this project's own rules.
 
-ghost use Rattle.std.specs.Prelude.{◌≤◌};
+ghost use Rattle.po_classic_units.specs.Sizes.{IsSize};
 
 use crate::transcript::{Step, compare};
 use po_actions::{Core, MakeFault, Order, Start};
-use po_classic_units::{Buffer, Relay, Trap};
+use po_classic_units::{Buffer, Relay, ScriptUnit, Trap};
 use po_index::EntryRef;
 use std::process::Abort;
 use std::test::Fail;
@@ -48,8 +48,7 @@ fn on_buffer<R: Abort + AllocGlobal>(
     text: &str,
     events: &str,
 ) -> Result<(), Fail>
-    requires at_least { 1 ≤ capacity }
-    requires at_most { capacity ≤ 1024 }
+    requires { IsSize capacity }
 {
     let unit = Buffer::new(rt.alloc(), capacity)?;
     let shape = unit.shape(rt.alloc())?;

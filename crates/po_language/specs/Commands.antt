@@ -1,17 +1,18 @@
 -- What a line says: a command, nothing, or what is wrong with it.
-use Rattle.std.specs.Prelude.{codes, ℕ, ℤ, Bool, false, ◌&&◌, nat_le, ◌≤◌, ◌==◌, List, [], ◌∷◌, Option, Some, None, Result, Ok, Err, if◌then◌else◌}
+use Rattle.std.specs.Prelude.{codes, ℕ, ℤ, Bool, true, false, ◌&&◌, nat_le, ◌==◌, List, [], ◌∷◌, Option, Some, None, Result, Ok, Err, if◌then◌else◌}
 use Rattle.std.specs.Option.{option_map, option_and_then}
 use Rattle.std.specs.Str.{bytes_eq}
 use Rattle.po_language.specs.Words.{words, number_of, is_name, entry_parts}
-use Rattle.po_classic_units.specs.Names.{place_of_name}
-use Rattle.po_language.specs.Names.{entry_names, procedure_names, function_names}
+use Rattle.po_classic_units.specs.Names.{number_of_name}
+use Rattle.po_classic_units.specs.ScriptUnit.{KnownNames}
+use Rattle.po_classic_units.specs.Sizes.{IsSizeWhere}
+use Rattle.po_language.specs.Units.{UnitList, unit_number, names_at}
 use Rattle.po_index.specs.declared.decl.EntryRef.{EntryRef}
 use Rattle.po_calls.specs.declared.call.Deadline.{Deadline}
 use Rattle.po_calls.specs.declared.call.Deadline.TheVariants.{Never, At}
 use Rattle.po_barriers.specs.declared.order.Order.{Order}
 use Rattle.po_barriers.specs.declared.order.Order.TheVariants.{Textual, Oldest, Rotating}
 use Rattle.po_language.specs.declared.command.UnitChoice.{UnitChoice}
-use Rattle.po_language.specs.declared.command.UnitChoice.TheVariants.{Buffer, Signal, Broadcast, Pulse, Meeting, Allocator, Relay, Trap}
 use Rattle.po_language.specs.declared.command.Beginning.{Beginning}
 use Rattle.po_language.specs.declared.command.Command.{Command}
 use Rattle.po_language.specs.declared.command.Command.TheVariants.{Begin, Operate}
@@ -44,21 +45,19 @@ verb_of word =
 
 -- ---- the words behind `unit`
 
--- A unit's size is from 1 to 1,024.
-abbrev pub IsSize : ℕ → Type 0
-IsSize n = (1 ≤ n) × (n ≤ 1024)
+-- The unit's size is one that it may have, if it has one.
+abbrev pub HasSize : UnitList → UnitChoice → Type 0
+HasSize units unit = IsSizeWhere (names_at units unit.number).is_sized unit.size
 
--- The unit's size, if it has one, is within its limits.
-abbrev pub HasSize : UnitChoice → Type 0
-HasSize (Buffer capacity) = IsSize capacity
-HasSize (Meeting size) = IsSize size
-HasSize (Allocator size) = IsSize size
-HasSize other = Unit {0}
+-- If the command begins a unit, its size is one that it may have.
+abbrev pub CanBegin : UnitList → Command → Type 0
+CanBegin units (Begin beginning) = HasSize units beginning.unit
+CanBegin units (Operate operation) = Unit {0}
 
--- If the command begins a unit, its size is within its limits.
-abbrev pub CanBegin : Command → Type 0
-CanBegin (Begin beginning) = HasSize beginning.unit
-CanBegin other = Unit {0}
+-- The command begins no unit.
+abbrev pub IsOperation : Command → Type 0
+IsOperation (Begin beginning) = ⊥
+IsOperation (Operate operation) = Unit {0}
 
 -- a number that is a size
 abbrev pub size_within : Option ℕ → Option ℕ
@@ -68,34 +67,20 @@ size_within (Some n) = if nat_le 1 n && nat_le n 1024 then Some n else None
 abbrev pub size_of : List ℕ → Option ℕ
 size_of word = size_within (number_of word)
 
--- the unit of this name, of those that have no size
-abbrev pub plain_unit : List ℕ → Option UnitChoice
-plain_unit name =
-    if bytes_eq name (codes "signal") then Some Signal
-    else if bytes_eq name (codes "broadcast") then Some Broadcast
-    else if bytes_eq name (codes "pulse") then Some Pulse
-    else if bytes_eq name (codes "relay") then Some Relay
-    else if bytes_eq name (codes "trap") then Some Trap
-    else None
+-- the unit of this number, by whether it has a size, and the words behind it and its size
+abbrev pub unit_with : ℕ → Bool → List (List ℕ) → Option (UnitChoice × List (List ℕ))
+unit_with number false ws = Some (record { number = number; size = 0 }, ws)
+unit_with number true [] = None
+unit_with number true (w ∷ ws) = option_map (λ size. (record { number = number; size = size }, ws)) (size_of w)
 
--- the unit of this name and size, of those that have one
-abbrev pub sized_unit : List ℕ → ℕ → Option UnitChoice
-sized_unit name size =
-    if bytes_eq name (codes "buffer") then Some (Buffer size)
-    else if bytes_eq name (codes "meeting") then Some (Meeting size)
-    else if bytes_eq name (codes "allocator") then Some (Allocator size)
-    else None
-
--- the unit, by whether one without a size has the name, and the words behind it
-abbrev pub unit_by : List ℕ → Option UnitChoice → List (List ℕ) → Option (UnitChoice × List (List ℕ))
-unit_by name (Some unit) ws = Some (unit, ws)
-unit_by name None [] = None
-unit_by name None (w ∷ ws) = option_map (λ unit. (unit, ws)) (option_and_then (sized_unit name) (size_of w))
+abbrev pub unit_by : UnitList → Option ℕ → List (List ℕ) → Option (UnitChoice × List (List ℕ))
+unit_by units None ws = None
+unit_by units (Some number) ws = unit_with number (names_at units number).is_sized ws
 
 -- the unit that the words begin with, and the words behind it
-abbrev pub unit_of : List (List ℕ) → Option (UnitChoice × List (List ℕ))
-unit_of [] = None
-unit_of (name ∷ ws) = unit_by name (plain_unit name) ws
+abbrev pub unit_of : UnitList → List (List ℕ) → Option (UnitChoice × List (List ℕ))
+unit_of units [] = None
+unit_of units (name ∷ ws) = unit_by units (unit_number units name) ws
 
 -- the service order of this name
 abbrev pub order_of : List ℕ → Option Order
@@ -132,22 +117,22 @@ beginning_by None = None
 beginning_by (Some chosen) = beginning_with chosen.0 (with_order chosen.1)
 
 -- what begins: a unit, with its size if it has one; perhaps a service order; perhaps `max` and a number; and nothing else
-abbrev pub beginning_of : List (List ℕ) → Option Beginning
-beginning_of ws = beginning_by (unit_of ws)
+abbrev pub beginning_of : UnitList → List (List ℕ) → Option Beginning
+beginning_of units ws = beginning_by (unit_of units ws)
 
 -- ---- the words behind the other commands
 
 -- the unit's entry of that name
-abbrev pub entry_at : UnitChoice → List ℕ × Option ℤ → EntryRef
-entry_at unit parts = record { entry = place_of_name (entry_names unit) parts.0; index = parts.1 }
+abbrev pub entry_at : KnownNames → List ℕ × Option ℤ → EntryRef
+entry_at names parts = record { entry = number_of_name names.entries parts.0; index = parts.1 }
 
 -- the unit's entry that the word names
-abbrev pub entry_of : UnitChoice → List ℕ → Option EntryRef
-entry_of unit word = option_map (entry_at unit) (entry_parts word)
+abbrev pub entry_of : KnownNames → List ℕ → Option EntryRef
+entry_of names word = option_map (entry_at names) (entry_parts word)
 
--- the place of the name among these, or how many they are where it isn't one of them
+-- the number of the name among these, or how many they are where it isn't one of them
 abbrev pub operation_number : List (List ℕ) → List ℕ → Option ℕ
-operation_number names word = if is_name word then Some (place_of_name names word) else None
+operation_number names word = if is_name word then Some (number_of_name names word) else None
 
 -- the word, where it is the only one
 abbrev pub only_of : List (List ℕ) → Option (List ℕ)
@@ -164,22 +149,22 @@ call_with deadline (Some entry) (Some value) = Some (CallOperation entry value d
 call_with deadline (Some entry) None = None
 call_with deadline None value = None
 
-abbrev pub call_by : UnitChoice → Deadline → Option (List ℕ × List ℕ) → Option Operation
-call_by unit deadline None = None
-call_by unit deadline (Some p) = call_with deadline (entry_of unit p.0) (number_of p.1)
+abbrev pub call_by : KnownNames → Deadline → Option (List ℕ × List ℕ) → Option Operation
+call_by names deadline None = None
+call_by names deadline (Some p) = call_with deadline (entry_of names p.0) (number_of p.1)
 
 -- a call: an entry and a value, and nothing else
-abbrev pub call_of : UnitChoice → Deadline → List (List ℕ) → Option Operation
-call_of unit deadline ws = call_by unit deadline (pair_of ws)
+abbrev pub call_of : KnownNames → Deadline → List (List ℕ) → Option Operation
+call_of names deadline ws = call_by names deadline (pair_of ws)
 
-abbrev pub timed_with : UnitChoice → Option ℕ → List (List ℕ) → Option Operation
-timed_with unit None ws = None
-timed_with unit (Some time) ws = call_of unit (At time) ws
+abbrev pub timed_with : KnownNames → Option ℕ → List (List ℕ) → Option Operation
+timed_with names None ws = None
+timed_with names (Some time) ws = call_of names (At time) ws
 
 -- a timed call: a deadline, an entry and a value, and nothing else
-abbrev pub timed_of : UnitChoice → List (List ℕ) → Option Operation
-timed_of unit [] = None
-timed_of unit (time ∷ ws) = timed_with unit (number_of time) ws
+abbrev pub timed_of : KnownNames → List (List ℕ) → Option Operation
+timed_of names [] = None
+timed_of names (time ∷ ws) = timed_with names (number_of time) ws
 
 -- the operation of that number, with a value
 abbrev pub valued : (ℕ → ℕ → Operation) → Option ℕ → Option ℕ → Option Operation
@@ -192,12 +177,12 @@ valued_by operation names None = None
 valued_by operation names (Some p) = valued operation (operation_number names p.0) (number_of p.1)
 
 -- a procedure and a value, and nothing else
-abbrev pub run_of : UnitChoice → List (List ℕ) → Option Operation
-run_of unit ws = valued_by (λ op value. Run op value) (procedure_names unit) (pair_of ws)
+abbrev pub run_of : KnownNames → List (List ℕ) → Option Operation
+run_of names ws = valued_by (λ op value. Run op value) names.procedures (pair_of ws)
 
 -- a function and a value, and nothing else
-abbrev pub read_of : UnitChoice → List (List ℕ) → Option Operation
-read_of unit ws = valued_by (λ op value. Read op value) (function_names unit) (pair_of ws)
+abbrev pub read_of : KnownNames → List (List ℕ) → Option Operation
+read_of names ws = valued_by (λ op value. Read op value) names.functions (pair_of ws)
 
 -- a number, and nothing else
 abbrev pub number_alone : List (List ℕ) → Option ℕ
@@ -209,17 +194,17 @@ alone operation [] = Some operation
 alone operation (w ∷ ws) = None
 
 -- the operation that the words ask for, where the first word of the line isn't `unit`
-abbrev pub operation_of : UnitChoice → Verb → List (List ℕ) → Option Operation
-operation_of unit BeginVerb ws = None
-operation_of unit Call ws = call_of unit Never ws
-operation_of unit Cond ws = call_of unit (At 0) ws
-operation_of unit Timed ws = timed_of unit ws
-operation_of unit Proc ws = run_of unit ws
-operation_of unit Func ws = read_of unit ws
-operation_of unit Cancel ws = option_map (λ n. Abort n) (number_alone ws)
-operation_of unit Tick ws = option_map (λ time. TickOperation time) (number_alone ws)
-operation_of unit Final ws = alone Finalize ws
-operation_of unit Show ws = alone ShowOperation ws
+abbrev pub operation_of : KnownNames → Verb → List (List ℕ) → Option Operation
+operation_of names BeginVerb ws = None
+operation_of names Call ws = call_of names Never ws
+operation_of names Cond ws = call_of names (At 0) ws
+operation_of names Timed ws = timed_of names ws
+operation_of names Proc ws = run_of names ws
+operation_of names Func ws = read_of names ws
+operation_of names Cancel ws = option_map (λ n. Abort n) (number_alone ws)
+operation_of names Tick ws = option_map (λ time. TickOperation time) (number_alone ws)
+operation_of names Final ws = alone Finalize ws
+operation_of names Show ws = alone ShowOperation ws
 
 -- ---- the command of a line
 
@@ -232,30 +217,30 @@ operate_with (Some operation) = Ok (Operate operation)
 operate_with None = Err BadArgument
 
 -- a line's command before a unit is begun
-abbrev pub first_command : Verb → List (List ℕ) → Result Command FaultKind
-first_command BeginVerb ws = begin_with (beginning_of ws)
-first_command other ws = Err NoUnit
+abbrev pub first_command : UnitList → Verb → List (List ℕ) → Result Command FaultKind
+first_command units BeginVerb ws = begin_with (beginning_of units ws)
+first_command units other ws = Err NoUnit
 
 -- a line's command once the unit is begun
-abbrev pub later_command : UnitChoice → Verb → List (List ℕ) → Result Command FaultKind
-later_command unit BeginVerb ws = Err SecondUnit
-later_command unit verb ws = operate_with (operation_of unit verb ws)
+abbrev pub later_command : KnownNames → Verb → List (List ℕ) → Result Command FaultKind
+later_command names BeginVerb ws = Err SecondUnit
+later_command names verb ws = operate_with (operation_of names verb ws)
 
 abbrev pub some_command : Result Command FaultKind → Result (Option Command) FaultKind
 some_command (Ok c) = Ok (Some c)
 some_command (Err kind) = Err kind
 
 -- a known first word, with the words behind it
-abbrev pub command_by : Option UnitChoice → Option Verb → List (List ℕ) → Result (Option Command) FaultKind
-command_by begun None ws = Err UnknownCommand
-command_by None (Some verb) ws = some_command (first_command verb ws)
-command_by (Some unit) (Some verb) ws = some_command (later_command unit verb ws)
+abbrev pub command_by : UnitList → Option UnitChoice → Option Verb → List (List ℕ) → Result (Option Command) FaultKind
+command_by units begun None ws = Err UnknownCommand
+command_by units None (Some verb) ws = some_command (first_command units verb ws)
+command_by units (Some unit) (Some verb) ws = some_command (later_command (names_at units unit.number) verb ws)
 
 -- a line without words, or whose first word begins with `#`, is skipped
-abbrev pub command_with : Option UnitChoice → List (List ℕ) → Result (Option Command) FaultKind
-command_with begun [] = Ok None
-command_with begun (w ∷ ws) = if is_comment w then Ok None else command_by begun (verb_of w) ws
+abbrev pub command_with : UnitList → Option UnitChoice → List (List ℕ) → Result (Option Command) FaultKind
+command_with units begun [] = Ok None
+command_with units begun (w ∷ ws) = if is_comment w then Ok None else command_by units begun (verb_of w) ws
 
 -- the line's command, if it has one; begun is the unit that an earlier line began
-abbrev pub command_of : Option UnitChoice → List ℕ → Result (Option Command) FaultKind
-command_of begun line = command_with begun (words line)
+abbrev pub command_of : UnitList → Option UnitChoice → List ℕ → Result (Option Command) FaultKind
+command_of units begun line = command_with units begun (words line)

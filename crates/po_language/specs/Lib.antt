@@ -1,3 +1,3 @@
 pub mod Words
-pub mod Names
+pub mod Units
 pub mod Commands

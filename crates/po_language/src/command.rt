@@ -5,25 +5,13 @@ use po_calls::Deadline;
 use po_index::EntryRef;
 use thiserror::Error;
 
-/// A unit that a script can begin, with its parameter.
+/// A unit that a script can begin.
 #[derive(Clone, Copy, Debug, PartialEq, Eq)]
-pub enum UnitChoice {
-    /// The buffer, with room for so many values.
-    Buffer { capacity: u16 },
-    /// The signal.
-    Signal,
-    /// The broadcast.
-    Broadcast,
-    /// The pulse.
-    Pulse,
-    /// The meeting of so many calls.
-    Meeting { size: u16 },
-    /// The allocator of so many.
-    Allocator { size: u16 },
-    /// The relay.
-    Relay,
-    /// The trap.
-    Trap,
+pub struct UnitChoice {
+    /// Its number in the list of units.
+    pub number: u16,
+    /// Its size, or 0 where it has none.
+    pub size: u16,
 }
 
 /// What a `unit` line begins: an object with this unit, a service order, and perhaps a greatest queue length.

@@ -2,11 +2,12 @@
 #![tactic(auto)]
 
 pub mod command;
-mod names;
 mod operation_line;
 pub mod parse;
 mod unit_line;
+pub mod unit_list;
 pub mod words;
 
 pub use crate::command::{Beginning, Command, FaultKind, Operation, UnitChoice};
 pub use crate::parse::command_of;
+pub use crate::unit_list::UnitList;

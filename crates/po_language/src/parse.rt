@@ -2,12 +2,14 @@
 
 ghost use Rattle.std.specs.Prelude.{◌≡◌, IfOk, IfSome};
 ghost use Rattle.po_language.specs.Words.{words};
-ghost use Rattle.po_language.specs.Commands.{CanBegin, is_comment, verb_of, first_command, later_command, command_of};
+ghost use Rattle.po_language.specs.Commands.{CanBegin, IsOperation, is_comment, verb_of, first_command, later_command, command_of};
 
 use crate::command::{Command, FaultKind, UnitChoice};
 use crate::operation_line::operation_of;
 use crate::unit_line::beginning_of;
+use crate::unit_list::UnitList;
 use crate::words::cut_word;
+use po_classic_units::UnitNames;
 
 /// What the first word of a line asks for.
 #[derive(Clone, Copy, Debug, PartialEq, Eq)]
@@ -71,37 +73,40 @@ fn verb_of(word: &[u8]) -> Option<Verb>
 }
 
 /// The command that the words of a line behind its first ask for, before a unit is begun.
-fn first_command(verb: Verb, arguments: &[u8]) -> Result<Command, FaultKind>
-    ensures exact { result ≡ first_command verb (words arguments.now) }
-    ensures valid { IfOk result CanBegin }
+fn first_command<L: UnitList>(verb: Verb, arguments: &[u8]) -> Result<Command, FaultKind>
+    ensures exact { result ≡ first_command L.listed verb (words arguments.now) }
+    ensures valid { IfOk result (CanBegin L.listed) }
 {
     if verb != Verb::Begin {
         return Err(FaultKind::NoUnit);
     }
-    match beginning_of(arguments) {
+    match beginning_of::<L>(arguments) {
         Some(beginning) => Ok(Command::Begin(beginning)),
         None => Err(FaultKind::BadUnit),
     }
 }
 
 /// The command that the words of a line behind its first ask for, once the unit is begun.
-fn later_command(unit: UnitChoice, verb: Verb, arguments: &[u8]) -> Result<Command, FaultKind>
-    ensures exact { result ≡ later_command unit verb (words arguments.now) }
-    ensures valid { IfOk result CanBegin }
+fn later_command(names: &UnitNames, verb: Verb, arguments: &[u8]) -> Result<Command, FaultKind>
+    ensures exact { result ≡ later_command names.now verb (words arguments.now) }
+    ensures operation { IfOk result IsOperation }
 {
     if verb == Verb::Begin {
         return Err(FaultKind::SecondUnit);
     }
-    match operation_of(unit, verb, arguments) {
+    match operation_of(names, verb, arguments) {
         Some(operation) => Ok(Command::Operate(operation)),
         None => Err(FaultKind::BadArgument),
     }
 }
 
-/// The command of the line, if it isn't skipped; `begun` is the unit that an earlier line began.
-pub fn command_of(begun: Option<UnitChoice>, line: &[u8]) -> Result<Option<Command>, FaultKind>
-    ensures exact { result ≡ command_of begun line.now }
-    ensures valid { IfOk result (λ command. IfSome command CanBegin) }
+/// The command of the line, if it isn't skipped; `begun` is the unit of the list that an earlier line began.
+pub fn command_of<L: UnitList>(
+    begun: Option<UnitChoice>,
+    line: &[u8],
+) -> Result<Option<Command>, FaultKind>
+    ensures exact { result ≡ command_of L.listed begun line.now }
+    ensures valid { IfOk result (λ command. IfSome command (CanBegin L.listed)) }
 {
     let Some((first, arguments)) = cut_word(line) else {
         return Ok(None);
@@ -113,8 +118,8 @@ pub fn command_of(begun: Option<UnitChoice>, line: &[u8]) -> Result<Option<Comma
         return Err(FaultKind::UnknownCommand);
     };
     let command = match begun {
-        Some(unit) => later_command(unit, verb, arguments)?,
-        None => first_command(verb, arguments)?,
+        Some(unit) => later_command(&L::names_at(unit.number), verb, arguments)?,
+        None => first_command::<L>(verb, arguments)?,
     };
     Ok(Some(command))
 }

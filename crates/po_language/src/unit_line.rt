@@ -2,9 +2,11 @@
 
 ghost use Rattle.std.specs.Prelude.{◌≡◌, IfSome, MatchOption, None};
 ghost use Rattle.po_language.specs.Words.{words};
-ghost use Rattle.po_language.specs.Commands.{IsSize, HasSize, size_of, plain_unit, sized_unit, unit_of, order_of, with_order, limit_of, beginning_of};
+ghost use Rattle.po_classic_units.specs.Sizes.{IsSize};
+ghost use Rattle.po_language.specs.Commands.{HasSize, size_of, unit_of, order_of, with_order, limit_of, beginning_of};
 
 use crate::command::{Beginning, UnitChoice};
+use crate::unit_list::UnitList;
 use crate::words::{cut_word, number, two_words};
 use po_barriers::Order;
 
@@ -19,56 +21,20 @@ fn size(word: &[u8]) -> Option<u16>
     }
 }
 
-/// The unit of this name, of those that have no size.
-fn plain_unit(name: &[u8]) -> Option<UnitChoice>
-    ensures exact { result ≡ plain_unit name.now }
-    ensures valid { IfSome result HasSize }
-{
-    if name == b"signal".as_slice() {
-        Some(UnitChoice::Signal)
-    } else if name == b"broadcast".as_slice() {
-        Some(UnitChoice::Broadcast)
-    } else if name == b"pulse".as_slice() {
-        Some(UnitChoice::Pulse)
-    } else if name == b"relay".as_slice() {
-        Some(UnitChoice::Relay)
-    } else if name == b"trap".as_slice() {
-        Some(UnitChoice::Trap)
-    } else {
-        None
-    }
-}
-
-/// The unit of this name and size, of those that have one.
-fn sized_unit(name: &[u8], size: u16) -> Option<UnitChoice>
-    requires { IsSize size }
-    ensures exact { result ≡ sized_unit name.now size }
-    ensures valid { IfSome result HasSize }
-{
-    if name == b"buffer".as_slice() {
-        Some(UnitChoice::Buffer { capacity: size })
-    } else if name == b"meeting".as_slice() {
-        Some(UnitChoice::Meeting { size })
-    } else if name == b"allocator".as_slice() {
-        Some(UnitChoice::Allocator { size })
-    } else {
-        None
-    }
-}
-
-/// The unit that the words begin with, and the words behind it.
-fn unit_of(arguments: &[u8]) -> Option<(UnitChoice, &[u8])>
-    ensures exact { MatchOption result (unit_of (words arguments.now) ≡ None)
-        (λ chosen. unit_of (words arguments.now) ≡ Some (chosen.0, words chosen.1.now)) }
-    ensures valid { IfSome result (λ chosen. HasSize chosen.0) }
+/// The unit that the words begin with, and the words behind it: its size is one of them where it has one.
+fn unit_of<L: UnitList>(arguments: &[u8]) -> Option<(UnitChoice, &[u8])>
+    ensures exact { MatchOption result (unit_of L.listed (words arguments.now) ≡ None)
+        (λ chosen. unit_of L.listed (words arguments.now) ≡ Some (chosen.0, words chosen.1.now)) }
+    ensures valid { IfSome result (λ chosen. HasSize L.listed chosen.0) }
 {
     let (name, rest) = cut_word(arguments)?;
-    if let Some(unit) = plain_unit(name) {
-        return Some((unit, rest));
+    let number = L::unit_number(name)?;
+    if !L::names_at(number).is_sized {
+        return Some((UnitChoice { number, size: 0 }, rest));
     }
     let (word, rest) = cut_word(rest)?;
     let size = size(word)?;
-    Some((sized_unit(name, size)?, rest))
+    Some((UnitChoice { number, size }, rest))
 }
 
 /// The service order of this name.
@@ -114,11 +80,11 @@ fn limit_of(arguments: &[u8]) -> Option<Option<u64>>
 }
 
 /// What the words behind `unit` begin.
-pub fn beginning_of(arguments: &[u8]) -> Option<Beginning>
-    ensures exact { result ≡ beginning_of (words arguments.now) }
-    ensures valid { IfSome result (λ beginning. HasSize beginning.unit) }
+pub fn beginning_of<L: UnitList>(arguments: &[u8]) -> Option<Beginning>
+    ensures exact { result ≡ beginning_of L.listed (words arguments.now) }
+    ensures valid { IfSome result (λ beginning. HasSize L.listed beginning.unit) }
 {
-    let (unit, rest) = unit_of(arguments)?;
+    let (unit, rest) = unit_of::<L>(arguments)?;
     let (order, rest) = with_order(rest);
     let max_queue = limit_of(rest)?;
     Some(Beginning {

@@ -1,10 +1,10 @@
 //! Cores whose allocations are refused: every command that found no memory has changed nothing, and does its work when it
 //! is asked again; what takes no memory answers the same, whatever was refused.
 
-ghost use Rattle.std.specs.Prelude.{◌≤◌};
+ghost use Rattle.po_classic_units.specs.Sizes.{IsSize};
 
 use po_actions::{Core, Deadline, End, MakeFault, Order, Place, Ticket};
-use po_classic_units::{Allocator, Buffer, Trap};
+use po_classic_units::{Allocator, Buffer, ScriptUnit, Trap};
 use po_index::{EntryRef, Shape, ShapeFault};
 use po_unit::Unit;
 use std::alloc::Global;
@@ -250,8 +250,7 @@ fn make_trap(alloc: Global) -> Option<Core<Trap>> {
 
 /// A core of an allocator of this size, or none where memory was wanting.
 fn make_allocator(alloc: Global, size: u16) -> Option<Core<Allocator>>
-    requires at_least { 1 ≤ size }
-    requires at_most { size ≤ 1024 }
+    requires { IsSize size }
 {
     let unit = Allocator::new(size);
     let shape = unit.shape(alloc);

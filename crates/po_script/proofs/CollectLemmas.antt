@@ -41,14 +41,14 @@ AreCollectedTo core xs many =
     (k : ℕ) (d : Ended ℕ) → k < many → k < length xs → IsCollected core (slice_index_or xs k d).number
 
 -- one more call is collected
-pub collected_more : (old new : List (Option ℕ)) (xs : List (Ended ℕ)) (place : ℕ) (e : Ended ℕ)
-    → AreCollectedTo old xs place
+pub collected_more : (old new : List (Option ℕ)) (xs : List (Ended ℕ)) (index : ℕ) (e : Ended ℕ)
+    → AreCollectedTo old xs index
     → ((n : ℕ) → IsCollected old n → IsCollected new n)
-    → IsCollected new (slice_index_or xs place e).number
-    → AreCollectedTo new xs (place + 1)
-collected_more old new xs place e before others this = λ k d low within. elim (cases_eq k place) [
+    → IsCollected new (slice_index_or xs index e).number
+    → AreCollectedTo new xs (index + 1)
+collected_more old new xs index e before others this = λ k d low within. elim (cases_eq k index) [
   | inl same ↦
-      let there : get_or xs place e ≡ get_or xs k d =
+      let there : get_or xs index e ≡ get_or xs k d =
       ap (λ i. get_or xs i e) (sym same) ∙ get_or_default xs k e d within in
       subst (λ x. IsCollected new x.number) there this
   | inr other ↦ others _ (before k d (omega (arith, low, other)) within)
@@ -75,8 +75,8 @@ knows_issued old new t u key n knows low free set kept others = record {
   ];
   live = λ k j is. elim (cases_eq j n) [
     | inl same ↦
-        let place : key ≡ k = some_same key k (sym kept ∙ (ap (key_of u) (sym same) ∙ is)) in
-        ap (number_at new) (sym place) ∙ (set.changed ∙ ap (λ i. Some i) (sym same))
+        let index : key ≡ k = some_same key k (sym kept ∙ (ap (key_of u) (sym same) ∙ is)) in
+        ap (number_at new) (sym index) ∙ (set.changed ∙ ap (λ i. Some i) (sym same))
     | inr other ↦
         let was = knows.live k j (sym (others j other) ∙ is) in
         set.others k (λ same. none_some j (sym free ∙ (ap (number_at old) (sym same) ∙ was))) ∙ was

@@ -8,3 +8,4 @@ pub mod EndLemmas
 pub mod Refused
 pub mod ShowLemmas
 pub mod CollectLemmas
+pub mod CountLemmas

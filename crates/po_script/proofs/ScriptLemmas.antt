@@ -10,97 +10,99 @@ use Rattle.po_language.specs.declared.command.UnitChoice.{UnitChoice}
 use Rattle.po_language.specs.declared.command.Command.{Command}
 use Rattle.po_language.specs.declared.command.FaultKind.{FaultKind}
 use Rattle.po_language.specs.declared.command.FaultKind.TheVariants.{ScriptTooLong, LineTooLong}
+use Rattle.po_language.specs.Units.{UnitList}
 
-take-append-within : (most : ℕ) (xs ys : List ℕ) → length xs ≤ most → take most (xs ++ ys) ≡ xs ++ take (most - length xs) ys
-take-append-within most xs ys h = let e : most ≡ length xs + (most - length xs) = omega arith in ap (λ n. take n (xs ++ ys)) e ∙ take-append-add xs ys (most - length xs)
+module _ (units : UnitList) where
+  take-append-within : (most : ℕ) (xs ys : List ℕ) → length xs ≤ most → take most (xs ++ ys) ≡ xs ++ take (most - length xs) ys
+  take-append-within most xs ys h = let e : most ≡ length xs + (most - length xs) = omega arith in ap (λ n. take n (xs ++ ys)) e ∙ take-append-add xs ys (most - length xs)
 
-script_within-past : (most : ℕ) (bytes : List ℕ) → ltb most (length bytes) ≡ true → script_within most bytes ≡ past_limit (whole_lines (take most bytes)).commands (whole_lines (take most bytes)).fault (cut (take most bytes))
-script_within-past most bytes past = ap (λ (b : Bool). cond b (past_limit (whole_lines (take most bytes)).commands (whole_lines (take most bytes)).fault (cut (take most bytes))) (reading None 1 ((cut bytes).full ++ (cut bytes).rest ∷ []))) past
+  script_within-past : (most : ℕ) (bytes : List ℕ) → ltb most (length bytes) ≡ true → script_within units most bytes ≡ past_limit (whole_lines units (take most bytes)).commands (whole_lines units (take most bytes)).fault (cut (take most bytes))
+  script_within-past most bytes past = ap (λ (b : Bool). cond b (past_limit (whole_lines units (take most bytes)).commands (whole_lines units (take most bytes)).fault (cut (take most bytes))) (reading units None 1 ((cut bytes).full ++ (cut bytes).rest ∷ []))) past
 
-pub script_within-all : (most : ℕ) (bytes : List ℕ) → ltb most (length bytes) ≡ false → script_within most bytes ≡ reading None 1 ((cut bytes).full ++ (cut bytes).rest ∷ [])
-script_within-all most bytes within = ap (λ (b : Bool). cond b (past_limit (whole_lines (take most bytes)).commands (whole_lines (take most bytes)).fault (cut (take most bytes))) (reading None 1 ((cut bytes).full ++ (cut bytes).rest ∷ []))) within
+  pub script_within-all : (most : ℕ) (bytes : List ℕ) → ltb most (length bytes) ≡ false → script_within units most bytes ≡ reading units None 1 ((cut bytes).full ++ (cut bytes).rest ∷ [])
+  script_within-all most bytes within = ap (λ (b : Bool). cond b (past_limit (whole_lines units (take most bytes)).commands (whole_lines units (take most bytes)).fault (cut (take most bytes))) (reading units None 1 ((cut bytes).full ++ (cut bytes).rest ∷ []))) within
 
-past_limit-commands : (cs : List Command) (f : Option (ℕ × FaultKind)) (c : Cut) → (past_limit cs f c).commands ≡ cs
-past_limit-commands cs None c = refl
-past_limit-commands cs (Some f) c = refl
+  past_limit-commands : (cs : List Command) (f : Option (ℕ × FaultKind)) (c : Cut) → (past_limit cs f c).commands ≡ cs
+  past_limit-commands cs None c = refl
+  past_limit-commands cs (Some f) c = refl
 
-past_limit-fault : (r : Reading) (f : ℕ × FaultKind) (c : Cut) → r.fault ≡ Some f → past_limit r.commands r.fault c ≡ r
-past_limit-fault r f c bad = ap (λ (o : Option (ℕ × FaultKind)). past_limit r.commands o c) bad ∙ ap (λ (o : Option (ℕ × FaultKind)). let q : Reading = record { commands = r.commands; fault = o } in q) (sym bad)
+  past_limit-fault : (r : Reading) (f : ℕ × FaultKind) (c : Cut) → r.fault ≡ Some f → past_limit r.commands r.fault c ≡ r
+  past_limit-fault r f c bad = ap (λ (o : Option (ℕ × FaultKind)). past_limit r.commands o c) bad ∙ ap (λ (o : Option (ℕ × FaultKind)). let q : Reading = record { commands = r.commands; fault = o } in q) (sym bad)
 
--- the whole lines of more bytes begin with the commands so far
-pub script_front : (most : ℕ) (bytes more : List ℕ) → length bytes ≤ most → (cs : List Command) × ((script_within most (bytes ++ more)).commands ≡ (whole_lines bytes).commands ++ cs)
-script_front most bytes more h = elim (cases_Bool (ltb most (length (bytes ++ more)))) [
-  | inl past ↦
-      let m = full_grows bytes (take (most - length bytes) more) in
-      let r = reading_front None 1 (cut bytes).full m.0 in
-      (r.0, ap (λ (q : Reading). q.commands) (script_within-past most (bytes ++ more) past) ∙ past_limit-commands _ _ _ ∙ ap (λ b. (whole_lines b).commands) (take-append-within most bytes more h) ∙ ap (λ ls. (reading None 1 ls).commands) m.1 ∙ r.1)
-  | inr within ↦
-      let m = full_grows bytes more in
-      let last = (cut (bytes ++ more)).rest ∷ [] in
-      let r = reading_front None 1 (cut bytes).full (m.0 ++ last) in
-      (r.0, ap (λ (q : Reading). q.commands) (script_within-all most (bytes ++ more) within) ∙ ap (λ ls. (reading None 1 (ls ++ last)).commands) m.1 ∙ ap (λ ls. (reading None 1 ls).commands) (append_assoc (cut bytes).full m.0 last) ∙ r.1)
-]
+  -- the whole lines of more bytes begin with the commands so far
+  pub script_front : (most : ℕ) (bytes more : List ℕ) → length bytes ≤ most → (cs : List Command) × ((script_within units most (bytes ++ more)).commands ≡ (whole_lines units bytes).commands ++ cs)
+  script_front most bytes more h = elim (cases_Bool (ltb most (length (bytes ++ more)))) [
+    | inl past ↦
+        let m = full_grows bytes (take (most - length bytes) more) in
+        let r = reading_front units None 1 (cut bytes).full m.0 in
+        (r.0, ap (λ (q : Reading). q.commands) (script_within-past most (bytes ++ more) past) ∙ past_limit-commands _ _ _ ∙ ap (λ b. (whole_lines units b).commands) (take-append-within most bytes more h) ∙ ap (λ ls. (reading units None 1 ls).commands) m.1 ∙ r.1)
+    | inr within ↦
+        let m = full_grows bytes more in
+        let last = (cut (bytes ++ more)).rest ∷ [] in
+        let r = reading_front units None 1 (cut bytes).full (m.0 ++ last) in
+        (r.0, ap (λ (q : Reading). q.commands) (script_within-all most (bytes ++ more) within) ∙ ap (λ ls. (reading units None 1 (ls ++ last)).commands) m.1 ∙ ap (λ ls. (reading units None 1 ls).commands) (append_assoc (cut bytes).full m.0 last) ∙ r.1)
+  ]
 
--- a fault stays the first
-pub script_fault : (most : ℕ) (bytes more : List ℕ) (f : ℕ × FaultKind) → length bytes ≤ most → (whole_lines bytes).fault ≡ Some f → script_within most (bytes ++ more) ≡ whole_lines bytes
-script_fault most bytes more f h bad = elim (cases_Bool (ltb most (length (bytes ++ more)))) [
-  | inl past ↦
-      let m = full_grows bytes (take (most - length bytes) more) in
-      let kept : whole_lines (take most (bytes ++ more)) ≡ whole_lines bytes = ap (λ b. whole_lines b) (take-append-within most bytes more h) ∙ ap (λ ls. reading None 1 ls) m.1 ∙ reading_kept None 1 (cut bytes).full m.0 f bad in
-      script_within-past most (bytes ++ more) past ∙ ap (λ (q : Reading). past_limit q.commands q.fault (cut (take most (bytes ++ more)))) kept ∙ past_limit-fault (whole_lines bytes) f _ bad
-  | inr within ↦
-      let m = full_grows bytes more in
-      let last = (cut (bytes ++ more)).rest ∷ [] in
-      script_within-all most (bytes ++ more) within ∙ ap (λ ls. reading None 1 (ls ++ last)) m.1 ∙ ap (λ ls. reading None 1 ls) (append_assoc (cut bytes).full m.0 last) ∙ reading_kept None 1 (cut bytes).full (m.0 ++ last) f bad
-]
+  -- a fault stays the first
+  pub script_fault : (most : ℕ) (bytes more : List ℕ) (f : ℕ × FaultKind) → length bytes ≤ most → (whole_lines units bytes).fault ≡ Some f → script_within units most (bytes ++ more) ≡ whole_lines units bytes
+  script_fault most bytes more f h bad = elim (cases_Bool (ltb most (length (bytes ++ more)))) [
+    | inl past ↦
+        let m = full_grows bytes (take (most - length bytes) more) in
+        let kept : whole_lines units (take most (bytes ++ more)) ≡ whole_lines units bytes = ap (λ b. whole_lines units b) (take-append-within most bytes more h) ∙ ap (λ ls. reading units None 1 ls) m.1 ∙ reading_kept units None 1 (cut bytes).full m.0 f bad in
+        script_within-past most (bytes ++ more) past ∙ ap (λ (q : Reading). past_limit q.commands q.fault (cut (take most (bytes ++ more)))) kept ∙ past_limit-fault (whole_lines units bytes) f _ bad
+    | inr within ↦
+        let m = full_grows bytes more in
+        let last = (cut (bytes ++ more)).rest ∷ [] in
+        script_within-all most (bytes ++ more) within ∙ ap (λ ls. reading units None 1 (ls ++ last)) m.1 ∙ ap (λ ls. reading units None 1 ls) (append_assoc (cut bytes).full m.0 last) ∙ reading_kept units None 1 (cut bytes).full (m.0 ++ last) f bad
+  ]
 
-past_limit-fine : (r : Reading) (c : Cut) (k : FaultKind) → r.fault ≡ None → (cond (ltb 4096 (length c.rest)) LineTooLong ScriptTooLong) ≡ k → past_limit r.commands r.fault c ≡ record { commands = r.commands; fault = Some (length c.full + 1, k) }
-past_limit-fine r c k fine e = ap (λ (o : Option (ℕ × FaultKind)). past_limit r.commands o c) fine ∙ ap (λ (k : FaultKind). let q : Reading = record { commands = r.commands; fault = Some (length c.full + 1, k) } in q) e
+  past_limit-fine : (r : Reading) (c : Cut) (k : FaultKind) → r.fault ≡ None → (cond (ltb 4096 (length c.rest)) LineTooLong ScriptTooLong) ≡ k → past_limit r.commands r.fault c ≡ record { commands = r.commands; fault = Some (length c.full + 1, k) }
+  past_limit-fine r c k fine e = ap (λ (o : Option (ℕ × FaultKind)). past_limit r.commands o c) fine ∙ ap (λ (k : FaultKind). let q : Reading = record { commands = r.commands; fault = Some (length c.full + 1, k) } in q) e
 
--- past the most bytes
-pub script_past : (most : ℕ) (bytes : List ℕ) (x : ℕ) (more : List ℕ) → length bytes ≡ most → (whole_lines bytes).fault ≡ None → length (cut bytes).rest ≤ 4096 → script_within most (bytes ++ x ∷ more) ≡ record { commands = (whole_lines bytes).commands; fault = Some (length (cut bytes).full + 1, ScriptTooLong) }
-script_past most bytes x more all fine short =
-    let past = lt-ltb most (length (bytes ++ x ∷ more)) (omega (arith, length-append bytes (x ∷ more))) in
-    script_within-past most (bytes ++ x ∷ more) past ∙ ap (λ b. past_limit (whole_lines b).commands (whole_lines b).fault (cut b)) (take_at bytes (x ∷ more) most all) ∙ past_limit-fine (whole_lines bytes) (cut bytes) ScriptTooLong fine (ap (λ (b : Bool). cond b LineTooLong ScriptTooLong) (le-ltb 4096 (length (cut bytes).rest) short))
+  -- past the most bytes
+  pub script_past : (most : ℕ) (bytes : List ℕ) (x : ℕ) (more : List ℕ) → length bytes ≡ most → (whole_lines units bytes).fault ≡ None → length (cut bytes).rest ≤ 4096 → script_within units most (bytes ++ x ∷ more) ≡ record { commands = (whole_lines units bytes).commands; fault = Some (length (cut bytes).full + 1, ScriptTooLong) }
+  script_past most bytes x more all fine short =
+      let past = lt-ltb most (length (bytes ++ x ∷ more)) (omega (arith, length-append bytes (x ∷ more))) in
+      script_within-past most (bytes ++ x ∷ more) past ∙ ap (λ b. past_limit (whole_lines units b).commands (whole_lines units b).fault (cut b)) (take_at bytes (x ∷ more) most all) ∙ past_limit-fine (whole_lines units bytes) (cut bytes) ScriptTooLong fine (ap (λ (b : Bool). cond b LineTooLong ScriptTooLong) (le-ltb 4096 (length (cut bytes).rest) short))
 
-long_line : (begun : Option UnitChoice) (line : List ℕ) → 4096 < length line → line_of begun line ≡ Err LineTooLong
-long_line begun line h = simp (lt-ltb 4096 (length line) h) refl
+  long_line : (begun : Option UnitChoice) (line : List ℕ) → 4096 < length line → line_of units begun line ≡ Err LineTooLong
+  long_line begun line h = simp (lt-ltb 4096 (length line) h) refl
 
--- a line of too many bytes that a newline ends, or the end
-long_read : (bytes line : List ℕ) (ls : List (List ℕ)) → (whole_lines bytes).fault ≡ None → 4096 < length line → reading None 1 ((cut bytes).full ++ line ∷ ls) ≡ record { commands = (whole_lines bytes).commands; fault = Some (length (cut bytes).full + 1, LineTooLong) }
-long_read bytes line ls fine h =
-    let one = reading-push None 1 (cut bytes).full line fine ∙ ap (extend (whole_lines bytes) (1 + length (cut bytes).full)) (long_line _ line h) in
-    let n : 1 + length (cut bytes).full ≡ length (cut bytes).full + 1 = omega arith in
-    ap (λ ls. reading None 1 ls) (sym (append_assoc (cut bytes).full (line ∷ []) ls)) ∙ reading_kept None 1 ((cut bytes).full ++ line ∷ []) ls (1 + length (cut bytes).full, LineTooLong) (ap (λ (q : Reading). q.fault) one) ∙ one ∙ ap (λ n. let q : Reading = record { commands = (whole_lines bytes).commands; fault = Some (n, LineTooLong) } in q) n
+  -- a line of too many bytes that a newline ends, or the end
+  long_read : (bytes line : List ℕ) (ls : List (List ℕ)) → (whole_lines units bytes).fault ≡ None → 4096 < length line → reading units None 1 ((cut bytes).full ++ line ∷ ls) ≡ record { commands = (whole_lines units bytes).commands; fault = Some (length (cut bytes).full + 1, LineTooLong) }
+  long_read bytes line ls fine h =
+      let one = reading-push units None 1 (cut bytes).full line fine ∙ ap (extend (whole_lines units bytes) (1 + length (cut bytes).full)) (long_line _ line h) in
+      let n : 1 + length (cut bytes).full ≡ length (cut bytes).full + 1 = omega arith in
+      ap (λ ls. reading units None 1 ls) (sym (append_assoc (cut bytes).full (line ∷ []) ls)) ∙ reading_kept units None 1 ((cut bytes).full ++ line ∷ []) ls (1 + length (cut bytes).full, LineTooLong) (ap (λ (q : Reading). q.fault) one) ∙ one ∙ ap (λ n. let q : Reading = record { commands = (whole_lines units bytes).commands; fault = Some (n, LineTooLong) } in q) n
 
--- the line that goes on with x is ended, or is the rest
-long_cut : (bytes : List ℕ) (x : ℕ) (zs : List ℕ) → eqb x 10 ≡ false → length (cut bytes).rest ≡ 4096 → ((line : List ℕ) × (ls : List (List ℕ)) × (4096 < length line) × ((cut (bytes ++ x ∷ zs)).full ≡ (cut bytes).full ++ line ∷ ls)) ⊎ (((cut (bytes ++ x ∷ zs)).full ≡ (cut bytes).full) × (4096 < length (cut (bytes ++ x ∷ zs)).rest))
-long_cut bytes x zs other long = go (cut zs).full (cut-append bytes (x ∷ zs) ∙ simp other refl)
-  where
-    go : (fs : List (List ℕ)) → cut (bytes ++ x ∷ zs) ≡ glue (cut bytes).full (cut bytes).rest (join x fs (cut zs).rest).full (join x fs (cut zs).rest).rest → ((line : List ℕ) × (ls : List (List ℕ)) × (4096 < length line) × ((cut (bytes ++ x ∷ zs)).full ≡ (cut bytes).full ++ line ∷ ls)) ⊎ (((cut (bytes ++ x ∷ zs)).full ≡ (cut bytes).full) × (4096 < length (cut (bytes ++ x ∷ zs)).rest))
-    go [] e = inr (ap (λ (c : Cut). c.full) e, omega (arith, ap (λ (c : Cut). length c.rest) e, length-append (cut bytes).rest (x ∷ (cut zs).rest)))
-    go (l ∷ ls) e = inl ((cut bytes).rest ++ x ∷ l, ls, omega (arith, length-append (cut bytes).rest (x ∷ l)), ap (λ (c : Cut). c.full) e)
+  -- the line that goes on with x is ended, or is the rest
+  long_cut : (bytes : List ℕ) (x : ℕ) (zs : List ℕ) → eqb x 10 ≡ false → length (cut bytes).rest ≡ 4096 → ((line : List ℕ) × (ls : List (List ℕ)) × (4096 < length line) × ((cut (bytes ++ x ∷ zs)).full ≡ (cut bytes).full ++ line ∷ ls)) ⊎ (((cut (bytes ++ x ∷ zs)).full ≡ (cut bytes).full) × (4096 < length (cut (bytes ++ x ∷ zs)).rest))
+  long_cut bytes x zs other long = go (cut zs).full (cut-append bytes (x ∷ zs) ∙ simp other refl)
+    where
+      go : (fs : List (List ℕ)) → cut (bytes ++ x ∷ zs) ≡ glue (cut bytes).full (cut bytes).rest (join x fs (cut zs).rest).full (join x fs (cut zs).rest).rest → ((line : List ℕ) × (ls : List (List ℕ)) × (4096 < length line) × ((cut (bytes ++ x ∷ zs)).full ≡ (cut bytes).full ++ line ∷ ls)) ⊎ (((cut (bytes ++ x ∷ zs)).full ≡ (cut bytes).full) × (4096 < length (cut (bytes ++ x ∷ zs)).rest))
+      go [] e = inr (ap (λ (c : Cut). c.full) e, omega (arith, ap (λ (c : Cut). length c.rest) e, length-append (cut bytes).rest (x ∷ (cut zs).rest)))
+      go (l ∷ ls) e = inl ((cut bytes).rest ++ x ∷ l, ls, omega (arith, length-append (cut bytes).rest (x ∷ l)), ap (λ (c : Cut). c.full) e)
 
--- past the most bytes of a line
-pub script_long : (most : ℕ) (bytes : List ℕ) (x : ℕ) (more : List ℕ) → length bytes < most → (whole_lines bytes).fault ≡ None → length (cut bytes).rest ≡ 4096 → eqb x 10 ≡ false → script_within most (bytes ++ x ∷ more) ≡ record { commands = (whole_lines bytes).commands; fault = Some (length (cut bytes).full + 1, LineTooLong) }
-script_long most bytes x more h fine long other =
-    let f : ℕ × FaultKind = (length (cut bytes).full + 1, LineTooLong) in
-    elim (cases_Bool (ltb most (length (bytes ++ x ∷ more)))) [
-      | inl past ↦
-          let zs = take (most - length bytes - 1) more in
-          let room : most - length bytes ≡ suc (most - length bytes - 1) = omega arith in
-          let t : take most (bytes ++ x ∷ more) ≡ bytes ++ x ∷ zs = take-append-within most bytes (x ∷ more) (omega arith) ∙ ap (λ n. bytes ++ take n (x ∷ more)) room in
-          script_within-past most (bytes ++ x ∷ more) past ∙ ap (λ b. past_limit (whole_lines b).commands (whole_lines b).fault (cut b)) t ∙ elim (long_cut bytes x zs other long) [
-            | inl w ↦
-                let whole = ap (λ ls. reading None 1 ls) w.3 ∙ long_read bytes w.0 w.1 fine w.2 in
-                past_limit-fault (whole_lines (bytes ++ x ∷ zs)) f _ (ap (λ (q : Reading). q.fault) whole) ∙ whole
-            | inr w ↦
-                let whole = ap (λ ls. reading None 1 ls) w.0 in
-                past_limit-fine (whole_lines (bytes ++ x ∷ zs)) (cut (bytes ++ x ∷ zs)) LineTooLong (ap (λ (q : Reading). q.fault) whole ∙ fine) (ap (λ (b : Bool). cond b LineTooLong ScriptTooLong) (lt-ltb 4096 _ w.1)) ∙ rw w.0 refl
-          ]
-      | inr within ↦
-          script_within-all most (bytes ++ x ∷ more) within ∙ elim (long_cut bytes x more other long) [
-            | inl w ↦ ap (λ ls. reading None 1 (ls ++ (cut (bytes ++ x ∷ more)).rest ∷ [])) w.3 ∙ ap (λ ls. reading None 1 ls) (append_assoc (cut bytes).full (w.0 ∷ w.1) _) ∙ long_read bytes w.0 _ fine w.2
-            | inr w ↦ ap (λ ls. reading None 1 (ls ++ (cut (bytes ++ x ∷ more)).rest ∷ [])) w.0 ∙ long_read bytes _ [] fine w.1
-          ]
-    ]
+  -- past the most bytes of a line
+  pub script_long : (most : ℕ) (bytes : List ℕ) (x : ℕ) (more : List ℕ) → length bytes < most → (whole_lines units bytes).fault ≡ None → length (cut bytes).rest ≡ 4096 → eqb x 10 ≡ false → script_within units most (bytes ++ x ∷ more) ≡ record { commands = (whole_lines units bytes).commands; fault = Some (length (cut bytes).full + 1, LineTooLong) }
+  script_long most bytes x more h fine long other =
+      let f : ℕ × FaultKind = (length (cut bytes).full + 1, LineTooLong) in
+      elim (cases_Bool (ltb most (length (bytes ++ x ∷ more)))) [
+        | inl past ↦
+            let zs = take (most - length bytes - 1) more in
+            let room : most - length bytes ≡ suc (most - length bytes - 1) = omega arith in
+            let t : take most (bytes ++ x ∷ more) ≡ bytes ++ x ∷ zs = take-append-within most bytes (x ∷ more) (omega arith) ∙ ap (λ n. bytes ++ take n (x ∷ more)) room in
+            script_within-past most (bytes ++ x ∷ more) past ∙ ap (λ b. past_limit (whole_lines units b).commands (whole_lines units b).fault (cut b)) t ∙ elim (long_cut bytes x zs other long) [
+              | inl w ↦
+                  let whole = ap (λ ls. reading units None 1 ls) w.3 ∙ long_read bytes w.0 w.1 fine w.2 in
+                  past_limit-fault (whole_lines units (bytes ++ x ∷ zs)) f _ (ap (λ (q : Reading). q.fault) whole) ∙ whole
+              | inr w ↦
+                  let whole = ap (λ ls. reading units None 1 ls) w.0 in
+                  past_limit-fine (whole_lines units (bytes ++ x ∷ zs)) (cut (bytes ++ x ∷ zs)) LineTooLong (ap (λ (q : Reading). q.fault) whole ∙ fine) (ap (λ (b : Bool). cond b LineTooLong ScriptTooLong) (lt-ltb 4096 _ w.1)) ∙ rw w.0 refl
+            ]
+        | inr within ↦
+            script_within-all most (bytes ++ x ∷ more) within ∙ elim (long_cut bytes x more other long) [
+              | inl w ↦ ap (λ ls. reading units None 1 (ls ++ (cut (bytes ++ x ∷ more)).rest ∷ [])) w.3 ∙ ap (λ ls. reading units None 1 ls) (append_assoc (cut bytes).full (w.0 ∷ w.1) _) ∙ long_read bytes w.0 _ fine w.2
+              | inr w ↦ ap (λ ls. reading units None 1 (ls ++ (cut (bytes ++ x ∷ more)).rest ∷ [])) w.0 ∙ long_read bytes _ [] fine w.1
+            ]
+      ]

@@ -12,60 +12,62 @@ use Rattle.po_script.specs.AnySession.{begun_by, state_by, text_by, begun_with, 
 use Rattle.po_language.specs.declared.command.UnitChoice.{UnitChoice}
 use Rattle.po_language.specs.declared.command.Command.{Command}
 use Rattle.po_language.specs.declared.command.FaultKind.{FaultKind}
+use Rattle.po_language.specs.Units.{UnitList}
 
--- what a line says that is not too long
-pub line_of-short : (begun : Option UnitChoice) (line : List ℕ) → length line ≤ 4096 → line_of begun line ≡ command_of begun line
-line_of-short begun line short = simp (le-ltb 4096 (length line) short) refl
+module _ (units : UnitList) where
+  -- what a line says that is not too long
+  pub line_of-short : (begun : Option UnitChoice) (line : List ℕ) → length line ≤ 4096 → line_of units begun line ≡ command_of units begun line
+  line_of-short begun line short = simp (le-ltb 4096 (length line) short) refl
 
-pub extend-fine : (r : Reading) (n : ℕ) (c : Option Command) → r.fault ≡ None → (extend r n (Ok c)).fault ≡ None
-extend-fine r n None fine = fine
-extend-fine r n (Some c) fine = refl
+  pub extend-fine : (r : Reading) (n : ℕ) (c : Option Command) → r.fault ≡ None → (extend r n (Ok c)).fault ≡ None
+  extend-fine r n None fine = fine
+  extend-fine r n (Some c) fine = refl
 
-extend-begun : (r : Reading) (n : ℕ) (c : Option Command) → begun_with (begun_by None r.commands) c ≡ begun_by None (extend r n (Ok c)).commands
-extend-begun r n None = refl
-extend-begun r n (Some c) = sym (begun_by-push None r.commands c)
+  extend-begun : (r : Reading) (n : ℕ) (c : Option Command) → begun_with (begun_by None r.commands) c ≡ begun_by None (extend r n (Ok c)).commands
+  extend-begun r n None = refl
+  extend-begun r n (Some c) = sym (begun_by-push None r.commands c)
 
--- a line that a newline ends, by what it says
-pub whole_lines-newline : (bytes : List ℕ) (says : Result (Option Command) FaultKind) → (whole_lines bytes).fault ≡ None → line_of (begun_by None (whole_lines bytes).commands) (cut bytes).rest ≡ says → whole_lines (bytes ++ 10 ∷ []) ≡ extend (whole_lines bytes) (1 + length (cut bytes).full) says
-whole_lines-newline bytes says fine e =
-    ap (λ (c : Cut). reading None 1 c.full) (cut-newline bytes) ∙ reading-push None 1 (cut bytes).full (cut bytes).rest fine ∙ ap (extend (whole_lines bytes) (1 + length (cut bytes).full)) e
+  -- a line that a newline ends, by what it says
+  pub whole_lines-newline : (bytes : List ℕ) (says : Result (Option Command) FaultKind) → (whole_lines units bytes).fault ≡ None → line_of units (begun_by None (whole_lines units bytes).commands) (cut bytes).rest ≡ says → whole_lines units (bytes ++ 10 ∷ []) ≡ extend (whole_lines units bytes) (1 + length (cut bytes).full) says
+  whole_lines-newline bytes says fine e =
+      ap (λ (c : Cut). reading units None 1 c.full) (cut-newline bytes) ∙ reading-push units None 1 (cut bytes).full (cut bytes).rest fine ∙ ap (extend (whole_lines units bytes) (1 + length (cut bytes).full)) e
 
-module _ {S : Type 0} (after : S → Command → S) (answer : S → Command → List ℕ) (opening : S) where
-  extend-state : (r : Reading) (n : ℕ) (c : Option Command) → state_with after (state_by after opening r.commands) c ≡ state_by after opening (extend r n (Ok c)).commands
-  extend-state r n None = refl
-  extend-state r n (Some c) = sym (state_by-append after answer opening r.commands (c ∷ []))
+  module _ {S : Type 0} (after : S → Command → S) (answer : S → Command → List ℕ) (opening : S) where
+    extend-state : (r : Reading) (n : ℕ) (c : Option Command) → state_with after (state_by after opening r.commands) c ≡ state_by after opening (extend r n (Ok c)).commands
+    extend-state r n None = refl
+    extend-state r n (Some c) = sym (state_by-append after answer opening r.commands (c ∷ []))
 
-  pub extend-text : (r : Reading) (n : ℕ) (c : Option Command) → text_by after answer opening (extend r n (Ok c)).commands ≡ text_by after answer opening r.commands ++ text_with answer (state_by after opening r.commands) c
-  extend-text r n None = sym (append-nil _)
-  extend-text r n (Some c) = text_by-append after answer opening r.commands (c ∷ []) ∙ ap (λ t. text_by after answer opening r.commands ++ t) (append-nil _)
+    pub extend-text : (r : Reading) (n : ℕ) (c : Option Command) → text_by after answer opening (extend r n (Ok c)).commands ≡ text_by after answer opening r.commands ++ text_with answer (state_by after opening r.commands) c
+    extend-text r n None = sym (append-nil _)
+    extend-text r n (Some c) = text_by-append after answer opening r.commands (c ∷ []) ∙ ap (λ t. text_by after answer opening r.commands ++ t) (append-nil _)
 
-  pub newline_stands : (line : List ℕ) (number total : ℕ) (begun : Option UnitChoice) (state : S) (bytes : List ℕ) (start now later : Option (List ℕ)) (c : Option Command) → StandsBy after answer opening line number total begun state bytes start now → length line ≤ 4096 → command_of begun line ≡ Ok c → Appends now later (text_with answer state c) → StandsBy after answer opening [] (number + 1) (total + 1) (begun_with begun c) (state_with after state c) (bytes ++ 10 ∷ []) start later
-  newline_stands line number total begun state bytes start now later c s short says told =
-      let r = whole_lines bytes in
-      let n = 1 + length (cut bytes).full in
-      let e = cut-newline bytes in
-      let says_rest : line_of (begun_by None r.commands) (cut bytes).rest ≡ Ok c = rw (← s.begun_is, ← s.line_is) (line_of-short begun line short ∙ says) in
-      let w = whole_lines-newline bytes (Ok c) s.fine says_rest in
-      record {
-        line_is = ap (λ (c : Cut). c.rest) (sym e);
-        number_is = omega (arith, s.number_is, ap (λ (c : Cut). length c.full) e, length_push (cut bytes).full (cut bytes).rest);
-        total_is = omega (arith, s.total_is, length_push bytes 10);
-        fine = rw w (extend-fine r n c s.fine);
-        begun_is = rw (w, s.begun_is) (extend-begun r n c);
-        state_is = rw (w, s.state_is) (extend-state r n c);
-        told = rw (w, extend-text r n c) (Appends-trans start now later _ _ s.told (rw (← s.state_is) told));
-      }
+    pub newline_stands : (line : List ℕ) (number total : ℕ) (begun : Option UnitChoice) (state : S) (bytes : List ℕ) (start now later : Option (List ℕ)) (c : Option Command) → StandsBy units after answer opening line number total begun state bytes start now → length line ≤ 4096 → command_of units begun line ≡ Ok c → Appends now later (text_with answer state c) → StandsBy units after answer opening [] (number + 1) (total + 1) (begun_with begun c) (state_with after state c) (bytes ++ 10 ∷ []) start later
+    newline_stands line number total begun state bytes start now later c s short says told =
+        let r = whole_lines units bytes in
+        let n = 1 + length (cut bytes).full in
+        let e = cut-newline bytes in
+        let says_rest : line_of units (begun_by None r.commands) (cut bytes).rest ≡ Ok c = rw (← s.begun_is, ← s.line_is) (line_of-short begun line short ∙ says) in
+        let w = whole_lines-newline bytes (Ok c) s.fine says_rest in
+        record {
+          line_is = ap (λ (c : Cut). c.rest) (sym e);
+          number_is = omega (arith, s.number_is, ap (λ (c : Cut). length c.full) e, length_push (cut bytes).full (cut bytes).rest);
+          total_is = omega (arith, s.total_is, length_push bytes 10);
+          fine = rw w (extend-fine r n c s.fine);
+          begun_is = rw (w, s.begun_is) (extend-begun r n c);
+          state_is = rw (w, s.state_is) (extend-state r n c);
+          told = rw (w, extend-text r n c) (Appends-trans start now later _ _ s.told (rw (← s.state_is) told));
+        }
 
-  pub letter_stands : (line : List ℕ) (number total : ℕ) (begun : Option UnitChoice) (state : S) (bytes : List ℕ) (start now : Option (List ℕ)) (b : ℕ) → StandsBy after answer opening line number total begun state bytes start now → eqb b 10 ≡ false → StandsBy after answer opening (line ++ b ∷ []) number (total + 1) begun state (bytes ++ b ∷ []) start now
-  letter_stands line number total begun state bytes start now b s other =
-      let e = cut-letter bytes b other in
-      let w : whole_lines (bytes ++ b ∷ []) ≡ whole_lines bytes = ap (λ (c : Cut). reading None 1 c.full) e in
-      record {
-        line_is = ap (λ l. l ++ b ∷ []) s.line_is ∙ ap (λ (c : Cut). c.rest) (sym e);
-        number_is = omega (arith, s.number_is, ap (λ (c : Cut). length c.full) e);
-        total_is = omega (arith, s.total_is, length_push bytes b);
-        fine = rw w s.fine;
-        begun_is = rw w s.begun_is;
-        state_is = rw w s.state_is;
-        told = rw w s.told;
-      }
+    pub letter_stands : (line : List ℕ) (number total : ℕ) (begun : Option UnitChoice) (state : S) (bytes : List ℕ) (start now : Option (List ℕ)) (b : ℕ) → StandsBy units after answer opening line number total begun state bytes start now → eqb b 10 ≡ false → StandsBy units after answer opening (line ++ b ∷ []) number (total + 1) begun state (bytes ++ b ∷ []) start now
+    letter_stands line number total begun state bytes start now b s other =
+        let e = cut-letter bytes b other in
+        let w : whole_lines units (bytes ++ b ∷ []) ≡ whole_lines units bytes = ap (λ (c : Cut). reading units None 1 c.full) e in
+        record {
+          line_is = ap (λ l. l ++ b ∷ []) s.line_is ∙ ap (λ (c : Cut). c.rest) (sym e);
+          number_is = omega (arith, s.number_is, ap (λ (c : Cut). length c.full) e);
+          total_is = omega (arith, s.total_is, length_push bytes b);
+          fine = rw w s.fine;
+          begun_is = rw w s.begun_is;
+          state_is = rw w s.state_is;
+          told = rw w s.told;
+        }

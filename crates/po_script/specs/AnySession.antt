@@ -1,6 +1,7 @@
 -- How far a reading has come, over any session: what a command makes of a state, and what it answers there.
 use Rattle.std.specs.Prelude.{ℕ, ◌+◌, ◌≡◌, List, [], ◌∷◌, ◌++◌, length, Option, Some, None}
 use Rattle.std.specs.Io.KnownBytes.{Appends}
+use Rattle.po_language.specs.Units.{UnitList}
 use Rattle.po_script.specs.Script.{cut, whole_lines, begun_after}
 use Rattle.po_language.specs.declared.command.UnitChoice.{UnitChoice}
 use Rattle.po_language.specs.declared.command.Command.{Command}
@@ -34,13 +35,13 @@ text_with answer s None = []
 text_with answer s (Some c) = answer s c
 
 -- The bytes read so far are these, and all their whole lines were carried out.
-pub record StandsBy {S : Type 0} (after : S → Command → S) (answer : S → Command → List ℕ) (opening : S)
+pub record StandsBy (units : UnitList) {S : Type 0} (after : S → Command → S) (answer : S → Command → List ℕ) (opening : S)
     (line : List ℕ) (number total : ℕ) (begun : Option UnitChoice) (state : S)
     (bytes : List ℕ) (start now : Option (List ℕ)) : Type 0 where
   pub line_is : line ≡ (cut bytes).rest
   pub number_is : number ≡ length (cut bytes).full + 1
   pub total_is : total ≡ length bytes
-  pub fine : (whole_lines bytes).fault ≡ None
-  pub begun_is : begun ≡ begun_by None (whole_lines bytes).commands
-  pub state_is : state ≡ state_by after opening (whole_lines bytes).commands
-  pub told : Appends start now (text_by after answer opening (whole_lines bytes).commands)
+  pub fine : (whole_lines units bytes).fault ≡ None
+  pub begun_is : begun ≡ begun_by None (whole_lines units bytes).commands
+  pub state_is : state ≡ state_by after opening (whole_lines units bytes).commands
+  pub told : Appends start now (text_by after answer opening (whole_lines units bytes).commands)

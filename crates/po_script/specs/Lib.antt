@@ -1,5 +1,6 @@
 pub mod Lines
 pub mod Operations
+pub mod Units
 pub mod Session
 pub mod Tickets
 pub mod OverStd
@@ -8,3 +9,4 @@ pub mod AnySession
 pub mod Ends
 pub mod Interpreter
 pub mod Run
+pub mod Source

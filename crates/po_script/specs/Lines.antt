@@ -69,9 +69,9 @@ abbrev pub index_text : Option ℤ → List ℕ
 index_text None = []
 index_text (Some index) = codes "(" ++ signed_decimal index ++ codes ")"
 
--- the name of the declaration at this place
+-- the name of the declaration with this number
 abbrev pub name_at : List (List ℕ) → ℕ → List ℕ
-name_at names place = unwrap_or (slice_get names place) []
+name_at names number = unwrap_or (slice_get names number) []
 
 -- the line of an entry on which so many calls are queued (9.9)
 abbrev pub count_line : List (List ℕ) → EntryRef → ℕ → List ℕ

@@ -1,5 +1,5 @@
 -- What an operation of a script does to an object, and the lines that answer it.
-use Rattle.std.specs.Prelude.{ℕ, List, [], ◌++◌, Bool, true, false, Option, Some, None, flat_map, slice_index}
+use Rattle.std.specs.Prelude.{ℕ, ◌≡◌, ◌⊎◌, List, [], ◌++◌, Bool, true, false, Option, Some, None, flat_map, slice_index}
 use Rattle.po_index.specs.declared.decl.EntryRef.{EntryRef}
 use Rattle.po_index.specs.Numbering.{entry_references}
 use Rattle.po_unit.specs.Meaning.{Meaning}
@@ -19,6 +19,10 @@ use Rattle.po_script.specs.Lines.{ended_lines, ticket_line, refused_line, reply_
 abbrev pub is_memory : Refusal → Bool
 is_memory OutOfMemory = true
 is_memory other = false
+
+-- What was old stayed, or became the new.
+abbrev pub IsEither : {X : Type 0} → X → X → X → Type 0
+IsEither now old new = (now ≡ old) ⊎ (now ≡ new)
 
 -- the object as it was where the operation is refused, and else the other
 abbrev pub view_by : {X : Type 0} → Option Refusal → X → X → X

@@ -1,6 +1,7 @@
 -- What a script says: its lines, and its commands up to the first fault.
-use Rattle.std.specs.Prelude.{ℕ, ◌+◌, nat_lt, ◌==◌, List, [], ◌∷◌, ◌++◌, length, take, Option, Some, None, Result, Ok, Err, if◌then◌else◌}
+use Rattle.std.specs.Prelude.{ℕ, ◌+◌, nat_lt, ◌==◌, Bool, true, false, List, [], ◌∷◌, ◌++◌, length, take, Option, Some, None, Result, Ok, Err, if◌then◌else◌}
 use Rattle.po_language.specs.Commands.{command_of}
+use Rattle.po_language.specs.Units.{UnitList}
 use Rattle.po_language.specs.declared.command.UnitChoice.{UnitChoice}
 use Rattle.po_language.specs.declared.command.Command.{Command}
 use Rattle.po_language.specs.declared.command.Command.TheVariants.{Begin}
@@ -27,8 +28,8 @@ cut [] = record { full = []; rest = [] }
 cut (b ∷ bs) = onto b (cut bs)
 
 -- what a line says: its command, nothing, or its fault; a line has at most 4,096 bytes
-abbrev pub line_of : Option UnitChoice → List ℕ → Result (Option Command) FaultKind
-line_of begun line = if nat_lt 4096 (length line) then Err LineTooLong else command_of begun line
+abbrev pub line_of : UnitList → Option UnitChoice → List ℕ → Result (Option Command) FaultKind
+line_of units begun line = if nat_lt 4096 (length line) then Err LineTooLong else command_of units begun line
 
 -- the unit that is begun after the command
 abbrev pub begun_after : Option UnitChoice → Command → Option UnitChoice
@@ -51,13 +52,13 @@ with_line n begun (Ok None) later = later begun
 with_line n begun (Ok (Some c)) later = prepend c (later (begun_after begun c))
 
 -- what the lines from number n on say, where this unit is begun
-abbrev pub reading : Option UnitChoice → ℕ → List (List ℕ) → Reading
-reading begun n [] = record { commands = []; fault = None }
-reading begun n (line ∷ lines) = with_line n begun (line_of begun line) (λ later. reading later (n + 1) lines)
+abbrev pub reading : UnitList → Option UnitChoice → ℕ → List (List ℕ) → Reading
+reading units begun n [] = record { commands = []; fault = None }
+reading units begun n (line ∷ lines) = with_line n begun (line_of units begun line) (λ later. reading units later (n + 1) lines)
 
 -- what the lines that a newline ends say
-abbrev pub whole_lines : List ℕ → Reading
-whole_lines bytes = reading None 1 (cut bytes).full
+abbrev pub whole_lines : UnitList → List ℕ → Reading
+whole_lines units bytes = reading units None 1 (cut bytes).full
 
 -- the first fault of these lines, or that the line behind them goes past its most bytes or the script's
 abbrev pub past_limit : List Command → Option (ℕ × FaultKind) → Cut → Reading
@@ -65,12 +66,17 @@ past_limit commands (Some fault) c = record { commands = commands; fault = Some 
 past_limit commands None c = record { commands = commands; fault = Some (length c.full + 1, if nat_lt 4096 (length c.rest) then LineTooLong else ScriptTooLong) }
 
 -- what a script of at most so many bytes says; what stands behind the last newline is a line too
-abbrev pub script_within : ℕ → List ℕ → Reading
-script_within most bytes =
+abbrev pub script_within : UnitList → ℕ → List ℕ → Reading
+script_within units most bytes =
     if nat_lt most (length bytes)
-    then past_limit (whole_lines (take most bytes)).commands (whole_lines (take most bytes)).fault (cut (take most bytes))
-    else reading None 1 ((cut bytes).full ++ (cut bytes).rest ∷ [])
+    then past_limit (whole_lines units (take most bytes)).commands (whole_lines units (take most bytes)).fault (cut (take most bytes))
+    else reading units None 1 ((cut bytes).full ++ (cut bytes).rest ∷ [])
 
 -- what the script says: a script has at most 67,108,864 bytes
-abbrev pub script_of : List ℕ → Reading
-script_of bytes = script_within 67108864 bytes
+abbrev pub script_of : UnitList → List ℕ → Reading
+script_of units bytes = script_within units 67108864 bytes
+
+-- the commands of the lines that were read whole: a newline stands behind each, or the end
+abbrev pub commands_read : UnitList → List ℕ → Bool → List Command
+commands_read units bytes true = (script_of units bytes).commands
+commands_read units bytes false = (whole_lines units bytes).commands

@@ -1,14 +1,11 @@
 -- The tickets that a script keeps, and that it collects the calls that have ended.
 use Rattle.std.specs.Prelude.{ℕ, ◌≡◌, ◌≢◌, ◌<◌, nat_eq, List, All, Option, Some, IsSome, find}
 use Rattle.std.specs.HashMap.{get, spare}
-use Rattle.po_accepted.specs.declared.ended.Ended.{Ended}
 use Rattle.po_calls.specs.declared.ticket.Ticket.{Ticket}
 use Rattle.po_accepted.specs.Ending.{has_ended}
 use Rattle.po_actions.specs.View.{View, ended_now}
 use Rattle.po_actions.specs.Tickets.{CoreView}
 use Rattle.po_accepted.specs.Tickets.{number_at}
-use Rattle.po_script.specs.declared.object.Object.{Object}
-use Rattle.po_script.specs.declared.object.Object.TheVariants.{Buffer, Signal, Broadcast, Pulse, Meeting, Allocator, Relay, Trap}
 use Rattle.po_script.specs.declared.tickets.Tickets.{Tickets}
 
 -- the key that is kept for the call with number n
@@ -42,31 +39,3 @@ module _ {S V : Type 0} where
   -- Each call that the last command ended was collected.
   abbrev pub AreCollected : CoreView S V → Type 0
   AreCollected core = All (λ x. IsCollected core.tickets x.number) (ended_now core.object)
-
--- ---- the same of the object of a script
-
--- the tickets of the object's uncollected calls
-abbrev pub tickets_of : Object → List (Option ℕ)
-tickets_of (Buffer core) = core.tickets
-tickets_of (Signal core) = core.tickets
-tickets_of (Broadcast core) = core.tickets
-tickets_of (Pulse core) = core.tickets
-tickets_of (Meeting core) = core.tickets
-tickets_of (Allocator core) = core.tickets
-tickets_of (Relay core) = core.tickets
-tickets_of (Trap core) = core.tickets
-
--- the calls that the object's last command ended
-abbrev pub ended_on : Object → List (Ended ℕ)
-ended_on (Buffer core) = ended_now core.object
-ended_on (Signal core) = ended_now core.object
-ended_on (Broadcast core) = ended_now core.object
-ended_on (Pulse core) = ended_now core.object
-ended_on (Meeting core) = ended_now core.object
-ended_on (Allocator core) = ended_now core.object
-ended_on (Relay core) = ended_now core.object
-ended_on (Trap core) = ended_now core.object
-
--- Each call that the object's last command ended was collected.
-abbrev pub HasCollected : Object → Type 0
-HasCollected object = All (λ x. IsCollected (tickets_of object) x.number) (ended_on object)

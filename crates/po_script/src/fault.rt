@@ -1,6 +1,9 @@
 //! How a run of a script fails.
 
+ghost use Rattle.po_script.specs.declared.fault.RunFault.TheVariants.{Memory};
+
 use po_language::FaultKind;
+use std::alloc::AllocError;
 use thiserror::Error;
 
 /// Why a run ended early.
@@ -18,4 +21,14 @@ pub enum RunFault {
     /// Memory ran out.
     #[error("out of memory")]
     Memory,
+}
+
+impl From<AllocError> for RunFault {
+    ghost use Rattle.std.specs.Prelude.{◌≡◌};
+
+    ghost from_gives = { λ _ fault. fault ≡ Memory };
+
+    fn from(_error: AllocError) -> RunFault {
+        RunFault::Memory
+    }
 }

@@ -6,16 +6,17 @@ ghost use Rattle.po_script.specs.Script.{begun_after};
 use crate::fault::RunFault;
 use crate::session::Session;
 use crate::sink::{Sink, write_all};
+use crate::units::ScriptObject;
 use po_language::{Command, UnitChoice, command_of};
 use std::alloc::Global;
 
 /// What the lines of a script have come to.
 #[derive(Drop)]
-pub(crate) struct Interpreter {
+pub(crate) struct Interpreter<O> {
     /// The unit that a line began.
     pub(crate) begun: Option<UnitChoice>,
     /// What the commands are carried out on.
-    pub(crate) session: Session,
+    pub(crate) session: Session<O>,
     /// The lines that answered the last command.
     reply: String,
 }
@@ -30,18 +31,18 @@ fn begun_after(begun: Option<UnitChoice>, command: Command) -> Option<UnitChoice
     }
 }
 
-impl Interpreter {
+impl<O: ScriptObject> Interpreter<O> {
     ghost use Rattle.po_script.specs.Session.{state_of, opening_state};
     ghost use Rattle.po_script.specs.Interpreter.{CarriesOut, Fails};
 
     /// Before the first line.
-    pub(crate) fn new(alloc: Global) -> Interpreter
+    pub(crate) fn new(alloc: Global) -> Interpreter<O>
         ensures begun { result.begun ≡ None }
-        ensures session { state_of result.session ≡ opening_state }
+        ensures session { state_of O.object result.session ≡ opening_state O.units }
     {
         Interpreter {
             begun: None,
-            session: Session::new(alloc),
+            session: Session::new(),
             reply: String::new(alloc),
         }
     }
@@ -54,23 +55,21 @@ impl Interpreter {
         line: &[u8],
         writer: &mut W,
     ) -> Result<(), RunFault>
-        ensures ok { OnOk result (CarriesOut self.old self.new line.now
+        ensures ok { OnOk result (CarriesOut O.units O.object self.old self.new line.now
             (W.taken writer.old) (W.taken writer.new)) }
         ensures fine { OnOk result ((W.failed writer.new ≡ W.failed writer.old)
             × (W.stuck writer.new ≡ W.stuck writer.old)) }
-        ensures err { IfErr result (λ fault. Fails fault self.old number line.now
+        ensures err { IfErr result (λ fault. Fails O.units O.object fault self.old number line.now
             (W.taken writer.old) (W.taken writer.new)
             (W.failed writer.old || W.stuck writer.old) (W.failed writer.new || W.stuck writer.new)) }
     {
-        let command = match command_of(self.begun, line) {
+        let command = match command_of::<O>(self.begun, line) {
             Err(kind) => return Err(RunFault::Script { line: number, kind }),
             Ok(None) => return Ok(()),
             Ok(Some(command)) => command,
         };
         self.begun = begun_after(self.begun, command);
-        let Ok(()) = self.session.answer(alloc, command, &mut self.reply) else {
-            return Err(RunFault::Memory);
-        };
+        self.session.answer(alloc, command, &mut self.reply)?;
         match write_all(writer, self.reply.as_bytes()) {
             Ok(()) => Ok(()),
             Err(_) => Err(RunFault::Write),

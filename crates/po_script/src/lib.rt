@@ -12,6 +12,7 @@ pub mod session;
 pub mod sink;
 pub mod source;
 mod tickets;
+pub mod units;
 
 pub use crate::fault::RunFault;
 pub use crate::over_std::OverStd;

@@ -4,98 +4,96 @@ ghost use Rattle.std.specs.Prelude.{◌≡◌, ◌++◌, OnOk, string_bytes};
 ghost use Rattle.po_classic_units.specs.Names.{texts_of};
 ghost use Rattle.po_script.specs.Lines.{end_line, ended_lines, ticket_line, refused_line, reply_line, value_line, abort_line, clock_line, next_line, final_line, name_at, index_text, count_line};
 
-use crate::session::OutOfMemory;
 use po_actions::{Aborted, End, Ended, Refusal};
 use po_index::EntryRef;
+use std::alloc::AllocError;
 use std::fmt::Write;
 
 /// Adds the line of a call that was accepted.
-pub(crate) fn push_ticket(reply: &mut String, number: u64) -> Result<(), OutOfMemory>
+pub(crate) fn push_ticket(reply: &mut String, number: u64) -> Result<(), AllocError>
     ensures { OnOk result (string_bytes reply.new ≡ string_bytes reply.old ++ ticket_line number) }
 {
-    write!(reply, "#{number}\n").map_err(|_| OutOfMemory)
+    write!(reply, "#{number}\n")
 }
 
 /// Adds the line of a command that was refused.
-pub(crate) fn push_refused(reply: &mut String, refusal: Refusal) -> Result<(), OutOfMemory>
+pub(crate) fn push_refused(reply: &mut String, refusal: Refusal) -> Result<(), AllocError>
     ensures { OnOk result (string_bytes reply.new ≡ string_bytes reply.old ++ refused_line refusal) }
 {
     let number = refusal.number();
-    write!(reply, "refused {number}\n").map_err(|_| OutOfMemory)
+    write!(reply, "refused {number}\n")
 }
 
 /// Adds the line of a procedure's reply.
-pub(crate) fn push_reply(reply: &mut String, replied: Result<u64, u32>) -> Result<(), OutOfMemory>
+pub(crate) fn push_reply(reply: &mut String, replied: Result<u64, u32>) -> Result<(), AllocError>
     ensures { OnOk result (string_bytes reply.new ≡ string_bytes reply.old ++ reply_line replied) }
 {
     match replied {
         Ok(value) => write!(reply, "done {value}\n"),
         Err(exception) => write!(reply, "raised {exception}\n"),
     }
-    .map_err(|_| OutOfMemory)
 }
 
 /// Adds the line of a function's reply.
-pub(crate) fn push_value(reply: &mut String, replied: Result<u64, u32>) -> Result<(), OutOfMemory>
+pub(crate) fn push_value(reply: &mut String, replied: Result<u64, u32>) -> Result<(), AllocError>
     ensures { OnOk result (string_bytes reply.new ≡ string_bytes reply.old ++ value_line replied) }
 {
     match replied {
         Ok(value) => write!(reply, "value {value}\n"),
         Err(exception) => write!(reply, "raised {exception}\n"),
     }
-    .map_err(|_| OutOfMemory)
 }
 
 /// Adds the line of an attempt to cancel a call, if it has one.
-pub(crate) fn push_abort(reply: &mut String, aborted: Aborted) -> Result<(), OutOfMemory>
+pub(crate) fn push_abort(reply: &mut String, aborted: Aborted) -> Result<(), AllocError>
     ensures { OnOk result (string_bytes reply.new ≡ string_bytes reply.old ++ abort_line aborted) }
 {
     match aborted {
-        Aborted::Kept => write!(reply, "kept\n").map_err(|_| OutOfMemory),
+        Aborted::Kept => write!(reply, "kept\n"),
         Aborted::Cancelled => Ok(()),
     }
 }
 
 /// Adds the line of the clock.
-pub(crate) fn push_clock(reply: &mut String, clock: u64) -> Result<(), OutOfMemory>
+pub(crate) fn push_clock(reply: &mut String, clock: u64) -> Result<(), AllocError>
     ensures { OnOk result (string_bytes reply.new ≡ string_bytes reply.old ++ clock_line clock) }
 {
-    write!(reply, "clock {clock}\n").map_err(|_| OutOfMemory)
+    write!(reply, "clock {clock}\n")
 }
 
 /// Adds the line of the number that the next call gets.
-pub(crate) fn push_next(reply: &mut String, next: u64) -> Result<(), OutOfMemory>
+pub(crate) fn push_next(reply: &mut String, next: u64) -> Result<(), AllocError>
     ensures { OnOk result (string_bytes reply.new ≡ string_bytes reply.old ++ next_line next) }
 {
-    write!(reply, "next {next}\n").map_err(|_| OutOfMemory)
+    write!(reply, "next {next}\n")
 }
 
 /// Adds the line of a finalization.
-pub(crate) fn push_final(reply: &mut String) -> Result<(), OutOfMemory>
+pub(crate) fn push_final(reply: &mut String) -> Result<(), AllocError>
     ensures { OnOk result (string_bytes reply.new ≡ string_bytes reply.old ++ final_line) }
 {
-    write!(reply, "final\n").map_err(|_| OutOfMemory)
+    write!(reply, "final\n")
 }
 
-/// The name of the declaration at this place, or no text where there is none.
+/// The name of the declaration with this number, or no text where there is none.
 #[tactic(auto, using(crate::proofs::ShowLemmas::name_there, crate::proofs::ShowLemmas::name_past))]
-fn name_at<'a>(names: &[&'a str], place: u16) -> &'a str
-    ensures { result.now ≡ name_at (texts_of names.now) place }
+fn name_at<'a>(names: &[&'a str], number: u16) -> &'a str
+    ensures { result.now ≡ name_at (texts_of names.now) number }
 {
-    let place = usize::from(place);
-    if place < names.len() {
-        names[place]
+    let number = usize::from(number);
+    if number < names.len() {
+        names[number]
     } else {
         ""
     }
 }
 
 /// Adds the index of a family's member, in parentheses.
-fn push_index(reply: &mut String, index: Option<i32>) -> Result<(), OutOfMemory>
+fn push_index(reply: &mut String, index: Option<i32>) -> Result<(), AllocError>
     ensures { OnOk result (string_bytes reply.new ≡ string_bytes reply.old ++ index_text index) }
 {
     match index {
-        Some(index) => write!(reply, "({index})").map_err(|_| OutOfMemory),
+        Some(index) => write!(reply, "({index})"),
         None => Ok(()),
     }
 }
@@ -106,18 +104,16 @@ pub(crate) fn push_count(
     names: &[&str],
     reference: EntryRef,
     count: u64,
-) -> Result<(), OutOfMemory>
+) -> Result<(), AllocError>
     ensures { OnOk result (string_bytes reply.new ≡ string_bytes reply.old ++ count_line (texts_of names.now) reference count) }
 {
-    reply
-        .push_str(name_at(names, reference.entry))
-        .map_err(|_| OutOfMemory)?;
+    reply.push_str(name_at(names, reference.entry))?;
     push_index(reply, reference.index)?;
-    write!(reply, " {count}\n").map_err(|_| OutOfMemory)
+    write!(reply, " {count}\n")
 }
 
 /// Adds the line of the call with number n, which ended in this way.
-fn push_end(reply: &mut String, n: u64, end: End<u64>) -> Result<(), OutOfMemory>
+fn push_end(reply: &mut String, n: u64, end: End<u64>) -> Result<(), AllocError>
     ensures { OnOk result (string_bytes reply.new ≡ string_bytes reply.old ++ end_line n end) }
 {
     match end {
@@ -126,11 +122,10 @@ fn push_end(reply: &mut String, n: u64, end: End<u64>) -> Result<(), OutOfMemory
         End::Cancelled => write!(reply, "{n} cancelled\n"),
         End::ProgramError => write!(reply, "{n} program_error\n"),
     }
-    .map_err(|_| OutOfMemory)
 }
 
 /// Adds a line for each of the calls.
-pub(crate) fn push_ended(reply: &mut String, calls: &[Ended<u64>]) -> Result<(), OutOfMemory>
+pub(crate) fn push_ended(reply: &mut String, calls: &[Ended<u64>]) -> Result<(), AllocError>
     ensures { OnOk result (string_bytes reply.new ≡ string_bytes reply.old ++ ended_lines calls.now) }
 {
     for call in calls {

@@ -1,11 +1,11 @@
 //! The operations of a script, carried out on the core of any unit.
 
-ghost use Rattle.std.specs.Prelude.{◌≡◌, ℕ, ◌<◌, ◌++◌, [], Some, slice_get, OnOk, IsOk, string_bytes, false};
+ghost use Rattle.std.specs.Prelude.{◌≡◌, ℕ, ◌<◌, ◌++◌, [], Some, slice_get, OnOk, OnErr, IsOk, string_bytes, false};
 ghost use Rattle.po_actions.specs.View.{ended_now};
 ghost use Rattle.po_index.specs.Numbering.{entry_count, entry_references};
 ghost use Rattle.po_index.specs.declared.decl.EntryRef.{EntryRef as Reference};
 ghost use Rattle.po_classic_units.specs.Names.{texts_of};
-ghost use Rattle.po_script.specs.Operations.{after_operation, reply_lines, operation_lines, entry_line, entry_lines, show_lines, is_memory};
+ghost use Rattle.po_script.specs.Operations.{after_operation, reply_lines, operation_lines, entry_line, entry_lines, show_lines, is_memory, IsEither};
 ghost use Rattle.po_script.specs.Lines.{refused_line, ended_lines};
 ghost use Rattle.po_script.specs.Tickets.{Knows, IsCollected, HasEnded, AreCollected};
 
@@ -13,21 +13,21 @@ use crate::lines::{
     push_abort, push_clock, push_count, push_ended, push_final, push_next, push_refused,
     push_reply, push_ticket, push_value,
 };
-use crate::session::OutOfMemory;
 use crate::tickets::Tickets;
 use po_actions::{Core, Deadline, Refusal};
 use po_index::EntryRef;
 use po_language::Operation;
 use po_unit::Unit;
+use std::alloc::AllocError;
 
 /// Puts the line of a refusal into the empty reply. Want of memory is no line.
-fn refuse(reply: &mut String, refusal: Refusal) -> Result<(), OutOfMemory>
+fn refuse(reply: &mut String, refusal: Refusal) -> Result<(), AllocError>
     requires { string_bytes reply.old ≡ [] }
     ensures line { OnOk result (string_bytes reply.new ≡ refused_line refusal) }
     ensures memory { OnOk result (is_memory refusal ≡ false) }
 {
     if refusal == Refusal::OutOfMemory {
-        return Err(OutOfMemory);
+        return Err(AllocError);
     }
     push_refused(reply, refusal)
 }
@@ -53,8 +53,8 @@ fn collect<U: Unit<Value = u64>>(core: &mut Core<U>, tickets: &mut Tickets)
     ensures knows { Knows core.new.tickets tickets.new }
     ensures collected { AreCollected core.new }
 {
-    for place in 0..core.ended_now().len() {
-        let number = core.ended_now()[place].number;
+    for index in 0..core.ended_now().len() {
+        let number = core.ended_now()[index].number;
         collect_one(core, tickets, number);
     }
 }
@@ -63,9 +63,9 @@ fn collect<U: Unit<Value = u64>>(core: &mut Core<U>, tickets: &mut Tickets)
 fn finish<U: Unit<Value = u64>>(
     core: &mut Core<U>,
     tickets: &mut Tickets,
-    answered: Result<(), OutOfMemory>,
+    answered: Result<(), AllocError>,
     reply: &mut String,
-) -> Result<(), OutOfMemory>
+) -> Result<(), AllocError>
     requires { Knows core.old.tickets tickets.old }
     ensures object { core.new.object ≡ core.old.object }
     ensures answered { OnOk result (IsOk answered) }
@@ -90,11 +90,12 @@ fn call<U: Unit<Value = u64>>(
     value: u64,
     deadline: Deadline,
     reply: &mut String,
-) -> Result<(), OutOfMemory>
+) -> Result<(), AllocError>
     requires empty { string_bytes reply.old ≡ [] }
     requires knows { Knows core.old.tickets tickets.old }
     requires collected { AreCollected core.old }
     ensures object { OnOk result (core.new.object ≡ after_operation U.meaning core.old.object (Operation.Call entry value deadline)) }
+    ensures failed { OnErr result (IsEither core.new.object core.old.object (after_operation U.meaning core.old.object (Operation.Call entry value deadline))) }
     ensures lines { OnOk result (string_bytes reply.new ≡ reply_lines U.meaning core.old.object (Operation.Call entry value deadline)) }
     ensures knows { Knows core.new.tickets tickets.new }
     ensures collected { AreCollected core.new }
@@ -119,11 +120,12 @@ fn run<U: Unit<Value = u64>>(
     op: u16,
     value: u64,
     reply: &mut String,
-) -> Result<(), OutOfMemory>
+) -> Result<(), AllocError>
     requires empty { string_bytes reply.old ≡ [] }
     requires knows { Knows core.old.tickets tickets.old }
     requires collected { AreCollected core.old }
     ensures object { OnOk result (core.new.object ≡ after_operation U.meaning core.old.object (Operation.Run op value)) }
+    ensures failed { OnErr result (IsEither core.new.object core.old.object (after_operation U.meaning core.old.object (Operation.Run op value))) }
     ensures lines { OnOk result (string_bytes reply.new ≡ reply_lines U.meaning core.old.object (Operation.Run op value)) }
     ensures knows { Knows core.new.tickets tickets.new }
     ensures collected { AreCollected core.new }
@@ -143,7 +145,7 @@ fn read<U: Unit<Value = u64>>(
     op: u16,
     value: u64,
     reply: &mut String,
-) -> Result<(), OutOfMemory>
+) -> Result<(), AllocError>
     requires { string_bytes reply.old ≡ [] }
     ensures object { OnOk result (core.now.object ≡ after_operation U.meaning core.now.object (Operation.Read op value)) }
     ensures lines { OnOk result (string_bytes reply.new ≡ reply_lines U.meaning core.now.object (Operation.Read op value)) }
@@ -160,11 +162,12 @@ fn abort<U: Unit<Value = u64>>(
     tickets: &mut Tickets,
     n: u64,
     reply: &mut String,
-) -> Result<(), OutOfMemory>
+) -> Result<(), AllocError>
     requires empty { string_bytes reply.old ≡ [] }
     requires knows { Knows core.old.tickets tickets.old }
     requires collected { AreCollected core.old }
     ensures object { OnOk result (core.new.object ≡ after_operation U.meaning core.old.object (Operation.Abort n)) }
+    ensures failed { OnErr result (IsEither core.new.object core.old.object (after_operation U.meaning core.old.object (Operation.Abort n))) }
     ensures lines { OnOk result (string_bytes reply.new ≡ reply_lines U.meaning core.old.object (Operation.Abort n)) }
     ensures knows { Knows core.new.tickets tickets.new }
     ensures collected { AreCollected core.new }
@@ -185,11 +188,12 @@ fn tick<U: Unit<Value = u64>>(
     tickets: &mut Tickets,
     time: u64,
     reply: &mut String,
-) -> Result<(), OutOfMemory>
+) -> Result<(), AllocError>
     requires empty { string_bytes reply.old ≡ [] }
     requires knows { Knows core.old.tickets tickets.old }
     requires collected { AreCollected core.old }
     ensures object { OnOk result (core.new.object ≡ after_operation U.meaning core.old.object (Operation.Tick time)) }
+    ensures failed { OnErr result (IsEither core.new.object core.old.object (after_operation U.meaning core.old.object (Operation.Tick time))) }
     ensures lines { OnOk result (string_bytes reply.new ≡ reply_lines U.meaning core.old.object (Operation.Tick time)) }
     ensures knows { Knows core.new.tickets tickets.new }
     ensures collected { AreCollected core.new }
@@ -208,11 +212,12 @@ fn finalize<U: Unit<Value = u64>>(
     core: &mut Core<U>,
     tickets: &mut Tickets,
     reply: &mut String,
-) -> Result<(), OutOfMemory>
+) -> Result<(), AllocError>
     requires empty { string_bytes reply.old ≡ [] }
     requires knows { Knows core.old.tickets tickets.old }
     requires collected { AreCollected core.old }
     ensures object { OnOk result (core.new.object ≡ after_operation U.meaning core.old.object Operation.Finalize) }
+    ensures failed { OnErr result (IsEither core.new.object core.old.object (after_operation U.meaning core.old.object Operation.Finalize)) }
     ensures lines { OnOk result (string_bytes reply.new ≡ reply_lines U.meaning core.old.object Operation.Finalize) }
     ensures knows { Knows core.new.tickets tickets.new }
     ensures collected { AreCollected core.new }
@@ -232,7 +237,7 @@ fn push_entry<U: Unit<Value = u64>>(
     flat: u16,
     names: &[&str],
     reply: &mut String,
-) -> Result<(), OutOfMemory>
+) -> Result<(), AllocError>
     requires { flat < entry_count core.now.object.making.shape }
     ensures { OnOk result ((reference : Reference)
         × (slice_get (entry_references core.now.object.making.shape) flat ≡ Some reference)
@@ -251,7 +256,7 @@ fn push_entries<U: Unit<Value = u64>>(
     core: &Core<U>,
     names: &[&str],
     reply: &mut String,
-) -> Result<(), OutOfMemory>
+) -> Result<(), AllocError>
     ensures { OnOk result (string_bytes reply.new ≡ string_bytes reply.old ++ entry_lines U.meaning (texts_of names.now) core.now.object) }
 {
     for flat in 0..core.shape().total() {
@@ -265,7 +270,7 @@ fn show<U: Unit<Value = u64>>(
     core: &Core<U>,
     names: &[&str],
     reply: &mut String,
-) -> Result<(), OutOfMemory>
+) -> Result<(), AllocError>
     requires { string_bytes reply.old ≡ [] }
     ensures { OnOk result (string_bytes reply.new ≡ show_lines U.meaning (texts_of names.now) core.now.object) }
 {
@@ -282,11 +287,12 @@ pub(crate) fn operate<U: Unit<Value = u64>>(
     operation: Operation,
     names: &[&str],
     reply: &mut String,
-) -> Result<(), OutOfMemory>
+) -> Result<(), AllocError>
     requires empty { string_bytes reply.old ≡ [] }
     requires knows { Knows core.old.tickets tickets.old }
     requires collected { AreCollected core.old }
     ensures object { OnOk result (core.new.object ≡ after_operation U.meaning core.old.object operation) }
+    ensures failed { OnErr result (IsEither core.new.object core.old.object (after_operation U.meaning core.old.object operation)) }
     ensures lines { OnOk result (string_bytes reply.new ≡ operation_lines U.meaning (texts_of names.now) core.old.object operation) }
     ensures knows { Knows core.new.tickets tickets.new }
     ensures collected { AreCollected core.new }

@@ -1,32 +1,47 @@
 //! Readers and writers of std as sources and sinks.
 
-ghost use Rattle.std.specs.Prelude.{◌≡◌, true, false};
+ghost use Rattle.std.specs.Prelude.{◌≡◌, true, false, Some};
+ghost use Rattle.po_script.specs.Source.{CountsMore};
 
 use crate::sink::Sink;
 use crate::source::{IoFailed, Source};
 use std::io::{Read, Write};
 
 /// A reader or a writer of std, and what its calls have shown.
+///
+/// Each call asks once what lies under it, and fails where that fails. No clause says that it fails nowhere else: std says of no
+/// call of a reader or a writer that it succeeds.
 #[derive(Drop)]
 pub struct OverStd<T> {
     inner: T,
     failed: bool,
     empty: bool,
+    /// How many reads have given bytes, as long as a u64 holds the number.
+    reads: Option<u64>,
+}
+
+/// One more, where a u64 holds it.
+fn one_more(count: Option<u64>) -> Option<u64>
+    ensures { CountsMore count result 1 }
+{
+    count?.checked_add(1)
 }
 
 impl<T> OverStd<T> {
-    ghost use Rattle.po_script.specs.OverStd.{inner_of, has_failed, was_empty};
+    ghost use Rattle.po_script.specs.OverStd.{inner_of, has_failed, was_empty, reads_of};
 
     /// Over a reader or a writer none of whose calls has shown anything.
     pub fn new(inner: T) -> OverStd<T>
         ensures inner { inner_of result ≡ inner }
         ensures fine { has_failed result ≡ false }
         ensures fresh { was_empty result ≡ false }
+        ensures unread { reads_of result ≡ Some 0 }
     {
         OverStd {
             inner,
             failed: false,
             empty: false,
+            reads: Some(0),
         }
     }
 
@@ -38,6 +53,7 @@ impl<T> OverStd<T> {
             inner,
             failed: _,
             empty: _,
+            reads: _,
         } = self;
         inner
     }
@@ -50,12 +66,16 @@ impl<T: Read> Source for OverStd<T> {
 
     ghost ended = { λ s. s.empty };
 
+    ghost reads = { λ s. s.reads };
+
     fn read(&mut self, buffer: &mut [u8]) -> Result<usize, IoFailed> {
         match self.inner.read(buffer) {
+            Ok(0) => {
+                self.empty = true;
+                Ok(0)
+            }
             Ok(count) => {
-                if count == 0 {
-                    self.empty = true;
-                }
+                self.reads = one_more(self.reads);
                 Ok(count)
             }
             Err(_) => {

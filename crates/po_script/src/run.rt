@@ -1,7 +1,8 @@
 //! A run of a script, from the bytes to the answers.
 
-ghost use Rattle.std.specs.Prelude.{◌≡◌, ◌+◌, ◌<◌, ◌≤◌, ◌∷◌, [], ◌||◌, List, Option, ℕ, Bool, true, false, eqb, vec_len, vec_capacity, length, OnOk, IfOk, IfErr};
+ghost use Rattle.std.specs.Prelude.{◌≡◌, ◌+◌, ◌<◌, ◌≤◌, ◌∷◌, [], ◌||◌, List, Option, ℕ, Bool, true, false, eqb, vec_len, vec_capacity, length, OnOk, IfOk, Err, IfErr};
 ghost use Rattle.std.specs.Io.KnownBytes.{Consumes};
+ghost use Rattle.po_script.specs.Source.{CountsMore};
 ghost use Rattle.po_script.specs.Ends.{EndsWell, EndsAs};
 ghost use Rattle.po_script.specs.declared.run.TheConstants.{LINE_LIMIT, SCRIPT_LIMIT};
 
@@ -9,6 +10,7 @@ use crate::fault::RunFault;
 use crate::interpreter::Interpreter;
 use crate::sink::Sink;
 use crate::source::Source;
+use crate::units::{ScriptObject, Units};
 use po_language::FaultKind;
 use std::alloc::Global;
 
@@ -20,31 +22,29 @@ const SCRIPT_LIMIT: u64 = 67108864;
 
 /// A script as far as it has been read.
 #[derive(Drop)]
-struct Run {
+struct Run<O> {
     /// What stands behind the last newline.
     line: Vec<u8>,
     /// The number of that line.
     number: u64,
     /// How many bytes were read.
     total: u64,
-    interpreter: Interpreter,
+    interpreter: Interpreter<O>,
     ghost room: { LINE_LIMIT ≤ vec_capacity line },
     ghost short: { vec_len line ≤ LINE_LIMIT },
     ghost few: { total ≤ SCRIPT_LIMIT },
     ghost numbered: { number ≤ total + 1 },
 }
 
-impl Run {
+impl<O: ScriptObject> Run<O> {
     ghost use Rattle.po_script.specs.Run.{Stands, GoesOn, FailsAt};
 
     /// A run that has read nothing.
-    fn new(alloc: Global) -> Result<Run, RunFault>
-        ensures ok { IfOk result (λ run. (start : Option (List ℕ)) → Stands run [] start start) }
+    fn new(alloc: Global) -> Result<Run<O>, RunFault>
+        ensures ok { IfOk result (λ run. (start : Option (List ℕ)) → Stands O.units O.object run [] start start) }
         ensures err { IfErr result (λ fault. fault ≡ RunFault.Memory) }
     {
-        let Ok(line) = Vec::with_capacity(alloc, LINE_LIMIT) else {
-            return Err(RunFault::Memory);
-        };
+        let line = Vec::with_capacity(alloc, LINE_LIMIT)?;
         Ok(Run {
             line,
             number: 1,
@@ -66,12 +66,12 @@ impl Run {
     /// Takes a newline.
     fn newline<W: Sink>(&mut self, alloc: Global, writer: &mut W) -> Result<(), RunFault>
         requires { self.old.total < SCRIPT_LIMIT }
-        ensures ok { OnOk result (GoesOn self.old self.new (10 ∷ [])
+        ensures ok { OnOk result (GoesOn O.units O.object self.old self.new (10 ∷ [])
             (W.taken writer.old) (W.taken writer.new)) }
         ensures fine { OnOk result ((W.failed writer.new ≡ W.failed writer.old)
             × (W.stuck writer.new ≡ W.stuck writer.old)) }
         ensures total { OnOk result (self.new.total ≡ self.old.total + 1) }
-        ensures err { IfErr result (λ fault. FailsAt fault self.old (10 ∷ [])
+        ensures err { IfErr result (λ fault. FailsAt O.units O.object fault self.old (10 ∷ [])
             (W.taken writer.old) (W.taken writer.new)
             (W.failed writer.old || W.stuck writer.old) (W.failed writer.new || W.stuck writer.new)) }
     {
@@ -87,10 +87,11 @@ impl Run {
     fn letter(&mut self, byte: u8) -> Result<(), RunFault>
         requires room { self.old.total < SCRIPT_LIMIT }
         requires other { eqb byte 10 ≡ false }
-        ensures ok { (now : Option (List ℕ)) → OnOk result (GoesOn self.old self.new (byte ∷ []) now now) }
+        ensures ok { (now : Option (List ℕ)) → OnOk result (GoesOn O.units O.object self.old self.new (byte ∷ []) now now) }
         ensures total { OnOk result (self.new.total ≡ self.old.total + 1) }
-        ensures err { (now : Option (List ℕ)) (bad : Bool)
-            → IfErr result (λ fault. FailsAt fault self.old (byte ∷ []) now now bad bad) }
+        ensures short { OnOk result (vec_len self.old.line < LINE_LIMIT) }
+        ensures err { IfErr result (λ fault. (vec_len self.old.line ≡ LINE_LIMIT)
+            × (fault ≡ RunFault.Script self.old.number FaultKind.LineTooLong)) }
     {
         if self.line.len() == LINE_LIMIT {
             return Err(self.fault(FaultKind::LineTooLong));
@@ -102,12 +103,14 @@ impl Run {
 
     /// Takes the next byte.
     fn byte<W: Sink>(&mut self, alloc: Global, byte: u8, writer: &mut W) -> Result<(), RunFault>
-        ensures ok { OnOk result (GoesOn self.old self.new (byte ∷ [])
+        ensures at_limit { self.old.total ≡ SCRIPT_LIMIT
+            → result ≡ Err (RunFault.Script self.old.number FaultKind.ScriptTooLong) }
+        ensures ok { OnOk result (GoesOn O.units O.object self.old self.new (byte ∷ [])
             (W.taken writer.old) (W.taken writer.new)) }
         ensures fine { OnOk result ((W.failed writer.new ≡ W.failed writer.old)
             × (W.stuck writer.new ≡ W.stuck writer.old)) }
         ensures total { OnOk result (self.new.total ≡ self.old.total + 1) }
-        ensures err { IfErr result (λ fault. FailsAt fault self.old (byte ∷ [])
+        ensures err { IfErr result (λ fault. FailsAt O.units O.object fault self.old (byte ∷ [])
             (W.taken writer.old) (W.taken writer.new)
             (W.failed writer.old || W.stuck writer.old) (W.failed writer.new || W.stuck writer.new)) }
     {
@@ -122,12 +125,12 @@ impl Run {
 
     /// Takes the next bytes.
     fn feed<W: Sink>(&mut self, alloc: Global, piece: &[u8], writer: &mut W) -> Result<(), RunFault>
-        ensures ok { OnOk result (GoesOn self.old self.new piece.now
+        ensures ok { OnOk result (GoesOn O.units O.object self.old self.new piece.now
             (W.taken writer.old) (W.taken writer.new)) }
         ensures fine { OnOk result ((W.failed writer.new ≡ W.failed writer.old)
             × (W.stuck writer.new ≡ W.stuck writer.old)) }
         ensures total { OnOk result (self.new.total ≡ self.old.total + length piece.now) }
-        ensures err { IfErr result (λ fault. FailsAt fault self.old piece.now
+        ensures err { IfErr result (λ fault. FailsAt O.units O.object fault self.old piece.now
             (W.taken writer.old) (W.taken writer.new)
             (W.failed writer.old || W.stuck writer.old) (W.failed writer.new || W.stuck writer.new)) }
     {
@@ -140,14 +143,14 @@ impl Run {
     /// Carries out what stands behind the last newline.
     fn finish<W: Sink>(&mut self, alloc: Global, writer: &mut W) -> Result<(), RunFault>
         ensures ok { (bytes : List ℕ) (start : Option (List ℕ))
-            → Stands self.old bytes start (W.taken writer.old)
+            → Stands O.units O.object self.old bytes start (W.taken writer.old)
             → (W.failed writer.old || W.stuck writer.old) ≡ false
-            → OnOk result (EndsWell bytes start (W.taken writer.new) true false
+            → OnOk result (EndsWell O.units bytes start (W.taken writer.new) true false
             (W.failed writer.new || W.stuck writer.new)) }
         ensures err { (bytes : List ℕ) (start : Option (List ℕ))
-            → Stands self.old bytes start (W.taken writer.old)
+            → Stands O.units O.object self.old bytes start (W.taken writer.old)
             → (W.failed writer.old || W.stuck writer.old) ≡ false
-            → IfErr result (λ fault. EndsAs fault bytes start (W.taken writer.new) true false
+            → IfErr result (λ fault. EndsAs O.units fault bytes start (W.taken writer.new) true false
             (W.failed writer.new || W.stuck writer.new)) }
     {
         self.interpreter
@@ -162,14 +165,16 @@ impl Run {
         reader: &mut R,
         writer: &mut W,
     ) -> Result<(), RunFault>
-        requires fresh { Stands self.old [] (W.taken writer.old) (W.taken writer.old) }
+        requires fresh { Stands O.units O.object self.old [] (W.taken writer.old) (W.taken writer.old) }
         requires reader { (R.failed reader.old ≡ false) × (R.ended reader.old ≡ false) }
         requires writer { (W.failed writer.old || W.stuck writer.old) ≡ false }
+        ensures reads { (more : ℕ) × (more ≤ SCRIPT_LIMIT + 1)
+            × CountsMore (R.reads reader.old) (R.reads reader.new) more }
         ensures ok { OnOk result ((bytes : List ℕ) × Consumes (R.left reader.old) (R.left reader.new) bytes
-            × EndsWell bytes (W.taken writer.old) (W.taken writer.new) (R.ended reader.new) (R.failed reader.new)
+            × EndsWell O.units bytes (W.taken writer.old) (W.taken writer.new) (R.ended reader.new) (R.failed reader.new)
             (W.failed writer.new || W.stuck writer.new)) }
         ensures err { IfErr result (λ fault. (bytes : List ℕ) × Consumes (R.left reader.old) (R.left reader.new) bytes
-            × EndsAs fault bytes (W.taken writer.old) (W.taken writer.new) (R.ended reader.new) (R.failed reader.new)
+            × EndsAs O.units fault bytes (W.taken writer.old) (W.taken writer.new) (R.ended reader.new) (R.failed reader.new)
             (W.failed writer.new || W.stuck writer.new)) }
     {
         let mut piece = [0u8; 4096];
@@ -186,6 +191,29 @@ impl Run {
     }
 }
 
+/// Runs the script that the reader gives over the units of a list, and writes the answers.
+fn run_over<O: ScriptObject, R: Source, W: Sink>(
+    alloc: Global,
+    reader: &mut R,
+    writer: &mut W,
+) -> Result<(), RunFault>
+    requires reader { (R.failed reader.old ≡ false) × (R.ended reader.old ≡ false) }
+    requires writer { (W.failed writer.old || W.stuck writer.old) ≡ false }
+    ensures reads { (more : ℕ) × (more ≤ SCRIPT_LIMIT + 1)
+        × CountsMore (R.reads reader.old) (R.reads reader.new) more }
+    ensures ok { OnOk result ((bytes : List ℕ) × Consumes (R.left reader.old) (R.left reader.new) bytes
+        × EndsWell O.units bytes (W.taken writer.old) (W.taken writer.new) (R.ended reader.new) (R.failed reader.new)
+        (W.failed writer.new || W.stuck writer.new)) }
+    ensures err { IfErr result (λ fault. (bytes : List ℕ) × Consumes (R.left reader.old) (R.left reader.new) bytes
+        × EndsAs O.units fault bytes (W.taken writer.old) (W.taken writer.new) (R.ended reader.new) (R.failed reader.new)
+        (W.failed writer.new || W.stuck writer.new)) }
+{
+    let mut run: Run<O> = Run::new(alloc)?;
+    let ran = run.read_on(alloc, reader, writer);
+    drop(run);
+    ran
+}
+
 /// Runs the script that the reader gives, and writes the answers.
 pub fn run_script<R: Source, W: Sink>(
     alloc: Global,
@@ -194,15 +222,14 @@ pub fn run_script<R: Source, W: Sink>(
 ) -> Result<(), RunFault>
     requires reader { (R.failed reader.old ≡ false) × (R.ended reader.old ≡ false) }
     requires writer { (W.failed writer.old || W.stuck writer.old) ≡ false }
+    ensures reads { (more : ℕ) × (more ≤ SCRIPT_LIMIT + 1)
+        × CountsMore (R.reads reader.old) (R.reads reader.new) more }
     ensures ok { OnOk result ((bytes : List ℕ) × Consumes (R.left reader.old) (R.left reader.new) bytes
-        × EndsWell bytes (W.taken writer.old) (W.taken writer.new) (R.ended reader.new) (R.failed reader.new)
+        × EndsWell ⟦<Units as ScriptObject>⟧.units bytes (W.taken writer.old) (W.taken writer.new) (R.ended reader.new) (R.failed reader.new)
         (W.failed writer.new || W.stuck writer.new)) }
     ensures err { IfErr result (λ fault. (bytes : List ℕ) × Consumes (R.left reader.old) (R.left reader.new) bytes
-        × EndsAs fault bytes (W.taken writer.old) (W.taken writer.new) (R.ended reader.new) (R.failed reader.new)
+        × EndsAs ⟦<Units as ScriptObject>⟧.units fault bytes (W.taken writer.old) (W.taken writer.new) (R.ended reader.new) (R.failed reader.new)
         (W.failed writer.new || W.stuck writer.new)) }
 {
-    let mut run = Run::new(alloc)?;
-    let ran = run.read_on(alloc, reader, writer);
-    drop(run);
-    ran
+    run_over::<Units, R, W>(alloc, reader, writer)
 }

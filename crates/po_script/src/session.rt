@@ -1,63 +1,55 @@
 //! What the commands of a script are carried out on.
 
-ghost use Rattle.std.specs.Prelude.{◌≡◌, OnOk, string_bytes};
-ghost use Rattle.std.specs.Option.{ForSome};
-ghost use Rattle.po_script.specs.Tickets.{Knows, tickets_of, HasCollected};
+ghost use Rattle.std.specs.Prelude.{◌≡◌, OnOk, OnErr, string_bytes};
+ghost use Rattle.po_script.specs.Operations.{IsEither};
 
-use crate::object::Object;
-use crate::tickets::Tickets;
+use crate::units::ScriptObject;
 use po_language::Command;
-use std::alloc::Global;
+use std::alloc::{AllocError, Global};
 
-/// Memory ran out.
-#[derive(Clone, Copy, Debug, PartialEq, Eq)]
-pub struct OutOfMemory;
-
-/// A session: the object that a line began, if one did, and the tickets of its uncollected calls.
+/// A session: the object that a line began, if one did.
 #[derive(Drop)]
-pub struct Session {
-    object: Option<Object>,
-    tickets: Tickets,
-    ghost knows: { ForSome object (λ it. Knows (tickets_of it) tickets) },
-    ghost collected: { ForSome object HasCollected },
+pub struct Session<O> {
+    object: Option<O>,
 }
 
 #[tactic(auto, unfolding(crate::specs::Session::opening_state, crate::specs::Session::after, crate::specs::Session::answer))]
-impl Session {
+impl<O: ScriptObject> Session<O> {
     ghost use Rattle.po_language.specs.Commands.{CanBegin};
     ghost use Rattle.po_script.specs.Session.{state_of, opening_state, after, answer};
+    ghost use Rattle.po_script.specs.Units.{listed};
 
     /// A session before its first command.
-    pub fn new(alloc: Global) -> Session
-        ensures { state_of result ≡ opening_state }
+    pub fn new() -> Session<O>
+        ensures { state_of O.object result ≡ opening_state O.units }
     {
-        Session {
-            object: None,
-            tickets: Tickets::new(alloc),
-        }
+        Session { object: None }
     }
 
     /// Carries out the command, and puts the lines that answer it in the place of the reply's text.
+    ///
+    /// Where memory is wanting the command was carried out or it wasn't, and nothing is said of the reply's text: the run
+    /// ends there, and writes none of it.
     pub fn answer(
         &mut self,
         alloc: Global,
         command: Command,
         reply: &mut String,
-    ) -> Result<(), OutOfMemory>
-        requires { CanBegin command }
-        ensures state { OnOk result (state_of self.new ≡ after (state_of self.old) command) }
-        ensures text { OnOk result (string_bytes reply.new ≡ answer (state_of self.old) command) }
+    ) -> Result<(), AllocError>
+        requires { CanBegin (listed O.units) command }
+        ensures state { OnOk result (state_of O.object self.new ≡ after O.units (state_of O.object self.old) command) }
+        ensures failed { OnErr result (IsEither (state_of O.object self.new) (state_of O.object self.old) (after O.units (state_of O.object self.old) command)) }
+        ensures text { OnOk result (string_bytes reply.new ≡ answer O.units (state_of O.object self.old) command) }
     {
         reply.clear();
         match command {
             Command::Begin(beginning) => {
-                let begun = Object::new(alloc, beginning)?;
+                let begun = O::begin(alloc, beginning.unit.number, beginning)?;
                 drop(self.object.replace(begun));
-                self.tickets = Tickets::new(alloc);
                 Ok(())
             }
             Command::Operate(operation) => match &mut self.object {
-                Some(object) => object.operate(&mut self.tickets, operation, reply),
+                Some(object) => object.operate(operation, reply),
                 None => Ok(()),
             },
         }

@@ -1,7 +1,8 @@
 //! What a script is read from.
 
-ghost use Rattle.std.specs.Prelude.{◌≡◌, ℕ, ◌<◌, ◌≤◌, Bool, true, ◌||◌, ◌==◌, List, Option, length, take, IfOk, OnOk, OnErr};
+ghost use Rattle.std.specs.Prelude.{◌≡◌, ℕ, ◌<◌, ◌≤◌, Bool, true, ◌||◌, ◌==◌, List, Option, None, length, take, min, IfOk, OnOk, OnErr};
 ghost use Rattle.std.specs.Io.KnownBytes.{Consumes, Keeps};
+ghost use Rattle.po_script.specs.Source.{CountsMore};
 
 /// A call of what lies under a source or a sink failed.
 #[derive(Clone, Copy, Debug, PartialEq, Eq)]
@@ -15,6 +16,8 @@ pub trait Source {
     ghost failed: { Self → Bool };
     /// Whether a call has given no byte.
     ghost ended: { Self → Bool };
+    /// How many calls have given bytes, where it tells the number.
+    ghost reads: { Self → Option ℕ } = { λ _. None };
 
     /// Puts the next bytes at the front of the buffer, and says how many; 0 is the end.
     fn read(&mut self, buffer: &mut [u8]) -> Result<usize, IoFailed>
@@ -23,8 +26,10 @@ pub trait Source {
         ensures given { IfOk result (λ count.
             Consumes (left self.old) (left self.new) (take count buffer.new)) }
         ensures at_end { IfOk result (λ count. ended self.new ≡ (ended self.old || (count == 0))) }
+        ensures counted { IfOk result (λ count. CountsMore (reads self.old) (reads self.new) (min count 1)) }
         ensures fine { OnOk result (failed self.new ≡ failed self.old) }
         ensures err { OnErr result ((failed self.new ≡ true)
             × (ended self.new ≡ ended self.old)
-            × Keeps (left self.old) (left self.new)) };
+            × Keeps (left self.old) (left self.new)
+            × CountsMore (reads self.old) (reads self.new) 0) };
 }

@@ -5,9 +5,8 @@ ghost use Rattle.std.specs.Option.{option_map};
 ghost use Rattle.po_calls.specs.declared.ticket.Ticket.{Ticket as Named};
 ghost use Rattle.po_script.specs.Tickets.{key_of, ticket_of, HasRoom};
 
-use crate::session::OutOfMemory;
 use po_actions::Ticket;
-use std::alloc::Global;
+use std::alloc::{AllocError, Global};
 use std::collections::HashMap;
 
 /// The tickets of the calls that were accepted and aren't collected: by a call's number its ticket's key.
@@ -27,11 +26,11 @@ impl Tickets {
     }
 
     /// Makes room for one more ticket.
-    pub(crate) fn reserve(&mut self) -> Result<(), OutOfMemory>
+    pub(crate) fn reserve(&mut self) -> Result<(), AllocError>
         ensures same { (n : ℕ) → key_of self.new n ≡ key_of self.old n }
         ensures room { OnOk result (HasRoom self.new) }
     {
-        self.keys.reserve(1).map_err(|_| OutOfMemory)
+        self.keys.reserve(1)
     }
 
     /// Keeps a ticket, for which there is room.

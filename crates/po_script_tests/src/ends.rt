@@ -1,8 +1,8 @@
 //! Readers that give the script in pieces or fail, and writers that take the answers in pieces or fail.
 
-use crate::fakes::{Broken, Narrow, Pieces};
+use crate::fakes::{Asked, Narrow, Pieces};
 use crate::rows::text_of;
-use po_script::{OverStd, RunFault, run_script};
+use po_script::{OverStd, RunFault, Sink, Source, run_script};
 use std::alloc::Global;
 use std::process::Abort;
 use std::test::Fail;
@@ -113,14 +113,28 @@ fn writes_up_to_a_failure(rt: HostRuntime) -> Result<(), Fail> {
 #[test]
 fn sees_failures_of_std(rt: HostRuntime) -> Result<(), Fail> {
     let mut writer = OverStd::new(Vec::new(rt.alloc()));
-    let ran = run_script(rt.alloc(), &mut OverStd::new(Broken), &mut writer);
+    let ran = run_script(rt.alloc(), &mut OverStd::new(Asked::new(true)), &mut writer);
     assert_eq!(rt; text_of(rt.alloc(), ran)?.as_str(), "read failed");
 
     let mut reader = OverStd::new(SCRIPT.as_bytes());
-    let ran = run_script(rt.alloc(), &mut reader, &mut OverStd::new(Broken));
+    let ran = run_script(rt.alloc(), &mut reader, &mut OverStd::new(Asked::new(true)));
     assert_eq!(rt; text_of(rt.alloc(), ran)?.as_str(), "write failed");
 
     let ran = Err(RunFault::Memory);
     assert_eq!(rt; text_of(rt.alloc(), ran)?.as_str(), "out of memory");
     Ok(())
+}
+
+/// Each call over std asks once what lies under it, and fails where that fails and nowhere else.
+#[test]
+fn asks_std_once_a_call(rt: HostRuntime) {
+    for fails in [false, true] {
+        let mut over = OverStd::new(Asked::new(fails));
+        let mut buffer = [0u8; 2];
+        for _ in 0..3 {
+            assert_eq!(rt; over.read(&mut buffer).is_err(), fails);
+            assert_eq!(rt; over.write(b"ab").is_err(), fails);
+        }
+        assert_eq!(rt; over.into_inner().calls, 6);
+    }
 }

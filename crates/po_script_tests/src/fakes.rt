@@ -1,6 +1,6 @@
 //! Readers and writers of the tests' own.
 
-ghost use Rattle.std.specs.Prelude.{◌≡◌, false, None};
+ghost use Rattle.std.specs.Prelude.{◌≡◌, ◌≤◌, false, None, IfOk};
 
 use po_script::{IoFailed, Sink, Source};
 use std::alloc::Global;
@@ -136,9 +136,11 @@ impl Source for Newlines {
     }
 }
 
-/// Gives newlines for ever, one a read.
+/// Gives newlines for ever, one a read, and counts its reads.
 #[derive(Clone, Copy)]
-pub(crate) struct Endless;
+pub(crate) struct Endless {
+    pub(crate) reads: u64,
+}
 
 impl Source for Endless {
     ghost left = { λ _. None };
@@ -148,6 +150,7 @@ impl Source for Endless {
     ghost ended = { λ _. false };
 
     fn read(&mut self, buffer: &mut [u8]) -> Result<usize, IoFailed> {
+        self.reads = self.reads.saturating_add(1);
         buffer[0] = b'\n';
         Ok(1)
     }
@@ -201,19 +204,39 @@ impl Sink for Narrow {
     }
 }
 
-/// A reader and writer of std that fails.
+/// A reader and writer of std that counts its calls. Each of them fails, or each gives or takes a byte.
 #[derive(Clone, Copy)]
-pub(crate) struct Broken;
+pub(crate) struct Asked {
+    pub(crate) calls: u64,
+    fails: bool,
+}
 
-impl Read for Broken {
-    fn read(&mut self, _buf: &mut [u8]) -> io::Result<usize> {
-        Err(io::Error::from(io::ErrorKind::TimedOut))
+impl Asked {
+    pub(crate) fn new(fails: bool) -> Asked {
+        Asked { calls: 0, fails }
+    }
+
+    /// One more call, on a buffer of this length.
+    fn answer(&mut self, length: usize) -> io::Result<usize>
+        ensures { IfOk result (λ count. count ≤ length) }
+    {
+        self.calls = self.calls.saturating_add(1);
+        if self.fails {
+            return Err(io::Error::from(io::ErrorKind::TimedOut));
+        }
+        Ok(length.min(1))
     }
 }
 
-impl Write for Broken {
-    fn write(&mut self, _buf: &[u8]) -> io::Result<usize> {
-        Err(io::Error::from(io::ErrorKind::TimedOut))
+impl Read for Asked {
+    fn read(&mut self, buf: &mut [u8]) -> io::Result<usize> {
+        self.answer(buf.len())
+    }
+}
+
+impl Write for Asked {
+    fn write(&mut self, buf: &[u8]) -> io::Result<usize> {
+        self.answer(buf.len())
     }
 
     fn flush(&mut self) -> io::Result<()> {

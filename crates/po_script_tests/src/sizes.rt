@@ -73,15 +73,14 @@ fn limits_newlines(rt: HostRuntime) -> Result<(), Fail> {
     run_long(&rt, rt.alloc(), &mut Newlines::new(67108865, 4096), text)
 }
 
-/// A script of newlines without an end, each read by itself.
+/// A script of newlines without an end, each read by itself. The read that gives one too many is the last.
 #[test]
 fn limits_endless_newlines(rt: HostRuntime) -> Result<(), Fail> {
-    run_long(
-        &rt,
-        rt.alloc(),
-        &mut Endless,
-        "line 67108865: script too long",
-    )
+    let mut script = Endless { reads: 0 };
+    let text = "line 67108865: script too long";
+    run_long(&rt, rt.alloc(), &mut script, text)?;
+    assert_eq!(rt; script.reads, 67108865);
+    Ok(())
 }
 
 /// How often the long script puts a value into the buffer and gets it back.

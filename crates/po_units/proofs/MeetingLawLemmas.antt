@@ -128,7 +128,7 @@ module _ (making : Making MeetingState) where
   opens_gathering new =
       record {
         unit = is_new making.opening making.opening.size refl new.none_leaving;
-        few = omega (arith, new.some_call);
+        few = omega (arith, new.sized.some);
         on_wait = All-nil (λ y. y.entry < 1);
       }
 

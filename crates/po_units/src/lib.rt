@@ -5,4 +5,6 @@
 mod laws;
 
 pub use laws::{allocator_law, buffer_law, meeting_law, pulse_law};
-pub use po_classic_units::{Allocator, Broadcast, Buffer, Meeting, Pulse, Relay, Signal, Trap};
+pub use po_classic_units::{
+    Allocator, Broadcast, Buffer, Meeting, Pulse, Relay, ScriptUnit, Signal, Trap, UnitNames,
+};

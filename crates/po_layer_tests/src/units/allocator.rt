@@ -1,6 +1,6 @@
 //! The allocator, operation by operation.
 
-use po_classic_units::Allocator;
+use po_classic_units::{Allocator, ScriptUnit};
 use po_index::{EntryRef, IndexFault};
 use po_unit::{Outcome, Unit};
 use std::test::Fail;
@@ -137,12 +137,12 @@ fn names(rt: HostRuntime) {
     assert!(rt; Allocator::entry_names() == ["Request", "Claim", "Grant"].as_slice());
     assert!(rt; Allocator::procedure_names() == ["Release"].as_slice());
     assert!(rt; Allocator::function_names() == ["State"].as_slice());
-    assert_eq!(rt; Allocator::entry_named(b"Request"), 0);
-    assert_eq!(rt; Allocator::entry_named(b"Claim"), 1);
-    assert_eq!(rt; Allocator::entry_named(b"Grant"), 2);
-    assert_eq!(rt; Allocator::entry_named(b"Grant(1)"), 3);
-    assert_eq!(rt; Allocator::procedure_named(b"Release"), 0);
-    assert_eq!(rt; Allocator::procedure_named(b"Claim"), 1);
-    assert_eq!(rt; Allocator::function_named(b"State"), 0);
-    assert_eq!(rt; Allocator::function_named(b"Free"), 1);
+    assert_eq!(rt; Allocator::names().entry_named(b"Request"), 0);
+    assert_eq!(rt; Allocator::names().entry_named(b"Claim"), 1);
+    assert_eq!(rt; Allocator::names().entry_named(b"Grant"), 2);
+    assert_eq!(rt; Allocator::names().entry_named(b"Grant(1)"), 3);
+    assert_eq!(rt; Allocator::names().procedure_named(b"Release"), 0);
+    assert_eq!(rt; Allocator::names().procedure_named(b"Claim"), 1);
+    assert_eq!(rt; Allocator::names().function_named(b"State"), 0);
+    assert_eq!(rt; Allocator::names().function_named(b"Free"), 1);
 }

@@ -1,6 +1,6 @@
 //! The broadcast, operation by operation.
 
-use po_classic_units::Broadcast;
+use po_classic_units::{Broadcast, ScriptUnit};
 use po_index::EntryRef;
 use po_unit::{Outcome, Unit};
 use std::test::Fail;
@@ -80,10 +80,10 @@ fn names(rt: HostRuntime) {
     assert!(rt; Broadcast::entry_names() == ["Receive"].as_slice());
     assert!(rt; Broadcast::procedure_names() == ["Send"].as_slice());
     assert!(rt; Broadcast::function_names() == ["State"].as_slice());
-    assert_eq!(rt; Broadcast::entry_named(b"Receive"), 0);
-    assert_eq!(rt; Broadcast::entry_named(b"Recieve"), 1);
-    assert_eq!(rt; Broadcast::procedure_named(b"Send"), 0);
-    assert_eq!(rt; Broadcast::procedure_named(b"Receive"), 1);
-    assert_eq!(rt; Broadcast::function_named(b"State"), 0);
-    assert_eq!(rt; Broadcast::function_named(b"Message"), 1);
+    assert_eq!(rt; Broadcast::names().entry_named(b"Receive"), 0);
+    assert_eq!(rt; Broadcast::names().entry_named(b"Recieve"), 1);
+    assert_eq!(rt; Broadcast::names().procedure_named(b"Send"), 0);
+    assert_eq!(rt; Broadcast::names().procedure_named(b"Receive"), 1);
+    assert_eq!(rt; Broadcast::names().function_named(b"State"), 0);
+    assert_eq!(rt; Broadcast::names().function_named(b"Message"), 1);
 }

@@ -1,6 +1,6 @@
 //! The buffer, operation by operation.
 
-use po_classic_units::Buffer;
+use po_classic_units::{Buffer, ScriptUnit};
 use po_unit::{Outcome, Unit};
 use std::test::Fail;
 
@@ -78,11 +78,11 @@ fn names(rt: HostRuntime) -> Result<(), Fail> {
     assert!(rt; Buffer::entry_names() == ["Put", "Get"].as_slice());
     assert!(rt; Buffer::procedure_names().is_empty());
     assert!(rt; Buffer::function_names() == ["State"].as_slice());
-    assert_eq!(rt; Buffer::entry_named(b"Put"), 0);
-    assert_eq!(rt; Buffer::entry_named(b"Get"), 1);
-    assert_eq!(rt; Buffer::entry_named(b"put"), 2);
-    assert_eq!(rt; Buffer::procedure_named(b"Set"), 0);
-    assert_eq!(rt; Buffer::function_named(b"State"), 0);
-    assert_eq!(rt; Buffer::function_named(b"Stat"), 1);
+    assert_eq!(rt; Buffer::names().entry_named(b"Put"), 0);
+    assert_eq!(rt; Buffer::names().entry_named(b"Get"), 1);
+    assert_eq!(rt; Buffer::names().entry_named(b"put"), 2);
+    assert_eq!(rt; Buffer::names().procedure_named(b"Set"), 0);
+    assert_eq!(rt; Buffer::names().function_named(b"State"), 0);
+    assert_eq!(rt; Buffer::names().function_named(b"Stat"), 1);
     Ok(())
 }

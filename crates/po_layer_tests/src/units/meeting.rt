@@ -1,6 +1,6 @@
 //! The meeting, operation by operation.
 
-use po_classic_units::Meeting;
+use po_classic_units::{Meeting, ScriptUnit};
 use po_index::EntryRef;
 use po_unit::{Outcome, Unit};
 use std::test::Fail;
@@ -87,9 +87,9 @@ fn names(rt: HostRuntime) {
     assert!(rt; Meeting::entry_names() == ["Wait"].as_slice());
     assert!(rt; Meeting::procedure_names().is_empty());
     assert!(rt; Meeting::function_names() == ["State"].as_slice());
-    assert_eq!(rt; Meeting::entry_named(b"Wait"), 0);
-    assert_eq!(rt; Meeting::entry_named(b"wait"), 1);
-    assert_eq!(rt; Meeting::procedure_named(b"Wait"), 0);
-    assert_eq!(rt; Meeting::function_named(b"State"), 0);
-    assert_eq!(rt; Meeting::function_named(b"Wait"), 1);
+    assert_eq!(rt; Meeting::names().entry_named(b"Wait"), 0);
+    assert_eq!(rt; Meeting::names().entry_named(b"wait"), 1);
+    assert_eq!(rt; Meeting::names().procedure_named(b"Wait"), 0);
+    assert_eq!(rt; Meeting::names().function_named(b"State"), 0);
+    assert_eq!(rt; Meeting::names().function_named(b"Wait"), 1);
 }

@@ -1,6 +1,6 @@
 //! The pulse, operation by operation.
 
-use po_classic_units::Pulse;
+use po_classic_units::{Pulse, ScriptUnit};
 use po_index::EntryRef;
 use po_unit::{Outcome, Unit};
 use std::test::Fail;
@@ -100,11 +100,11 @@ fn names(rt: HostRuntime) {
     assert!(rt; Pulse::entry_names() == ["Wait", "Signal", "Reset"].as_slice());
     assert!(rt; Pulse::procedure_names().is_empty());
     assert!(rt; Pulse::function_names() == ["State"].as_slice());
-    assert_eq!(rt; Pulse::entry_named(b"Wait"), 0);
-    assert_eq!(rt; Pulse::entry_named(b"Signal"), 1);
-    assert_eq!(rt; Pulse::entry_named(b"Reset"), 2);
-    assert_eq!(rt; Pulse::entry_named(b"Set"), 3);
-    assert_eq!(rt; Pulse::procedure_named(b"Signal"), 0);
-    assert_eq!(rt; Pulse::function_named(b"State"), 0);
-    assert_eq!(rt; Pulse::function_named(b"States"), 1);
+    assert_eq!(rt; Pulse::names().entry_named(b"Wait"), 0);
+    assert_eq!(rt; Pulse::names().entry_named(b"Signal"), 1);
+    assert_eq!(rt; Pulse::names().entry_named(b"Reset"), 2);
+    assert_eq!(rt; Pulse::names().entry_named(b"Set"), 3);
+    assert_eq!(rt; Pulse::names().procedure_named(b"Signal"), 0);
+    assert_eq!(rt; Pulse::names().function_named(b"State"), 0);
+    assert_eq!(rt; Pulse::names().function_named(b"States"), 1);
 }

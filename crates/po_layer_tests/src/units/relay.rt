@@ -1,6 +1,6 @@
 //! The relay, operation by operation.
 
-use po_classic_units::Relay;
+use po_classic_units::{Relay, ScriptUnit};
 use po_unit::{Outcome, Unit};
 use std::test::Fail;
 
@@ -65,10 +65,10 @@ fn names(rt: HostRuntime) {
     assert!(rt; Relay::entry_names() == ["First", "Second", "Third"].as_slice());
     assert!(rt; Relay::procedure_names() == ["Set"].as_slice());
     assert!(rt; Relay::function_names() == ["State"].as_slice());
-    assert_eq!(rt; Relay::entry_named(b"Third"), 2);
-    assert_eq!(rt; Relay::entry_named(b"Fourth"), 3);
-    assert_eq!(rt; Relay::procedure_named(b"Set"), 0);
-    assert_eq!(rt; Relay::procedure_named(b"State"), 1);
-    assert_eq!(rt; Relay::function_named(b"State"), 0);
-    assert_eq!(rt; Relay::function_named(b""), 1);
+    assert_eq!(rt; Relay::names().entry_named(b"Third"), 2);
+    assert_eq!(rt; Relay::names().entry_named(b"Fourth"), 3);
+    assert_eq!(rt; Relay::names().procedure_named(b"Set"), 0);
+    assert_eq!(rt; Relay::names().procedure_named(b"State"), 1);
+    assert_eq!(rt; Relay::names().function_named(b"State"), 0);
+    assert_eq!(rt; Relay::names().function_named(b""), 1);
 }

@@ -1,6 +1,6 @@
 //! The signal, operation by operation.
 
-use po_classic_units::Signal;
+use po_classic_units::{ScriptUnit, Signal};
 use po_index::EntryRef;
 use po_unit::{Outcome, Unit};
 use std::test::Fail;
@@ -62,10 +62,10 @@ fn names(rt: HostRuntime) {
     assert!(rt; Signal::entry_names() == ["Wait"].as_slice());
     assert!(rt; Signal::procedure_names() == ["Send"].as_slice());
     assert!(rt; Signal::function_names() == ["State"].as_slice());
-    assert_eq!(rt; Signal::entry_named(b"Wait"), 0);
-    assert_eq!(rt; Signal::entry_named(b"Send"), 1);
-    assert_eq!(rt; Signal::procedure_named(b"Send"), 0);
-    assert_eq!(rt; Signal::procedure_named(b"Wait"), 1);
-    assert_eq!(rt; Signal::function_named(b"State"), 0);
-    assert_eq!(rt; Signal::function_named(b"state"), 1);
+    assert_eq!(rt; Signal::names().entry_named(b"Wait"), 0);
+    assert_eq!(rt; Signal::names().entry_named(b"Send"), 1);
+    assert_eq!(rt; Signal::names().procedure_named(b"Send"), 0);
+    assert_eq!(rt; Signal::names().procedure_named(b"Wait"), 1);
+    assert_eq!(rt; Signal::names().function_named(b"State"), 0);
+    assert_eq!(rt; Signal::names().function_named(b"state"), 1);
 }

@@ -1,6 +1,6 @@
 //! The trap, operation by operation.
 
-use po_classic_units::Trap;
+use po_classic_units::{ScriptUnit, Trap};
 use po_index::EntryRef;
 use po_unit::{Outcome, Unit};
 use std::test::Fail;
@@ -102,8 +102,8 @@ fn names(rt: HostRuntime) {
     assert!(rt; Trap::entry_names() == ["Wait", "Fail", "Exact"].as_slice());
     assert!(rt; Trap::procedure_names() == ["Set"].as_slice());
     assert!(rt; Trap::function_names() == ["State"].as_slice());
-    assert_eq!(rt; Trap::entry_named(b"Exact"), 2);
-    assert_eq!(rt; Trap::entry_named(b"Wait(1)"), 3);
-    assert_eq!(rt; Trap::procedure_named(b"Set"), 0);
-    assert_eq!(rt; Trap::function_named(b"State"), 0);
+    assert_eq!(rt; Trap::names().entry_named(b"Exact"), 2);
+    assert_eq!(rt; Trap::names().entry_named(b"Wait(1)"), 3);
+    assert_eq!(rt; Trap::names().procedure_named(b"Set"), 0);
+    assert_eq!(rt; Trap::names().function_named(b"State"), 0);
 }

@@ -5,27 +5,27 @@ use Rattle.po_script.proofs.operate.collect.Goals as goal
 
 pub collect_one-requires-clause-ended : goal.collect_one-requires-clause-ended
 collect_one-requires-clause-ended g c =
-    let view = c.loop-place.core.object in
-    let shown = c.ended_now-place-end.ensures ∙ ap ended_now (sym c.loop-place.invariant.object) in
-    let low : c.loop-place.place < length (ended_now view) = rw shown at c.loop-place-test.true in
-    rw c.ended_now.ensures (found_ended view.state.ended view.ended_before c.loop-place.place _ low)
+    let view = c.loop-index.core.object in
+    let shown = c.ended_now-index-end.ensures ∙ ap ended_now (sym c.loop-index.invariant.object) in
+    let low : c.loop-index.index < length (ended_now view) = rw shown at c.loop-index-test.true in
+    rw c.ended_now.ensures (found_ended view.state.ended view.ended_before c.loop-index.index _ low)
 
-pub loop-place-preserved : goal.loop-place-preserved
-loop-place-preserved g c =
-    let i = c.loop-place.invariant in
+pub loop-index-preserved : goal.loop-index-preserved
+loop-index-preserved g c =
+    let i = c.loop-index.invariant in
     let e = c.collect_one.ensures in
     let shown = c.ended_now.ensures ∙ ap ended_now i.object in
     record {
       object = e.object ∙ i.object;
       knows = e.knows;
       collected =
-          collected_more c.loop-place.core.tickets c.collect_one.new.core.tickets (ended_now c.args.core.now.object)
-          c.loop-place.place _ i.collected e.others (rw shown at e.collected);
+          collected_more c.loop-index.core.tickets c.collect_one.new.core.tickets (ended_now c.args.core.now.object)
+          c.loop-index.index _ i.collected e.others (rw shown at e.collected);
     }
 
 pub returns-clause-collected : goal.returns-clause-collected
 returns-clause-collected g c =
-    let same = c.loop-place.invariant.object in
-    let shown = c.ended_now-place-end.ensures in
-    let all : length (ended_now c.args.core.now.object) ≤ c.loop-place.place = rw shown at c.loop-place-test.false in
-    rw same (λ k d low. c.loop-place.invariant.collected k d (omega (arith, low, all)) low)
+    let same = c.loop-index.invariant.object in
+    let shown = c.ended_now-index-end.ensures in
+    let all : length (ended_now c.args.core.now.object) ≤ c.loop-index.index = rw shown at c.loop-index-test.false in
+    rw same (λ k d low. c.loop-index.invariant.collected k d (omega (arith, low, all)) low)

@@ -4,10 +4,10 @@ use Rattle.po_script.specs.Tickets.{Knows}
 use Rattle.po_script.proofs.CollectLemmas.{AreCollectedTo}
 use Rattle.po_script.proofs.operate.collect.Given as goal
 
-abbrev pub invariant-loop-place : goal.invariant-loop-place
-invariant-loop-place g l =
+abbrev pub invariant-loop-index : goal.invariant-loop-index
+invariant-loop-index g l =
     record {
       object : l.core.object ≡ l.fn.core.object;
       knows : Knows l.core.tickets l.tickets;
-      collected : AreCollectedTo l.core.tickets (ended_now l.fn.core.object) l.place;
+      collected : AreCollectedTo l.core.tickets (ended_now l.fn.core.object) l.index;
     }

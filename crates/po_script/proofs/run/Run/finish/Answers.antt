@@ -8,7 +8,7 @@ returns-in_err-carry_out-clause-err g c = λ bytes start s fine.
     let p = err_from_is_err_and c.from_residual.result c.from_residual.ensures.1 in
     let run = c.args.self.now in
     let short : length run.line.items ≤ 4096 = omega (arith, run.line.ok.0, run.short) in
-    rw (p.1, p.2) (end_ends run bytes start _ s c.in_err-carry_out.field-0.0 _ (g.W.Sink.failed c.args.writer.now || g.W.Sink.stuck c.args.writer.now) (g.W.Sink.failed c.carry_out.new.writer || g.W.Sink.stuck c.carry_out.new.writer) run.few short fine (rw c.as_slice.ensures.value at c.in_err-carry_out.ensures.err))
+    rw (p.1, p.2) (end_ends g.O.ScriptObject.units g.O.ScriptObject.object run bytes start _ s c.in_err-carry_out.field-0.0 _ (g.W.Sink.failed c.args.writer.now || g.W.Sink.stuck c.args.writer.now) (g.W.Sink.failed c.carry_out.new.writer || g.W.Sink.stuck c.carry_out.new.writer) run.few short fine (rw c.as_slice.ensures.value at c.in_err-carry_out.ensures.err))
 
 pub returns-clause-ok : goal.returns-clause-ok
 returns-clause-ok g c = λ bytes start s fine.
@@ -16,4 +16,4 @@ returns-clause-ok g c = λ bytes start s fine.
     let same = c.in_ok-carry_out.ensures.fine in
     let run = c.args.self.now in
     let short : length run.line.items ≤ 4096 = omega (arith, run.line.ok.0, run.short) in
-    run_end_well run bytes start _ s k.command _ _ run.few short (rw c.as_slice.ensures.value at k.says) k.told (rw (same.0, same.1) fine)
+    run_end_well g.O.ScriptObject.units g.O.ScriptObject.object run bytes start _ s k.command _ _ run.few short (rw c.as_slice.ensures.value at k.says) k.told (rw (same.0, same.1) fine)

@@ -1,0 +1,21 @@
+//! The units that scripts know.
+
+ghost use Rattle.std.specs.Prelude.{◌≡◌};
+
+use po_classic_units::UnitNames;
+
+/// The units that scripts know, one or more in an order, each by its number in it: from 0, of 16 bits.
+pub trait UnitList {
+    ghost use Rattle.po_language.specs.Units.{UnitList as Listed, unit_number, names_at};
+
+    /// What scripts know of each.
+    ghost listed: { Listed };
+
+    /// The number of the first unit of that name, if there is one.
+    fn unit_number(word: &[u8]) -> Option<u16>
+        ensures { result ≡ unit_number listed word.now };
+
+    /// The names of the unit with this number, and of its operations. A number behind the last unit's is that unit's too.
+    fn names_at(number: u16) -> UnitNames
+        ensures { result ≡ names_at listed number };
+}

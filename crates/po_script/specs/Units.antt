@@ -1,0 +1,64 @@
+-- The units of scripts with what each means, and the objects of them.
+use Rattle.std.specs.Prelude.{ℕ, zero, suc, ◌⊎◌, List, Option}
+use Rattle.std.proofs.Common.{inl, inr}
+use Rattle.po_index.specs.declared.decl.Decl.{Decl}
+use Rattle.po_barriers.specs.declared.order.Order.{Order}
+use Rattle.po_unit.specs.Meaning.{Meaning}
+use Rattle.po_actions.specs.Making.{Making}
+use Rattle.po_actions.specs.View.{View, opening_view}
+use Rattle.po_classic_units.specs.ScriptUnit.{KnownUnit}
+use Rattle.po_language.specs.Units.{UnitList}
+use Rattle.po_language.specs.Units.UnitList.{last as last_name, before as name_before}
+use Rattle.po_language.specs.declared.command.Beginning.{Beginning}
+use Rattle.po_language.specs.declared.command.Operation.{Operation}
+use Rattle.po_script.specs.Operations.{after_operation, operation_lines}
+
+-- the units of scripts, in an order: one, or one before others; what scripts know of each, and what it means
+pub data ScriptUnits : Type 1 where
+  last : (S : Type 0) → KnownUnit S → Meaning S ℕ → ScriptUnits
+  before : (S : Type 0) → KnownUnit S → Meaning S ℕ → ScriptUnits → ScriptUnits
+
+-- what scripts know of them
+abbrev pub listed : ScriptUnits → UnitList
+listed (last S unit m) = last_name unit.names
+listed (before S unit m units) = name_before unit.names (listed units)
+
+-- an object of one of the units
+abbrev pub Object : ScriptUnits → Type 0
+Object (last S unit m) = View S ℕ
+Object (before S unit m units) = View S ℕ ⊎ Object units
+
+-- what an object is made with: its calls are numbered from 1
+abbrev pub making_of : {S : Type 0} → S → List Decl → Order → Option ℕ → Making S
+making_of opening shape order max_queue = record {
+  opening = opening;
+  shape = shape;
+  order = order;
+  max_queue = max_queue;
+  first_number = 1;
+  first_place = 0;
+}
+
+-- an object of the unit that was just made
+abbrev pub made : {S : Type 0} → KnownUnit S → Beginning → View S ℕ
+made unit beginning =
+    let opening = unit.opening beginning.unit.size in
+    opening_view (making_of opening (unit.declarations opening) beginning.order beginning.max_queue)
+
+-- the object of the unit with this number as it is made; the numbers behind the last unit's are its numbers too
+abbrev pub made_at : (units : ScriptUnits) → ℕ → Beginning → Object units
+made_at (last S unit m) n beginning = made unit beginning
+made_at (before S unit m units) zero beginning = inl (made unit beginning)
+made_at (before S unit m units) (suc n) beginning = inr (made_at units n beginning)
+
+-- the object after an operation
+abbrev pub after_on : (units : ScriptUnits) → Object units → Operation → Object units
+after_on (last S unit m) view operation = after_operation m view operation
+after_on (before S unit m units) (inl view) operation = inl (after_operation m view operation)
+after_on (before S unit m units) (inr object) operation = inr (after_on units object operation)
+
+-- the lines that answer an operation
+abbrev pub lines_on : (units : ScriptUnits) → Object units → Operation → List ℕ
+lines_on (last S unit m) view operation = operation_lines m unit.names.entries view operation
+lines_on (before S unit m units) (inl view) operation = operation_lines m unit.names.entries view operation
+lines_on (before S unit m units) (inr object) operation = lines_on units object operation

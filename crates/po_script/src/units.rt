@@ -1,0 +1,145 @@
+//! The units that scripts know.
+
+ghost use Rattle.std.specs.Prelude.{◌≡◌, [], IfOk, OnOk, OnErr, string_bytes};
+
+use crate::object::Object;
+use po_classic_units::{
+    Allocator, Broadcast, Buffer, Meeting, Pulse, Relay, ScriptUnit, Signal, Trap, UnitNames,
+};
+use po_language::{Beginning, Operation, UnitList};
+use po_unit::Unit;
+use std::alloc::{AllocError, Global};
+
+/// The units that scripts know: a line for each, in the order in which a `unit` line's name is looked up.
+pub type Units = OneOf<
+    Buffer,
+    OneOf<
+        Signal,
+        OneOf<
+            Broadcast,
+            OneOf<Pulse, OneOf<Meeting, OneOf<Allocator, OneOf<Relay, Object<Trap>>>>>,
+        >,
+    >,
+>;
+
+/// The object of a script, of one of a list of units.
+pub trait ScriptObject: UnitList + Drop {
+    ghost use Rattle.po_classic_units.specs.Sizes.{IsSizeWhere};
+    ghost use Rattle.po_language.specs.Units.{names_at};
+    ghost use Rattle.po_script.specs.Operations.{IsEither};
+    ghost use Rattle.po_script.specs.Units.{ScriptUnits, Object as ObjectOf, listed, made_at, after_on, lines_on};
+
+    /// The units of the list.
+    ghost units: { ScriptUnits };
+
+    /// What the object is to the commands of a script: its tickets are no part of that.
+    ghost object: { Self → ObjectOf units };
+
+    /// The object of the unit with this number that a `unit` line begins.
+    fn begin(alloc: Global, number: u16, beginning: Beginning) -> Result<Self, AllocError>
+        requires { IsSizeWhere (names_at (listed units) number).is_sized beginning.unit.size }
+        ensures { IfOk result (λ it. object it ≡ made_at units number beginning) };
+
+    /// Carries out the operation, and puts the lines that answer it into the empty reply.
+    fn operate(&mut self, operation: Operation, reply: &mut String) -> Result<(), AllocError>
+        requires { string_bytes reply.old ≡ [] }
+        ensures object { OnOk result (object self.new ≡ after_on units (object self.old) operation) }
+        ensures failed { OnErr result (IsEither (object self.new) (object self.old) (after_on units (object self.old) operation)) }
+        ensures lines { OnOk result (string_bytes reply.new ≡ lines_on units (object self.old) operation) };
+
+    /// The names of the list are those of its units.
+    ghost same_list: { Self.listed ≡ listed units };
+}
+
+/// The object of one unit, or of one of the others.
+#[derive(Drop)]
+pub enum OneOf<U: Unit<Value = u64>, R> {
+    /// Of this unit.
+    This(Object<U>),
+    /// Of one of the others.
+    Other(R),
+}
+
+impl<U: ScriptUnit> UnitList for Object<U> {
+    ghost use Rattle.po_language.specs.Units.UnitList.{last};
+
+    ghost listed = { last U.known.names };
+
+    fn unit_number(word: &[u8]) -> Option<u16> {
+        if U::names().unit.as_bytes() == word {
+            Some(0)
+        } else {
+            None
+        }
+    }
+
+    fn names_at(_number: u16) -> UnitNames {
+        U::names()
+    }
+}
+
+impl<U: ScriptUnit, R: UnitList> UnitList for OneOf<U, R> {
+    ghost use Rattle.po_language.specs.Units.UnitList.{before};
+
+    ghost listed = { before U.known.names R.listed };
+
+    fn unit_number(word: &[u8]) -> Option<u16> {
+        if U::names().unit.as_bytes() == word {
+            return Some(0);
+        }
+        R::unit_number(word)?.checked_add(1)
+    }
+
+    fn names_at(number: u16) -> UnitNames {
+        match number.checked_sub(1) {
+            None => U::names(),
+            Some(rest) => R::names_at(rest),
+        }
+    }
+}
+
+impl<U: ScriptUnit> ScriptObject for Object<U> {
+    ghost use Rattle.std.specs.Prelude.{refl};
+    ghost use Rattle.po_script.specs.Units.{last};
+
+    ghost units = { last U U.known U.meaning };
+
+    ghost object = { λ it. it.core.object };
+
+    fn begin(alloc: Global, _number: u16, beginning: Beginning) -> Result<Object<U>, AllocError> {
+        Object::new(alloc, beginning)
+    }
+
+    fn operate(&mut self, operation: Operation, reply: &mut String) -> Result<(), AllocError> {
+        Object::operate(self, operation, reply)
+    }
+
+    ghost same_list = { refl };
+}
+
+impl<U: ScriptUnit, R: ScriptObject> ScriptObject for OneOf<U, R> {
+    ghost use Rattle.std.proofs.Common.{inl, inr, ap};
+    ghost use Rattle.po_language.specs.Units.UnitList.{before as name_before};
+    ghost use Rattle.po_script.specs.Units.{before};
+    ghost use Rattle.po_script.specs.declared.units.OneOf.TheVariants.{This, Other};
+
+    ghost units = { before U U.known U.meaning R.units };
+
+    ghost object = { elim [ This it ↦ inl it.core.object | Other other ↦ inr (R.object other) ] };
+
+    fn begin(alloc: Global, number: u16, beginning: Beginning) -> Result<OneOf<U, R>, AllocError> {
+        match number.checked_sub(1) {
+            None => Ok(OneOf::This(Object::new(alloc, beginning)?)),
+            Some(rest) => Ok(OneOf::Other(R::begin(alloc, rest, beginning)?)),
+        }
+    }
+
+    fn operate(&mut self, operation: Operation, reply: &mut String) -> Result<(), AllocError> {
+        match self {
+            OneOf::This(object) => object.operate(operation, reply),
+            OneOf::Other(other) => other.operate(operation, reply),
+        }
+    }
+
+    ghost same_list = { ap (name_before U.known.names) R.same_list };
+}
