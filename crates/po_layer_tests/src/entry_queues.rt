@@ -1,9 +1,10 @@
-//! Worked runs of entry queues.
+//! Worked runs of entry queues, and what stays where memory is refused.
 
 ghost use Rattle.std.specs.Prelude.{◌≡◌, ◌≤◌, [], ◌∷◌, IfOk};
 
 use po_queues::EntryQueues;
 use std::alloc::{AllocError, Global};
+use std::fmt::Write;
 use std::test::Fail;
 
 /// Three entries: keys 5 and 2 on entry 0, none on entry 1, keys 0, 7, 3 and 4 on entry 2. The calls of keys 5, 7 and 4
@@ -31,86 +32,71 @@ fn worked(alloc: Global) -> Result<EntryQueues, AllocError>
     Ok(queues)
 }
 
-#[test]
-fn queues_by_entry(rt: HostRuntime) -> Result<(), Fail> {
-    let queues = worked(rt.alloc())?;
-    assert_eq!(rt; queues.counts(), [2, 0, 4].as_slice());
-    assert_eq!(rt; queues.count(2), 4);
-    assert_eq!(rt; queues.first(0), Some(5));
-    assert_eq!(rt; queues.first(1), None);
-    assert_eq!(rt; queues.first(2), Some(0));
-    assert_eq!(rt; queues.stamp(2), Some(18));
-    assert_eq!(rt; queues.stamp(6), None);
-    assert!(rt; queues.contains(4));
-    assert!(rt; !queues.contains(6));
-    assert_eq!(rt; queues.by_entry().after(7), Some(3));
-    assert_eq!(rt; queues.by_entry().next_busy(1), Some(2));
-    Ok(())
+/// All queued keys in order of arrival, and how many are queued on each entry.
+fn text_of(alloc: Global, queues: &EntryQueues) -> Result<String, Fail> {
+    let mut text = String::new(alloc);
+    let mut next = queues.oldest();
+    for _ in 0..1000 {
+        let Some(key) = next else {
+            break;
+        };
+        write!(text, "{key} ")?;
+        next = queues.next(key);
+    }
+    write!(text, "{:?}", queues.counts())?;
+    Ok(text)
 }
 
-#[test]
-fn lists_in_order_of_arrival(rt: HostRuntime) -> Result<(), Fail> {
-    let queues = worked(rt.alloc())?;
-    assert_eq!(rt; queues.oldest(), Some(0));
-    assert_eq!(rt; queues.next(0), Some(5));
-    assert_eq!(rt; queues.next(5), Some(7));
-    assert_eq!(rt; queues.next(7), Some(3));
-    assert_eq!(rt; queues.next(3), Some(2));
-    assert_eq!(rt; queues.next(2), Some(4));
-    assert_eq!(rt; queues.next(4), None);
-    assert_eq!(rt; queues.next(6), None);
-    assert_eq!(rt; queues.next(usize::MAX), None);
-    Ok(())
+/// Raises the clock, and removes the first key that is due.
+fn take_due(queues: &mut EntryQueues, time: u64) -> Option<usize> {
+    queues.rise(time);
+    let due = queues.first_due()?;
+    queues.remove(due);
+    Some(due)
 }
 
+// A key is removed from its entry's queue and from all arrivals, and is new at the end.
 #[test]
-fn removes_from_all(rt: HostRuntime) -> Result<(), Fail> {
+fn keys_stand_in_order_of_arrival(rt: HostRuntime) -> Result<(), Fail> {
     let mut queues = worked(rt.alloc())?;
-    // In the middle of its entry's queue, of all arrivals and of those that expire.
-    assert!(rt; queues.remove(7));
-    assert!(rt; !queues.contains(7));
-    assert_eq!(rt; queues.by_entry().after(0), Some(3));
-    assert_eq!(rt; queues.next(5), Some(3));
-    assert_eq!(rt; queues.next(7), None);
-    assert_eq!(rt; queues.counts(), [2, 0, 3].as_slice());
-    // At the head, with no time.
-    assert!(rt; queues.remove(0));
-    assert_eq!(rt; queues.oldest(), Some(5));
-    assert_eq!(rt; queues.first(2), Some(3));
-    // What isn't queued.
-    assert!(rt; !queues.remove(7));
-    assert!(rt; !queues.remove(6));
-    assert!(rt; !queues.remove(usize::MAX));
-    // The key is new again, at the end, and on another entry.
+    assert_eq!(rt;
+        text_of(rt.alloc(), &queues)?.as_str(),
+        "0 5 7 3 2 4 [2, 0, 4]"
+    );
+    let removed = [queues.remove(7), queues.remove(7), queues.remove(0)];
     queues.append(1, 7, 20, None);
-    assert_eq!(rt; queues.next(4), Some(7));
-    assert_eq!(rt; queues.first(1), Some(7));
+    assert_eq!(rt; removed, [true, false, true]);
+    assert_eq!(rt;
+        text_of(rt.alloc(), &queues)?.as_str(),
+        "5 3 2 4 7 [2, 1, 2]"
+    );
+    assert_eq!(rt;
+        [
+            queues.first(0),
+            queues.first(1),
+            queues.first(2),
+            queues.next(6)
+        ],
+        [Some(5), Some(7), Some(3), None]
+    );
     Ok(())
 }
 
+// Key 4 expires first, though it came last. Key 5 came before it, and is the first once both are due. The clock isn't
+// turned back.
 #[test]
-fn finds_the_first_that_is_due(rt: HostRuntime) -> Result<(), Fail> {
+fn the_first_that_is_due_is_found(rt: HostRuntime) -> Result<(), Fail> {
     let mut queues = worked(rt.alloc())?;
-    assert_eq!(rt; queues.first_due(), None);
-    queues.rise(49);
-    assert_eq!(rt; queues.first_due(), None);
-    // Key 4 expires first, though it came last.
-    queues.rise(50);
-    assert_eq!(rt; queues.first_due(), Some(4));
-    // Key 5 came before it.
-    queues.rise(70);
-    assert_eq!(rt; queues.first_due(), Some(5));
-    queues.rise(60);
-    assert_eq!(rt; queues.clock(), 70);
-    assert!(rt; queues.remove(5));
-    assert_eq!(rt; queues.first_due(), Some(4));
-    assert!(rt; queues.remove(4));
-    assert_eq!(rt; queues.first_due(), None);
-    queues.rise(u64::MAX);
-    assert_eq!(rt; queues.first_due(), Some(7));
-    assert!(rt; queues.remove(7));
-    assert_eq!(rt; queues.first_due(), None);
-    assert_eq!(rt; queues.oldest(), Some(0));
+    let due = [
+        take_due(&mut queues, 49),
+        take_due(&mut queues, 70),
+        take_due(&mut queues, 60),
+        take_due(&mut queues, 89),
+        take_due(&mut queues, u64::MAX),
+        take_due(&mut queues, u64::MAX),
+    ];
+    assert_eq!(rt; due, [None, Some(5), Some(4), None, Some(7), None]);
+    assert_eq!(rt; text_of(rt.alloc(), &queues)?.as_str(), "0 3 2 [1, 0, 2]");
     Ok(())
 }
 
@@ -118,46 +104,28 @@ fn finds_the_first_that_is_due(rt: HostRuntime) -> Result<(), Fail> {
 fn expires_only_with_its_new_time(rt: HostRuntime) -> Result<(), Fail> {
     let mut queues = worked(rt.alloc())?;
     queues.rise(55);
-    assert!(rt; queues.remove(4));
+    queues.remove(4);
     queues.append(2, 4, 20, Some(56));
-    assert_eq!(rt; queues.first_due(), None);
-    queues.rise(56);
-    assert_eq!(rt; queues.first_due(), Some(4));
-    assert!(rt; queues.remove(4));
-    queues.append(2, 4, 21, None);
-    assert_eq!(rt; queues.first_due(), None);
+    let due = [take_due(&mut queues, 55), take_due(&mut queues, 56)];
+    assert_eq!(rt; due, [None, Some(4)]);
     Ok(())
 }
 
-#[test]
-fn reserves_for_all(rt: HostRuntime) -> Result<(), Fail> {
-    let mut queues = EntryQueues::new(rt.alloc(), 1)?;
-    queues.recall_invariant();
-    assert_eq!(rt; queues.reserve(0), Ok(()));
-    queues.append(0, 0, 1, Some(5));
-    assert_eq!(rt; queues.reserve(300), Ok(()));
-    queues.append(0, 300, 2, Some(4));
-    queues.append(0, 299, 3, None);
-    assert_eq!(rt; queues.reserve(2), Ok(()));
-    assert_eq!(rt; queues.oldest(), Some(0));
-    assert_eq!(rt; queues.next(0), Some(300));
-    assert_eq!(rt; queues.count(0), 3);
-    assert_eq!(rt; queues.reserve(usize::MAX), Err(AllocError));
-    assert_eq!(rt; queues.next(300), Some(299));
-    Ok(())
-}
-
+// With an allocation refused, the first call for more places fails.
 #[test]
 fn keeps_all_where_memory_is_refused(rt: HostRuntime) -> Result<(), Fail> {
     let mut queues = worked(rt.alloc())?;
+    let too_many = queues.reserve(usize::MAX);
     let more = queues.reserve(1000);
-    assert_eq!(rt; queues.counts(), [2, 0, 4].as_slice());
-    assert_eq!(rt; queues.next(7), Some(3));
+    let text = text_of(rt.alloc(), &queues)?;
+    assert_eq!(rt;
+        (too_many, text.as_str()),
+        (Err(AllocError), "0 5 7 3 2 4 [2, 0, 4]")
+    );
     if more.is_err() {
         queues.reserve(1000)?;
     }
     queues.append(1, 1000, 30, Some(1));
-    assert_eq!(rt; queues.first(1), Some(1000));
-    assert_eq!(rt; queues.next(4), Some(1000));
+    assert_eq!(rt; (queues.first(1), queues.next(4)), (Some(1000), Some(1000)));
     Ok(())
 }

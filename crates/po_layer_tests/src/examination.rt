@@ -2,10 +2,11 @@
 
 ghost use Rattle.std.specs.Prelude.{◌≡◌, IfOk};
 
-use po_barriers::{Look, Order, examine};
+use po_barriers::{Order, examine};
 use po_queues::Queues;
 use po_unit::{Outcome, Unit};
 use std::alloc::{AllocError, Global};
+use std::fmt::Write;
 use std::test::Fail;
 
 /// An entry that no number of queued keys opens.
@@ -99,125 +100,85 @@ fn filled(alloc: Global) -> Result<Queues, AllocError>
     Ok(queues)
 }
 
-#[test]
-fn examines_in_each_order(rt: HostRuntime) -> Result<(), Fail> {
-    let queues = filled(rt.alloc())?;
-    let gates = Gates {
-        table: [CLOSED, Ok(1), Ok(0), Ok(1), Ok(1)],
-    };
-    assert_eq!(rt;
-        examine(&gates, &queues, Order::Textual, None),
-        Look::Ready(1)
-    );
-    assert_eq!(rt;
-        examine(&gates, &queues, Order::Textual, Some(3)),
-        Look::Ready(1)
-    );
-    assert_eq!(rt;
-        examine(&gates, &queues, Order::Oldest, None),
-        Look::Ready(3)
-    );
-    assert_eq!(rt;
-        examine(&gates, &queues, Order::Oldest, Some(3)),
-        Look::Ready(3)
-    );
-    assert_eq!(rt;
-        examine(&gates, &queues, Order::Rotating, None),
-        Look::Ready(1)
-    );
-    let turns = [
-        (0, 1),
-        (1, 3),
-        (2, 3),
-        (3, 4),
-        (4, 1),
-        (5, 1),
-        (u16::MAX, 1),
-    ];
-    for (last, next) in turns {
-        assert_eq!(rt;
-            examine(&gates, &queues, Order::Rotating, Some(last)),
-            Look::Ready(next),
-            "after {last}"
-        );
+/// The one order after the other.
+const ORDERS: [Order; 3] = [Order::Textual, Order::Oldest, Order::Rotating];
+
+/// What each order finds after each of these entries, as text.
+fn text_of(
+    alloc: Global,
+    queues: &Queues,
+    table: [Result<u64, u32>; 5],
+    lasts: &[Option<u16>],
+) -> Result<String, Fail>
+    requires { queues.now.total ≡ 5 }
+{
+    let mut text = String::new(alloc);
+    let gates = Gates { table };
+    for order in ORDERS {
+        for last in lasts {
+            write!(text, "{:?} ", examine(&gates, queues, order, *last))?;
+        }
     }
-    Ok(())
+    Ok(text)
 }
 
+// The lowest number, the entry whose first call has waited longest, and the next after the last one, in turn.
 #[test]
-fn comes_round_to_the_last_one(rt: HostRuntime) -> Result<(), Fail> {
+fn each_order_has_its_first(rt: HostRuntime) -> Result<(), Fail> {
     let queues = filled(rt.alloc())?;
-    let gates = Gates {
-        table: [CLOSED, CLOSED, Ok(0), Ok(1), CLOSED],
-    };
-    for last in 0..6 {
-        assert_eq!(rt;
-            examine(&gates, &queues, Order::Rotating, Some(last)),
-            Look::Ready(3),
-            "after {last}"
-        );
-    }
+    let table = [CLOSED, Ok(1), Ok(0), Ok(1), Ok(1)];
+    let lasts = [None, Some(0), Some(1), Some(3), Some(4), Some(u16::MAX)];
+    assert_eq!(rt;
+        text_of(rt.alloc(), &queues, table, &lasts)?.as_str(),
+        "Ready(1) Ready(1) Ready(1) Ready(1) Ready(1) Ready(1) \
+         Ready(3) Ready(3) Ready(3) Ready(3) Ready(3) Ready(3) \
+         Ready(1) Ready(1) Ready(3) Ready(4) Ready(1) Ready(1) "
+    );
+    // The last one is the only open one.
+    let table = [CLOSED, CLOSED, Ok(0), Ok(1), CLOSED];
+    assert_eq!(rt;
+        text_of(rt.alloc(), &queues, table, &[Some(3)])?.as_str(),
+        "Ready(3) Ready(3) Ready(3) "
+    );
     Ok(())
 }
 
+// A barrier that propagates an exception decides where it comes first in the order, and not behind an open one.
 #[test]
-fn tells_of_exceptions(rt: HostRuntime) -> Result<(), Fail> {
+fn exceptions_decide_in_their_order(rt: HostRuntime) -> Result<(), Fail> {
     let queues = filled(rt.alloc())?;
-    let gates = Gates {
-        table: [Err(7), CLOSED, Err(8), CLOSED, Ok(1)],
-    };
+    let table = [Err(7), CLOSED, Err(8), CLOSED, Ok(1)];
     assert_eq!(rt;
-        examine(&gates, &queues, Order::Textual, None),
-        Look::Broken(0)
-    );
-    assert_eq!(rt;
-        examine(&gates, &queues, Order::Oldest, None),
-        Look::Ready(4)
-    );
-    assert_eq!(rt;
-        examine(&gates, &queues, Order::Rotating, Some(0)),
-        Look::Ready(4)
-    );
-    assert_eq!(rt;
-        examine(&gates, &queues, Order::Rotating, Some(4)),
-        Look::Broken(0)
+        text_of(rt.alloc(), &queues, table, &[Some(0), Some(4)])?.as_str(),
+        "Broken(0) Broken(0) Ready(4) Ready(4) Ready(4) Broken(0) "
     );
     Ok(())
 }
 
+// An entry with no queued key isn't looked at, whatever its barrier, and the counts are those of the queues.
 #[test]
 fn is_quiet_where_all_are_closed(rt: HostRuntime) -> Result<(), Fail> {
     let queues = filled(rt.alloc())?;
-    let gates = Gates {
-        table: [Ok(2), CLOSED, Ok(0), Ok(3), Ok(2)],
-    };
-    for order in [Order::Textual, Order::Oldest, Order::Rotating] {
-        assert_eq!(rt; examine(&gates, &queues, order, None), Look::Quiet);
-        assert_eq!(rt; examine(&gates, &queues, order, Some(2)), Look::Quiet);
-    }
-    Ok(())
-}
-
-#[test]
-fn is_quiet_where_none_is_queued(rt: HostRuntime) -> Result<(), Fail> {
+    let few = [Ok(2), CLOSED, Ok(0), Ok(3), Ok(2)];
+    let enough = [Ok(2), Ok(2), Err(1), Ok(2), Ok(2)];
+    assert_eq!(rt;
+        text_of(rt.alloc(), &queues, few, &[None, Some(2)])?.as_str(),
+        "Quiet Quiet Quiet Quiet Quiet Quiet "
+    );
+    assert_eq!(rt;
+        text_of(rt.alloc(), &queues, enough, &[Some(3)])?.as_str(),
+        "Ready(3) Ready(3) Ready(3) "
+    );
     let queues = Queues::new(rt.alloc(), 5)?;
-    let gates = Gates {
-        table: [Ok(0), Err(1), Ok(0), Ok(0), Ok(0)],
-    };
-    for order in [Order::Textual, Order::Oldest, Order::Rotating] {
-        assert_eq!(rt; examine(&gates, &queues, order, Some(1)), Look::Quiet);
-    }
-    Ok(())
-}
-
-#[test]
-fn opens_by_the_counts(rt: HostRuntime) -> Result<(), Fail> {
-    let queues = filled(rt.alloc())?;
-    let gates = Gates {
-        table: [Ok(2), Ok(2), Ok(0), Ok(2), Ok(2)],
-    };
-    for order in [Order::Textual, Order::Oldest, Order::Rotating] {
-        assert_eq!(rt; examine(&gates, &queues, order, Some(3)), Look::Ready(3));
-    }
+    assert_eq!(rt;
+        text_of(
+            rt.alloc(),
+            &queues,
+            [Ok(0), Err(1), Ok(0), Ok(0), Ok(0)],
+            &[Some(1)]
+        )?
+        .as_str(),
+        "Quiet Quiet Quiet "
+    );
     Ok(())
 }

@@ -1,4 +1,4 @@
-//! Worked runs of expirations, and the limits.
+//! Worked runs of expirations, the limits, and what stays where memory is refused.
 
 ghost use Rattle.std.specs.Prelude.{◌≡◌, ◌≤◌, [], ◌∷◌, IfOk};
 
@@ -24,93 +24,81 @@ fn worked(alloc: Global) -> Result<Expirations, AllocError>
     Ok(expirations)
 }
 
+/// Raises the clock, and tells the first key that is due.
+fn due_at(expirations: &mut Expirations, time: u64) -> Option<usize> {
+    expirations.rise(time);
+    expirations.first_due()
+}
+
+/// Raises the clock, and removes the first key that is due.
+fn take_due(expirations: &mut Expirations, time: u64) -> Option<usize> {
+    let due = due_at(expirations, time)?;
+    expirations.remove(due);
+    Some(due)
+}
+
+// A time has come when the clock is at it. Of two that are due the one that arrived first is found, and it is found until
+// it is removed. The clock isn't turned back.
 #[test]
-fn finds_due_keys_in_order_of_arrival(rt: HostRuntime) -> Result<(), Fail> {
+fn due_keys_are_found_in_order_of_arrival(rt: HostRuntime) -> Result<(), Fail> {
     let mut expirations = worked(rt.alloc())?;
-    assert_eq!(rt; expirations.first_due(), None);
-    expirations.rise(19);
-    assert_eq!(rt; expirations.first_due(), None);
-    // A time has come when the clock is at it.
-    expirations.rise(20);
-    assert_eq!(rt; expirations.first_due(), Some(0));
-    assert!(rt; expirations.remove(0));
-    assert_eq!(rt; expirations.first_due(), Some(2));
-    assert_eq!(rt; expirations.first_due(), Some(2));
-    assert!(rt; expirations.remove(2));
-    assert!(rt; !expirations.remove(2));
-    assert_eq!(rt; expirations.first_due(), None);
-    expirations.rise(90);
-    assert_eq!(rt; expirations.first_due(), Some(4));
-    assert!(rt; expirations.remove(4));
-    assert_eq!(rt; expirations.first_due(), Some(7));
-    assert!(rt; expirations.remove(7));
-    assert_eq!(rt; expirations.first_due(), None);
-    assert_eq!(rt; expirations.clock(), 90);
+    let due = [
+        take_due(&mut expirations, 19),
+        due_at(&mut expirations, 20),
+        take_due(&mut expirations, 20),
+        take_due(&mut expirations, 5),
+        take_due(&mut expirations, 49),
+        take_due(&mut expirations, 90),
+        take_due(&mut expirations, 90),
+        take_due(&mut expirations, 90),
+    ];
+    let wanted = [
+        None,
+        Some(0),
+        Some(0),
+        Some(2),
+        None,
+        Some(4),
+        Some(7),
+        None,
+    ];
+    assert_eq!(rt; due, wanted);
+    assert_eq!(rt; (expirations.clock(), expirations.remove(2)), (90, false));
     Ok(())
 }
 
-// Of two that are due, the one that arrived first, though the other's time is earlier.
-#[test]
-fn prefers_arrival_to_time(rt: HostRuntime) -> Result<(), Fail> {
-    let mut expirations = worked(rt.alloc())?;
-    expirations.rise(60);
-    assert_eq!(rt; expirations.first_due(), Some(4));
-    Ok(())
-}
-
+// A key is removed before the one at which the search stands, at it, and behind it.
 #[test]
 fn removes_where_the_search_goes_on(rt: HostRuntime) -> Result<(), Fail> {
     let mut expirations = worked(rt.alloc())?;
-    expirations.rise(20);
-    assert_eq!(rt; expirations.first_due(), Some(0));
-    // Before the key at which the search stands, that key, and one after it.
-    assert!(rt; expirations.remove(4));
-    assert_eq!(rt; expirations.first_due(), Some(0));
-    assert!(rt; expirations.remove(0));
-    assert!(rt; expirations.remove(7));
-    assert_eq!(rt; expirations.first_due(), Some(2));
+    let before = due_at(&mut expirations, 20);
+    let removed = [
+        expirations.remove(4),
+        expirations.remove(0),
+        expirations.remove(7),
+    ];
+    assert_eq!(rt;
+        (before, removed, due_at(&mut expirations, 20)),
+        (Some(0), [true, true, true], Some(2))
+    );
     Ok(())
 }
 
 #[test]
 fn adds_after_all_were_passed(rt: HostRuntime) -> Result<(), Fail> {
-    let mut expirations = worked(rt.alloc())?;
-    expirations.rise(10);
-    assert_eq!(rt; expirations.first_due(), None);
-    expirations.append(1, 20, 10);
-    assert_eq!(rt; expirations.first_due(), Some(1));
-    assert!(rt; expirations.remove(1));
-    expirations.append(1, 21, 11);
-    assert_eq!(rt; expirations.first_due(), None);
-    expirations.rise(11);
-    assert_eq!(rt; expirations.first_due(), Some(1));
-    Ok(())
-}
-
-#[test]
-fn never_turns_the_clock_back(rt: HostRuntime) -> Result<(), Fail> {
-    let mut expirations = worked(rt.alloc())?;
-    expirations.rise(30);
-    expirations.rise(5);
-    assert_eq!(rt; expirations.clock(), 30);
-    assert_eq!(rt; expirations.first_due(), Some(0));
-    Ok(())
-}
-
-#[test]
-fn meets_the_last_time(rt: HostRuntime) -> Result<(), Fail> {
     let mut expirations = Expirations::new(rt.alloc())?;
     expirations.reserve(1)?;
     expirations.append(0, 1, u64::MAX);
-    expirations.append(1, 2, u64::MAX);
     expirations.rise(u64::MAX - 1);
-    assert_eq!(rt; expirations.first_due(), None);
-    expirations.rise(u64::MAX);
-    assert_eq!(rt; expirations.first_due(), Some(0));
-    assert!(rt; expirations.remove(0));
-    assert_eq!(rt; expirations.first_due(), Some(1));
-    assert!(rt; expirations.remove(1));
-    assert_eq!(rt; expirations.first_due(), None);
+    let before = expirations.first_due();
+    expirations.append(1, 2, u64::MAX - 1);
+    let due = [
+        before,
+        take_due(&mut expirations, 0),
+        take_due(&mut expirations, 0),
+        take_due(&mut expirations, u64::MAX),
+    ];
+    assert_eq!(rt; due, [None, Some(1), None, Some(0)]);
     Ok(())
 }
 
@@ -118,13 +106,15 @@ fn meets_the_last_time(rt: HostRuntime) -> Result<(), Fail> {
 fn clears_all_but_the_clock(rt: HostRuntime) -> Result<(), Fail> {
     let mut expirations = worked(rt.alloc())?;
     expirations.rise(40);
-    assert_eq!(rt; expirations.first_due(), Some(0));
     expirations.clear();
-    assert_eq!(rt; expirations.first_due(), None);
-    assert_eq!(rt; expirations.clock(), 40);
     expirations.append(3, 15, 41);
     expirations.append(5, 16, 40);
-    assert_eq!(rt; expirations.first_due(), Some(5));
+    let due = [
+        take_due(&mut expirations, 0),
+        take_due(&mut expirations, 0),
+        take_due(&mut expirations, 41),
+    ];
+    assert_eq!(rt; due, [Some(5), None, Some(3)]);
     Ok(())
 }
 
@@ -132,17 +122,18 @@ fn clears_all_but_the_clock(rt: HostRuntime) -> Result<(), Fail> {
 #[test]
 fn keeps_all_where_memory_is_refused(rt: HostRuntime) -> Result<(), Fail> {
     let mut expirations = worked(rt.alloc())?;
-    assert!(rt; expirations.reserve(usize::MAX).is_err());
+    let too_many = expirations.reserve(usize::MAX);
     let more = expirations.reserve(1000);
-    expirations.recall_invariant();
-    expirations.rise(20);
-    assert_eq!(rt; expirations.first_due(), Some(0));
+    assert_eq!(rt; too_many, Err(AllocError));
     if more.is_err() {
         expirations.reserve(1000)?;
     }
     expirations.append(1000, 30, 7);
-    expirations.clear();
-    expirations.append(1000, 30, 7);
-    assert_eq!(rt; expirations.first_due(), Some(1000));
+    let due = [
+        take_due(&mut expirations, 20),
+        take_due(&mut expirations, 20),
+        take_due(&mut expirations, 20),
+    ];
+    assert_eq!(rt; due, [Some(0), Some(2), Some(1000)]);
     Ok(())
 }

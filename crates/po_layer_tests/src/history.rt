@@ -16,54 +16,76 @@ fn issue(n: u64) -> Event<i64> {
     }
 }
 
+// The places run on, what is owed and the outcomes stay. Numbers of no call have no outcome.
 #[test]
 fn runs_on_after_cuts(rt: HostRuntime) -> Result<(), Fail> {
     let mut history = History::<i64>::new(rt.alloc(), 10, 100)?;
     history.reserve_for(0)?;
-    assert_eq!(rt; history.owed(), 4);
     history.push_owed(issue(10));
     history.push_owed(Event::Serve(2));
-    assert_eq!(rt; history.outcome(10), None);
+    let before = history.outcome(10);
     history.set_outcome(10, End::Completed(7));
     history.release(1);
-    assert_eq!(rt; history.owed(), 1);
-    assert_eq!(rt; history.events(), [issue(10), Event::Serve(2)].as_slice());
-    assert_eq!(rt; history.first_place(), 100);
-    assert_eq!(rt; history.place(), 102);
-    let volume = history.cut()?;
-    assert_eq!(rt; volume.first_place(), 100);
-    assert_eq!(rt; volume.events(), [issue(10), Event::Serve(2)].as_slice());
-    let empty = history.cut()?;
-    assert_eq!(rt; empty.first_place(), 102);
-    assert_eq!(rt; empty.events().len(), 0);
-    assert_eq!(rt; history.first_place(), 102);
-    assert_eq!(rt; history.owed(), 1);
+    assert_eq!(rt;
+        (
+            history.events(),
+            history.first_place(),
+            history.place(),
+            history.owed()
+        ),
+        ([issue(10), Event::Serve(2)].as_slice(), 100, 102, 1)
+    );
+    let (volume, empty) = (history.cut()?, history.cut()?);
     history.push_owed(Event::Final);
-    assert_eq!(rt; history.events(), [Event::Final].as_slice());
-    assert_eq!(rt; history.place(), 103);
-    assert_eq!(rt; history.outcome(10), Some(End::Completed(7)));
-    Ok(())
-}
-
-#[test]
-fn numbers_of_no_call(rt: HostRuntime) -> Result<(), Fail> {
-    let mut history = History::<i64>::new(rt.alloc(), 10, 0)?;
-    history.reserve_for(255)?;
-    assert_eq!(rt; history.owed(), 259);
-    history.set_outcome(10, End::Raised(3));
-    assert_eq!(rt; history.outcome(9), None);
-    assert_eq!(rt; history.outcome(0), None);
-    assert_eq!(rt; history.outcome(11), None);
-    assert_eq!(rt; history.outcome(u64::MAX), None);
+    assert_eq!(rt;
+        (
+            volume.first_place(),
+            volume.events(),
+            empty.first_place(),
+            empty.events()
+        ),
+        (
+            100,
+            [issue(10), Event::Serve(2)].as_slice(),
+            102,
+            [].as_slice()
+        )
+    );
+    assert_eq!(rt;
+        (
+            history.events(),
+            history.first_place(),
+            history.place(),
+            history.owed()
+        ),
+        ([Event::Final].as_slice(), 102, 103, 0)
+    );
+    let outcomes = [
+        before,
+        history.outcome(10),
+        history.outcome(9),
+        history.outcome(0),
+        history.outcome(11),
+        history.outcome(u64::MAX),
+    ];
+    assert_eq!(rt;
+        outcomes,
+        [None, Some(End::Completed(7)), None, None, None, None]
+    );
     Ok(())
 }
 
 /// A history that looks as it did: one event, and one more owed.
 fn assert_untouched(rt: &impl Abort, history: &History<i64>) {
-    assert_eq!(rt; history.events(), [Event::Tick(4)].as_slice());
-    assert_eq!(rt; history.owed(), 1);
-    assert_eq!(rt; history.place(), 1);
-    assert_eq!(rt; history.outcome(0), None);
+    assert_eq!(rt;
+        (
+            history.events(),
+            history.owed(),
+            history.place(),
+            history.outcome(0)
+        ),
+        ([Event::Tick(4)].as_slice(), 1, 1, None)
+    );
 }
 
 /// Passes with each allocation refused in turn.
@@ -85,6 +107,5 @@ fn stays_where_memory_is_refused(rt: HostRuntime) {
     if history.cut().is_err() {
         return assert_untouched(&rt, &history);
     }
-    assert_eq!(rt; history.events().len(), 0);
-    assert_eq!(rt; history.first_place(), 1);
+    assert_eq!(rt; (history.events().len(), history.first_place()), (0, 1));
 }

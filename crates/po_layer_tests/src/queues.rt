@@ -1,9 +1,10 @@
-//! Worked runs of queues, and the limits.
+//! Worked runs of queues, the limits, and what stays where memory is refused.
 
 ghost use Rattle.std.specs.Prelude.{◌≡◌, ◌≤◌, [], ◌∷◌, IfOk};
 
 use po_queues::Queues;
 use std::alloc::{AllocError, Global};
+use std::fmt::Write;
 use std::test::Fail;
 
 /// Three entries: keys 5 and 2 on entry 0, none on entry 1, keys 0, 7, 3 and 4 on entry 2.
@@ -27,97 +28,110 @@ fn worked(alloc: Global) -> Result<Queues, AllocError>
     Ok(queues)
 }
 
-#[test]
-fn shows_queues(rt: HostRuntime) -> Result<(), Fail> {
-    let queues = worked(rt.alloc())?;
-    assert_eq!(rt; queues.counts(), [2, 0, 4].as_slice());
-    assert_eq!(rt; queues.count(2), 4);
-    assert_eq!(rt; queues.total(), 3);
-    assert_eq!(rt; queues.first(0), Some((5, 11)));
-    assert_eq!(rt; queues.first(1), None);
-    assert_eq!(rt; queues.after(7), Some(3));
-    assert_eq!(rt; queues.after(4), None);
-    assert_eq!(rt; queues.after(6), None);
-    assert_eq!(rt; queues.stamp(2), Some(18));
-    assert_eq!(rt; queues.stamp(6), None);
-    assert_eq!(rt; queues.next_busy(1), Some(2));
+/// The keys that stand behind this one in its queue.
+fn keys_after(queues: &Queues, key: usize, text: &mut String) -> Result<(), Fail> {
+    let mut last = key;
+    for _ in 0..1000 {
+        let Some(next) = queues.after(last) else {
+            break;
+        };
+        write!(text, " {next}")?;
+        last = next;
+    }
     Ok(())
 }
 
-#[test]
-fn serves_in_order_of_arrival(rt: HostRuntime) -> Result<(), Fail> {
-    let mut queues = worked(rt.alloc())?;
-    assert_eq!(rt; queues.take_first(2), Some(0));
-    assert_eq!(rt; queues.take_first(2), Some(7));
-    assert_eq!(rt; queues.take_first(2), Some(3));
-    assert_eq!(rt; queues.take_first(2), Some(4));
-    assert_eq!(rt; queues.take_first(2), None);
-    assert_eq!(rt; queues.counts(), [2, 0, 0].as_slice());
-    assert_eq!(rt; queues.next_busy(1), None);
-    Ok(())
+/// Of each entry that has a queued key how many keys are queued on it, the stamp of the first, and all of them in their
+/// order.
+fn text_of(alloc: Global, queues: &Queues) -> Result<String, Fail> {
+    let mut text = String::new(alloc);
+    for entry in 0..queues.total() {
+        if let Some((key, stamp)) = queues.first(entry) {
+            write!(text, "{entry}: {} {stamp} {key}", queues.count(entry))?;
+            keys_after(queues, key, &mut text)?;
+            write!(text, "; ")?;
+        }
+    }
+    Ok(text)
 }
 
 #[test]
-fn removes_anywhere(rt: HostRuntime) -> Result<(), Fail> {
+fn keys_leave_in_order_of_arrival(rt: HostRuntime) -> Result<(), Fail> {
     let mut queues = worked(rt.alloc())?;
-    // In the middle, at the head, at the end, and alone.
-    assert!(rt; queues.remove(7));
-    assert_eq!(rt; queues.after(0), Some(3));
-    assert!(rt; queues.remove(0));
-    assert_eq!(rt; queues.first(2), Some((3, 14)));
-    assert!(rt; queues.remove(4));
-    assert_eq!(rt; queues.after(3), None);
-    assert!(rt; queues.remove(3));
-    assert_eq!(rt; queues.first(2), None);
-    assert!(rt; !queues.remove(3));
-    assert!(rt; !queues.remove(usize::MAX));
-    assert_eq!(rt; queues.counts(), [2, 0, 0].as_slice());
-    assert!(rt; queues.contains(2));
-    assert!(rt; !queues.contains(7));
+    assert_eq!(rt;
+        text_of(rt.alloc(), &queues)?.as_str(),
+        "0: 2 11 5 2; 2: 4 10 0 7 3 4; "
+    );
+    let taken = [
+        queues.take_first(2),
+        queues.take_first(2),
+        queues.take_first(0),
+        queues.take_first(1),
+        queues.take_first(2),
+    ];
+    assert_eq!(rt; taken, [Some(0), Some(7), Some(5), None, Some(3)]);
+    assert_eq!(rt;
+        text_of(rt.alloc(), &queues)?.as_str(),
+        "0: 1 18 2; 2: 1 19 4; "
+    );
     Ok(())
 }
 
+// In the middle, at the head, at the end, and what isn't queued. A removed key is new on another entry.
 #[test]
-fn queues_again_on_another_entry(rt: HostRuntime) -> Result<(), Fail> {
+fn keys_are_removed_anywhere(rt: HostRuntime) -> Result<(), Fail> {
     let mut queues = worked(rt.alloc())?;
-    assert!(rt; queues.remove(5));
+    let first = queues.remove(5);
     queues.append(1, 5, 20);
-    assert_eq!(rt; queues.counts(), [1, 1, 4].as_slice());
-    assert_eq!(rt; queues.first(1), Some((5, 20)));
-    assert_eq!(rt; queues.next_busy(0), Some(0));
-    assert!(rt; queues.remove(2));
-    assert_eq!(rt; queues.next_busy(0), Some(1));
-    assert_eq!(rt; queues.after(5), None);
+    let removed = [
+        first,
+        queues.remove(7),
+        queues.remove(0),
+        queues.remove(4),
+        queues.remove(7),
+        queues.remove(6),
+        queues.remove(usize::MAX),
+    ];
+    assert_eq!(rt; removed, [true, true, true, true, false, false, false]);
+    assert_eq!(rt;
+        text_of(rt.alloc(), &queues)?.as_str(),
+        "0: 1 18 2; 1: 1 20 5; 2: 1 14 3; "
+    );
+    assert_eq!(rt;
+        [queues.stamp(3), queues.stamp(7), queues.stamp(usize::MAX)],
+        [Some(14), None, None]
+    );
     Ok(())
 }
 
 #[test]
-fn finds_busy_entries_over_words(rt: HostRuntime) -> Result<(), Fail> {
+fn busy_entries_are_found_over_words(rt: HostRuntime) -> Result<(), Fail> {
     let mut queues = Queues::new(rt.alloc(), 4096)?;
     queues.reserve(3)?;
-    assert!(rt; queues.is_empty());
-    assert_eq!(rt; queues.next_busy(0), None);
+    let none = queues.next_busy(0);
     queues.append(4095, 0, 1);
     queues.append(127, 1, 2);
     queues.append(64, 2, 3);
     queues.append(63, 3, 4);
     let found = [
-        (0, 63),
-        (63, 63),
-        (64, 64),
-        (65, 127),
-        (127, 127),
-        (128, 4095),
-        (4095, 4095),
+        none,
+        queues.next_busy(0),
+        queues.next_busy(63),
+        queues.next_busy(64),
+        queues.next_busy(65),
+        queues.next_busy(128),
+        queues.next_busy(4096),
     ];
-    for (from, next) in found {
-        assert_eq!(rt; queues.next_busy(from), Some(next), "from {from}");
-    }
-    assert_eq!(rt; queues.next_busy(4096), None);
-    assert_eq!(rt; queues.next_busy(u16::MAX), None);
-    assert!(rt; queues.remove(2));
-    assert_eq!(rt; queues.next_busy(64), Some(127));
-    assert!(rt; !queues.is_empty());
+    let wanted = [
+        None,
+        Some(63),
+        Some(63),
+        Some(64),
+        Some(127),
+        Some(4095),
+        None,
+    ];
+    assert_eq!(rt; found, wanted);
     Ok(())
 }
 
@@ -125,24 +139,16 @@ fn finds_busy_entries_over_words(rt: HostRuntime) -> Result<(), Fail> {
 #[test]
 fn keeps_all_where_memory_is_refused(rt: HostRuntime) -> Result<(), Fail> {
     let mut queues = worked(rt.alloc())?;
-    assert!(rt; queues.reserve(usize::MAX).is_err());
+    let too_many = queues.reserve(usize::MAX);
     let more = queues.reserve(1000);
-    assert_eq!(rt; queues.counts(), [2, 0, 4].as_slice());
-    assert_eq!(rt; queues.first(2), Some((0, 10)));
+    assert_eq!(rt;
+        (too_many, queues.counts()),
+        (Err(AllocError), [2, 0, 4].as_slice())
+    );
     if more.is_err() {
         queues.reserve(1000)?;
     }
     queues.append(1, 1000, 30);
     assert_eq!(rt; queues.first(1), Some((1000, 30)));
-    Ok(())
-}
-
-#[test]
-fn queues_without_entries(rt: HostRuntime) -> Result<(), Fail> {
-    let queues = Queues::new(rt.alloc(), 0)?;
-    queues.recall_invariant();
-    assert_eq!(rt; queues.total(), 0);
-    assert_eq!(rt; queues.counts().len(), 0);
-    assert_eq!(rt; queues.next_busy(0), None);
     Ok(())
 }

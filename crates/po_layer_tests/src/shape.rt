@@ -1,6 +1,8 @@
-//! A worked numbering, and the limits.
+//! A worked numbering, the limits, and the texts of faults.
 
 use po_index::{Decl, EntryRef, IndexFault, Shape, ShapeFault};
+use std::alloc::Global;
+use std::fmt::Write;
 use std::test::Fail;
 
 const NULL_FAMILY: Decl = Decl {
@@ -40,7 +42,6 @@ fn entry(entry: u16, index: Option<i32>) -> EntryRef {
 #[test]
 fn numbers_entries(rt: HostRuntime) -> Result<(), Fail> {
     let shape = Shape::new(rt.alloc(), &DECLS)?;
-    assert_eq!(rt; shape.total(), 5);
     let numbered = [
         (0, entry(0, None), true),
         (1, entry(2, Some(-1)), false),
@@ -48,67 +49,92 @@ fn numbers_entries(rt: HostRuntime) -> Result<(), Fail> {
         (4, entry(3, None), false),
     ];
     for (number, reference, public) in numbered {
-        assert_eq!(rt; shape.flat(reference), Ok(number), "at {number}");
+        assert_eq!(rt; shape.flat(reference), Ok(number));
         assert!(rt; number < shape.total());
-        assert_eq!(rt; shape.of_flat(number), reference, "at {number}");
-        assert_eq!(rt; shape.is_public(number), public, "at {number}");
+        assert_eq!(rt;
+            (shape.of_flat(number), shape.is_public(number)),
+            (reference, public)
+        );
     }
+    assert_eq!(rt;
+        (shape.total(), shape.decl(1), shape.decl(4)),
+        (5, Some(NULL_FAMILY), None)
+    );
     Ok(())
 }
 
 #[test]
 fn refuses_references(rt: HostRuntime) -> Result<(), Fail> {
     let shape = Shape::new(rt.alloc(), &DECLS)?;
-    let refused = [
-        (entry(4, Some(0)), IndexFault::NoSuchEntry, 1),
-        (entry(0, Some(0)), IndexFault::NotAFamily, 2),
-        (entry(1, None), IndexFault::IndexMissing, 3),
-        (entry(1, Some(2)), IndexFault::BadIndex, 4),
+    let flat = [
+        shape.flat(entry(4, Some(0))),
+        shape.flat(entry(0, Some(0))),
+        shape.flat(entry(1, None)),
+        shape.flat(entry(1, Some(2))),
     ];
-    for (reference, fault, number) in refused {
-        assert_eq!(rt; shape.flat(reference), Err(fault));
-        assert_eq!(rt; fault.number(), number);
-    }
+    let refused = [
+        Err(IndexFault::NoSuchEntry),
+        Err(IndexFault::NotAFamily),
+        Err(IndexFault::IndexMissing),
+        Err(IndexFault::BadIndex),
+    ];
+    assert_eq!(rt; flat, refused);
     Ok(())
 }
 
-#[test]
-fn finds_declarations(rt: HostRuntime) -> Result<(), Fail> {
-    let shape = Shape::new(rt.alloc(), &DECLS)?;
-    assert_eq!(rt; shape.decl(1), Some(NULL_FAMILY));
-    assert_eq!(rt; shape.decl(4), None);
-    Ok(())
+/// How many entries a shape of these declarations has.
+fn total_of(alloc: Global, decls: &[Decl]) -> Result<u16, ShapeFault> {
+    Ok(Shape::new(alloc, decls)?.total())
 }
 
 #[test]
 fn keeps_limits(rt: HostRuntime) -> Result<(), Fail> {
-    let most = vec![in rt.alloc(); NULL_FAMILY; 4096]?;
-    let more = vec![in rt.alloc(); NULL_FAMILY; 4097]?;
+    let alloc = rt.alloc();
+    let more = vec![in alloc; NULL_FAMILY; 4097]?;
+    let wide = Decl {
+        low: -5,
+        high: 4090,
+        ..NULL_FAMILY
+    };
     let widest = Decl {
         low: i32::MIN,
         high: i32::MAX,
         ..NULL_FAMILY
     };
-    assert_eq!(rt; Shape::new(rt.alloc(), &most)?.total(), 0);
-    assert_eq!(rt; Shape::new(rt.alloc(), &[])?.total(), 0);
+    let totals = [
+        total_of(alloc, &[]),
+        total_of(alloc, &more[..4096]),
+        total_of(alloc, &more),
+        total_of(alloc, &[wide]),
+        total_of(alloc, &[wide, DECLS[0]]),
+        total_of(alloc, &[widest]),
+    ];
+    let too_many = Err(ShapeFault::TooManyEntries);
     assert_eq!(rt;
-        Shape::new(rt.alloc(), &more).err(),
-        Some(ShapeFault::TooManyEntries)
+        totals,
+        [Ok(0), Ok(0), too_many, Ok(4096), too_many, too_many]
     );
-    assert_eq!(rt;
-        Shape::new(rt.alloc(), &[widest]).err(),
-        Some(ShapeFault::TooManyEntries)
-    );
-    assert_eq!(rt; ShapeFault::TooManyEntries.number(), 1);
-    assert_eq!(rt; ShapeFault::OutOfMemory.number(), 2);
     Ok(())
 }
 
 #[test]
 fn writes_faults(rt: HostRuntime) -> Result<(), Fail> {
-    let too_many = format!(in rt.alloc(); "{}", ShapeFault::TooManyEntries)?;
-    assert_eq!(rt; too_many.as_str(), "too many entries");
-    let bad_index = format!(in rt.alloc(); "{}", IndexFault::BadIndex)?;
-    assert_eq!(rt; bad_index.as_str(), "the index is out of range");
+    let mut text = String::new(rt.alloc());
+    for fault in [ShapeFault::TooManyEntries, ShapeFault::OutOfMemory] {
+        write!(text, "{} {fault}; ", fault.number())?;
+    }
+    for fault in [
+        IndexFault::NoSuchEntry,
+        IndexFault::NotAFamily,
+        IndexFault::IndexMissing,
+        IndexFault::BadIndex,
+    ] {
+        write!(text, "{} {fault}; ", fault.number())?;
+    }
+    assert_eq!(rt;
+        text.as_str(),
+        "1 too many entries; 2 out of memory; \
+         1 no such entry; 2 not a family of entries; 3 the index is missing; 4 the index is out of range; "
+    );
     Ok(())
 }

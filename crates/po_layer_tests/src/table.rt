@@ -52,53 +52,30 @@ fn collects_once(rt: HostRuntime) -> Result<(), Fail> {
     let key = table.next_key();
     let first = add(&rt, &mut table, 1)?;
     let second = add(&rt, &mut table, 2)?;
-    assert_eq!(rt; first, Ticket { key, number: 1 });
-    assert_eq!(rt; table.collect(first), None);
+    let early = table.collect(first);
     assert!(rt; matches!(table.place(first), Place::Waiting));
     table.finish(first, End::Completed(7));
-    assert_eq!(rt; table.place(first), Place::Ended(End::Completed(7)));
-    assert_eq!(rt; table.at(first.key), None);
-    assert_eq!(rt; table.collect(first), Some(End::Completed(7)));
-    assert_eq!(rt; table.collect(first), None);
+    let place = table.place(first);
+    let ends = [early, table.collect(first), table.collect(first)];
+    assert_eq!(rt;
+        (place, ends),
+        (
+            Place::Ended(End::Completed(7)),
+            [None, Some(End::Completed(7)), None]
+        )
+    );
     let third = add(&rt, &mut table, 3)?;
-    assert_eq!(rt; third.key, first.key);
-    assert_eq!(rt; table.place(first), Place::Unknown);
-    assert_eq!(rt; table.get(first), None);
-    assert_eq!(rt; table.place(second), Place::Waiting);
-    assert_eq!(rt; table.place(third), Place::Waiting);
-    Ok(())
-}
-
-#[test]
-fn requeues_and_marks(rt: HostRuntime) -> Result<(), Fail> {
-    let mut table = Table::new(rt.alloc());
-    let ticket = add(&rt, &mut table, 1)?;
-    assert_eq!(rt; table.get(ticket), Some(&call(1)));
-    assert!(rt; matches!(table.place(ticket), Place::Waiting));
-    table.mark(ticket);
-    assert!(rt; matches!(table.place(ticket), Place::Waiting));
-    table.requeue(ticket, 3, 20, true);
-    let requeued = Call {
-        entry: 3,
-        value: 20,
-        sealed: true,
-        aborted: true,
-        ..call(1)
-    };
-    assert_eq!(rt; table.get(ticket), Some(&requeued));
-    assert_eq!(rt; table.at(ticket.key), Some(&requeued));
-    Ok(())
-}
-
-#[test]
-fn grows(rt: HostRuntime) -> Result<(), Fail> {
-    let mut table = Table::new(rt.alloc());
-    let first = add(&rt, &mut table, 1)?;
-    add(&rt, &mut table, 2)?;
-    add(&rt, &mut table, 3)?;
-    add(&rt, &mut table, 4)?;
-    let fifth = add(&rt, &mut table, 5)?;
-    assert_eq!(rt; table.place(first), Place::Waiting);
-    assert_eq!(rt; table.get(fifth), Some(&call(5)));
+    assert_eq!(rt;
+        [first, third],
+        [Ticket { key, number: 1 }, Ticket { key, number: 3 }]
+    );
+    assert_eq!(rt;
+        [table.place(first), table.place(second), table.place(third)],
+        [Place::Unknown, Place::Waiting, Place::Waiting]
+    );
+    assert_eq!(rt;
+        [table.get(first), table.get(third)],
+        [None, Some(&call(3))]
+    );
     Ok(())
 }

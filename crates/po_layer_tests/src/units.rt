@@ -4,6 +4,7 @@ mod allocator;
 mod broadcast;
 mod buffer;
 mod meeting;
+mod operations;
 mod pulse;
 mod relay;
 mod signal;
