@@ -3,6 +3,8 @@
 //!
 //! Each head comment of a module shows its unit as an Ada protected type, over the one type of values
 //! `type Value is mod 2 ** 64;`.
+//!
+//! Each is a `ScriptUnit`: what scripts know of a unit stands beside it.
 #![tactic(auto)]
 
 mod allocator;

@@ -26,7 +26,7 @@ impl<O: ScriptObject> Session<O> {
         Session { object: None }
     }
 
-    /// Carries out the command, and puts the lines that answer it in the place of the reply's text.
+    /// Carries out the command. The text of the reply becomes the lines that answer it.
     ///
     /// Where memory is wanting the command was carried out or it wasn't, and nothing is said of the reply's text: the run
     /// ends there, and writes none of it.
