@@ -36,9 +36,8 @@ fn queues_by_entry(rt: HostRuntime) -> Result<(), Fail> {
     let queues = worked(rt.alloc())?;
     assert_eq!(rt; queues.counts(), [2, 0, 4].as_slice());
     assert_eq!(rt; queues.count(2), 4);
-    assert_eq!(rt; queues.first(0), Some(5));
-    assert_eq!(rt; queues.first(1), None);
-    assert_eq!(rt; queues.first(2), Some(0));
+    assert_eq!(rt; queues.by_entry().first(0), Some((5, 11)));
+    assert_eq!(rt; queues.by_entry().first(1), None);
     assert_eq!(rt; queues.stamp(2), Some(18));
     assert_eq!(rt; queues.stamp(6), None);
     assert!(rt; queues.contains(4));
@@ -64,6 +63,20 @@ fn lists_in_order_of_arrival(rt: HostRuntime) -> Result<(), Fail> {
 }
 
 #[test]
+fn takes_the_first_out_of_all(rt: HostRuntime) -> Result<(), Fail> {
+    let mut queues = worked(rt.alloc())?;
+    queues.rise(60);
+    assert_eq!(rt; queues.take_first(0), Some(5));
+    assert_eq!(rt; queues.first_due(), Some(4));
+    assert_eq!(rt; queues.next(0), Some(7));
+    assert_eq!(rt; queues.take_first(0), Some(2));
+    assert_eq!(rt; queues.take_first(0), None);
+    assert_eq!(rt; queues.take_first(1), None);
+    assert_eq!(rt; queues.counts(), [0, 0, 4].as_slice());
+    Ok(())
+}
+
+#[test]
 fn removes_from_all(rt: HostRuntime) -> Result<(), Fail> {
     let mut queues = worked(rt.alloc())?;
     // In the middle of its entry's queue, of all arrivals and of those that expire.
@@ -76,7 +89,7 @@ fn removes_from_all(rt: HostRuntime) -> Result<(), Fail> {
     // At the head, with no time.
     assert!(rt; queues.remove(0));
     assert_eq!(rt; queues.oldest(), Some(5));
-    assert_eq!(rt; queues.first(2), Some(3));
+    assert_eq!(rt; queues.by_entry().first(2), Some((3, 14)));
     // What isn't queued.
     assert!(rt; !queues.remove(7));
     assert!(rt; !queues.remove(6));
@@ -84,7 +97,7 @@ fn removes_from_all(rt: HostRuntime) -> Result<(), Fail> {
     // The key is new again, at the end, and on another entry.
     queues.append(1, 7, 20, None);
     assert_eq!(rt; queues.next(4), Some(7));
-    assert_eq!(rt; queues.first(1), Some(7));
+    assert_eq!(rt; queues.by_entry().first(1), Some((7, 20)));
     Ok(())
 }
 
@@ -157,7 +170,7 @@ fn keeps_all_where_memory_is_refused(rt: HostRuntime) -> Result<(), Fail> {
         queues.reserve(1000)?;
     }
     queues.append(1, 1000, 30, Some(1));
-    assert_eq!(rt; queues.first(1), Some(1000));
+    assert_eq!(rt; queues.by_entry().first(1), Some((1000, 30)));
     assert_eq!(rt; queues.next(4), Some(1000));
     Ok(())
 }

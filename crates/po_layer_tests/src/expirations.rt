@@ -114,21 +114,7 @@ fn meets_the_last_time(rt: HostRuntime) -> Result<(), Fail> {
     Ok(())
 }
 
-#[test]
-fn clears_all_but_the_clock(rt: HostRuntime) -> Result<(), Fail> {
-    let mut expirations = worked(rt.alloc())?;
-    expirations.rise(40);
-    assert_eq!(rt; expirations.first_due(), Some(0));
-    expirations.clear();
-    assert_eq!(rt; expirations.first_due(), None);
-    assert_eq!(rt; expirations.clock(), 40);
-    expirations.append(3, 15, 41);
-    expirations.append(5, 16, 40);
-    assert_eq!(rt; expirations.first_due(), Some(5));
-    Ok(())
-}
-
-// With an allocation refused, the first call for more places fails.
+// With an allocation refused, the first call for more keys fails.
 #[test]
 fn keeps_all_where_memory_is_refused(rt: HostRuntime) -> Result<(), Fail> {
     let mut expirations = worked(rt.alloc())?;
@@ -141,8 +127,8 @@ fn keeps_all_where_memory_is_refused(rt: HostRuntime) -> Result<(), Fail> {
         expirations.reserve(1000)?;
     }
     expirations.append(1000, 30, 7);
-    expirations.clear();
-    expirations.append(1000, 30, 7);
+    assert!(rt; expirations.remove(0));
+    assert!(rt; expirations.remove(2));
     assert_eq!(rt; expirations.first_due(), Some(1000));
     Ok(())
 }

@@ -4,7 +4,11 @@
 #![tactic(auto)]
 
 #[cfg(test)]
+mod conditions;
+#[cfg(test)]
 mod entry_queues;
+#[cfg(test)]
+mod evaluations;
 #[cfg(test)]
 mod examination;
 #[cfg(test)]

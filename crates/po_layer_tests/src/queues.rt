@@ -121,7 +121,7 @@ fn finds_busy_entries_over_words(rt: HostRuntime) -> Result<(), Fail> {
     Ok(())
 }
 
-// With the sixth allocation refused, the first call for more places fails.
+// With the sixth allocation refused, the first call for more keys fails.
 #[test]
 fn keeps_all_where_memory_is_refused(rt: HostRuntime) -> Result<(), Fail> {
     let mut queues = worked(rt.alloc())?;

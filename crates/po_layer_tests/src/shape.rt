@@ -106,9 +106,21 @@ fn keeps_limits(rt: HostRuntime) -> Result<(), Fail> {
 
 #[test]
 fn writes_faults(rt: HostRuntime) -> Result<(), Fail> {
-    let too_many = format!(in rt.alloc(); "{}", ShapeFault::TooManyEntries)?;
-    assert_eq!(rt; too_many.as_str(), "too many entries");
-    let bad_index = format!(in rt.alloc(); "{}", IndexFault::BadIndex)?;
-    assert_eq!(rt; bad_index.as_str(), "the index is out of range");
+    let shape_faults = [
+        (ShapeFault::TooManyEntries, "too many entries"),
+        (ShapeFault::OutOfMemory, "out of memory"),
+    ];
+    for (fault, text) in shape_faults {
+        assert_eq!(rt; format!(in rt.alloc(); "{fault}")?.as_str(), text);
+    }
+    let index_faults = [
+        (IndexFault::NoSuchEntry, "no such entry"),
+        (IndexFault::NotAFamily, "not a family of entries"),
+        (IndexFault::IndexMissing, "the index is missing"),
+        (IndexFault::BadIndex, "the index is out of range"),
+    ];
+    for (fault, text) in index_faults {
+        assert_eq!(rt; format!(in rt.alloc(); "{fault}")?.as_str(), text);
+    }
     Ok(())
 }
