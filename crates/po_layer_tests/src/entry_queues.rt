@@ -72,9 +72,9 @@ fn keys_stand_in_order_of_arrival(rt: HostRuntime) -> Result<(), Fail> {
     );
     assert_eq!(rt;
         [
-            queues.first(0),
-            queues.first(1),
-            queues.first(2),
+            queues.take_first(0),
+            queues.take_first(1),
+            queues.take_first(2),
             queues.next(6)
         ],
         [Some(5), Some(7), Some(3), None]
@@ -111,7 +111,7 @@ fn expires_only_with_its_new_time(rt: HostRuntime) -> Result<(), Fail> {
     Ok(())
 }
 
-// With an allocation refused, the first call for more places fails.
+// With an allocation refused, the first call for more keys fails.
 #[test]
 fn keeps_all_where_memory_is_refused(rt: HostRuntime) -> Result<(), Fail> {
     let mut queues = worked(rt.alloc())?;
@@ -126,6 +126,6 @@ fn keeps_all_where_memory_is_refused(rt: HostRuntime) -> Result<(), Fail> {
         queues.reserve(1000)?;
     }
     queues.append(1, 1000, 30, Some(1));
-    assert_eq!(rt; (queues.first(1), queues.next(4)), (Some(1000), Some(1000)));
+    assert_eq!(rt; (queues.next(4), queues.take_first(1)), (Some(1000), Some(1000)));
     Ok(())
 }

@@ -50,9 +50,9 @@ impl Unit for Gates {
     }
 
     fn barrier(&self, e: u16, counts: &[u64]) -> Result<bool, u32> {
-        let place = usize::from(e);
-        let least = self.table[place]?;
-        Ok(least <= counts[place])
+        let index = usize::from(e);
+        let least = self.table[index]?;
+        Ok(least <= counts[index])
     }
 
     fn body(&mut self, _e: u16, v: u64, _counts: &[u64]) -> Outcome<u64> {

@@ -102,23 +102,7 @@ fn adds_after_all_were_passed(rt: HostRuntime) -> Result<(), Fail> {
     Ok(())
 }
 
-#[test]
-fn clears_all_but_the_clock(rt: HostRuntime) -> Result<(), Fail> {
-    let mut expirations = worked(rt.alloc())?;
-    expirations.rise(40);
-    expirations.clear();
-    expirations.append(3, 15, 41);
-    expirations.append(5, 16, 40);
-    let due = [
-        take_due(&mut expirations, 0),
-        take_due(&mut expirations, 0),
-        take_due(&mut expirations, 41),
-    ];
-    assert_eq!(rt; due, [Some(5), None, Some(3)]);
-    Ok(())
-}
-
-// With an allocation refused, the first call for more places fails.
+// With an allocation refused, the first call for more keys fails.
 #[test]
 fn keeps_all_where_memory_is_refused(rt: HostRuntime) -> Result<(), Fail> {
     let mut expirations = worked(rt.alloc())?;

@@ -6,7 +6,11 @@
 #[cfg(test)]
 mod accepted;
 #[cfg(test)]
+mod conditions;
+#[cfg(test)]
 mod entry_queues;
+#[cfg(test)]
+mod evaluations;
 #[cfg(test)]
 mod examination;
 #[cfg(test)]

@@ -135,7 +135,7 @@ fn busy_entries_are_found_over_words(rt: HostRuntime) -> Result<(), Fail> {
     Ok(())
 }
 
-// With the sixth allocation refused, the first call for more places fails.
+// With the sixth allocation refused, the first call for more keys fails.
 #[test]
 fn keeps_all_where_memory_is_refused(rt: HostRuntime) -> Result<(), Fail> {
     let mut queues = worked(rt.alloc())?;
