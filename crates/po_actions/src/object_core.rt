@@ -425,7 +425,7 @@ impl<U: Unit> Core<U> {
     pub fn procedures_run(&self) -> u64
         ensures { result ≡ procedures_run self.now.object }
     {
-        self.action.procedures_run()
+        self.recorded.procedures_run()
     }
 
     /// The clock.
