@@ -69,10 +69,10 @@ fn takes_the_first_out_of_all(rt: HostRuntime) -> Result<(), Fail> {
     assert_eq!(rt; queues.take_first(0), Some(5));
     assert_eq!(rt; queues.first_due(), Some(4));
     assert_eq!(rt; queues.next(0), Some(7));
-    assert_eq!(rt; queues.take_first(0), Some(2));
-    assert_eq!(rt; queues.take_first(0), None);
-    assert_eq!(rt; queues.take_first(1), None);
-    assert_eq!(rt; queues.counts(), [0, 0, 4].as_slice());
+    assert_eq!(rt; queues.counts(), [1, 0, 4].as_slice());
+    let mut others = worked(rt.alloc())?;
+    assert_eq!(rt; others.take_first(1), None);
+    assert_eq!(rt; others.counts(), [2, 0, 4].as_slice());
     Ok(())
 }
 
