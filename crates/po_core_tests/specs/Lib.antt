@@ -1,1 +1,2 @@
+pub mod Ladder
 pub mod Uncopied

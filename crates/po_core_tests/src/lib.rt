@@ -4,9 +4,15 @@
 #![tactic(auto)]
 
 #[cfg(test)]
+mod crowds;
+#[cfg(test)]
 mod cuts;
 #[cfg(test)]
+mod ladder;
+#[cfg(test)]
 mod laws;
+#[cfg(test)]
+mod refusals;
 #[cfg(test)]
 mod runs;
 #[cfg(test)]

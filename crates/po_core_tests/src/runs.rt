@@ -16,17 +16,12 @@ fn single(entry: u16) -> EntryRef {
     EntryRef { entry, index: None }
 }
 
-/// The member of a family with this index.
-fn indexed(entry: u16, index: i32) -> EntryRef {
-    EntryRef {
-        entry,
-        index: Some(index),
-    }
-}
-
 /// The entry Wait of the trap with this index.
 fn wait(index: i32) -> EntryRef {
-    indexed(0, index)
+    EntryRef {
+        entry: 0,
+        index: Some(index),
+    }
 }
 
 /// The entry Fail of the trap.
@@ -118,19 +113,6 @@ fn on_traps<R: Abort + AllocGlobal>(
 }
 
 #[test]
-fn a_get_waits_for_a_put(rt: HostRuntime) -> Result<(), Fail> {
-    let steps = [Step::Call(single(1), 0), Step::Call(single(0), 7)];
-    on_buffer(
-        &rt,
-        2,
-        1,
-        &steps,
-        "#1; #2, 2 done 7, 1 done 7; ",
-        "Issue Issue Serve(1) ",
-    )
-}
-
-#[test]
 fn a_collected_ticket_is_unknown(rt: HostRuntime) -> Result<(), Fail> {
     let steps = [
         Step::Call(single(1), 0),
@@ -191,18 +173,6 @@ fn a_call_is_relayed_over_two_actions(rt: HostRuntime) -> Result<(), Fail> {
         &steps,
         "#1; done 1; done 2, 1 done 5; ",
         "Issue Ran Serve(1) Ran Serve(2) ",
-    )
-}
-
-#[test]
-fn a_call_is_relayed_at_once(rt: HostRuntime) -> Result<(), Fail> {
-    let steps = [Step::Call(single(0), 5), Step::Procedure(2)];
-    on_relays(
-        &rt,
-        None,
-        &steps,
-        "#1; done 2, 1 done 5; ",
-        "Issue Ran Serve(1) Serve(2) ",
     )
 }
 
@@ -295,22 +265,6 @@ fn a_full_queue_ends_the_arriving_call(rt: HostRuntime) -> Result<(), Fail> {
 }
 
 #[test]
-fn a_faulting_barrier_ends_all_queued_calls(rt: HostRuntime) -> Result<(), Fail> {
-    let steps = [
-        Step::Call(wait(1), 1),
-        Step::Call(wait(2), 2),
-        Step::Call(exact(), 3),
-        Step::Procedure(13),
-    ];
-    on_traps(
-        &rt,
-        &steps,
-        "#1; #2; #3; done 13, 1 program_error, 2 program_error, 3 program_error; ",
-        "Issue Issue Issue Ran Break(0) ",
-    )
-}
-
-#[test]
 fn a_faulting_barrier_ends_the_call_that_arrives(rt: HostRuntime) -> Result<(), Fail> {
     let steps = [
         Step::Call(exact(), 1),
@@ -344,18 +298,58 @@ fn due_calls_expire_one_at_a_time(rt: HostRuntime) -> Result<(), Fail> {
     )
 }
 
+// Due calls are cancelled in the order in which they were queued, and not in that of their times, and none is before its
+// time.
 #[test]
-fn a_call_expires_at_the_last_time(rt: HostRuntime) -> Result<(), Fail> {
+fn due_calls_expire_in_order_of_arrival(rt: HostRuntime) -> Result<(), Fail> {
     let steps = [
         Step::Timed(18446744073709551615, exact(), 1),
+        Step::Timed(9, exact(), 2),
+        Step::Timed(5, exact(), 3),
+        Step::Tick(9),
         Step::Tick(18446744073709551614),
         Step::Tick(18446744073709551615),
     ];
     on_traps(
         &rt,
         &steps,
-        "#1; clock 18446744073709551614; clock 18446744073709551615, 1 cancelled; ",
-        "Issue Tick(18446744073709551614) Tick(18446744073709551615) Expire(1) ",
+        "#1; #2; #3; clock 9, 2 cancelled, 3 cancelled; clock 18446744073709551614; clock 18446744073709551615, 1 cancelled; ",
+        "Issue Issue Issue Tick(9) Expire(2) Expire(3) Tick(18446744073709551614) Tick(18446744073709551615) Expire(1) ",
+    )
+}
+
+// An end is its call's owner's, whoever's command brought it about: a completion and an exception, an expiration, a
+// cancellation, and Program_Error of all queued calls.
+#[test]
+fn an_end_is_its_owners(rt: HostRuntime) -> Result<(), Fail> {
+    let steps = [
+        Step::By(3),
+        Step::Call(wait(1), 10),
+        Step::By(5),
+        Step::Call(fail(), 9),
+        Step::EndedNow,
+        Step::Procedure(0),
+        Step::By(7),
+        Step::Timed(5, wait(1), 1),
+        Step::By(8),
+        Step::Call(exact(), 2),
+        Step::Tick(5),
+        Step::EndedNow,
+        Step::Cancel(4),
+        Step::EndedNow,
+        Step::By(1),
+        Step::Call(wait(2), 1),
+        Step::By(2),
+        Step::Call(exact(), 2),
+        Step::By(4),
+        Step::Procedure(13),
+        Step::EndedNow,
+    ];
+    on_traps(
+        &rt,
+        &steps,
+        "#1; #2, 2 raised 9, 1 done 10; now, 2 raised 9 of 5, 1 done 10 of 3; done 0; #3; #4; clock 5, 3 cancelled; now, 3 cancelled of 7; cancelled, 4 cancelled; now, 4 cancelled of 8; #5; #6; done 13, 5 program_error, 6 program_error; now, 5 program_error of 1, 6 program_error of 2; ",
+        "Issue Issue Serve(0) Ran Issue Issue Tick(5) Expire(3) Abort(4) Issue Issue Ran Break(1) ",
     )
 }
 
@@ -398,37 +392,6 @@ fn a_finalized_object_refuses(rt: HostRuntime) -> Result<(), Fail> {
 }
 
 #[test]
-fn refusals_come_in_their_order(rt: HostRuntime) -> Result<(), Fail> {
-    let steps = [
-        Step::Call(single(3), 1),
-        Step::Call(indexed(1, 4), 1),
-        Step::Cancel(0),
-        Step::Cancel(1),
-        Step::Function(0),
-        Step::Count(indexed(1, 4)),
-        Step::Count(single(3)),
-        Step::Count(single(1)),
-    ];
-    on_relays(
-        &rt,
-        None,
-        &steps,
-        "refused 1; refused 2; refused 5; refused 5; value 0; refused 3; refused 1; count 0; ",
-        "",
-    )
-}
-
-#[test]
-fn a_bad_index_is_refused(rt: HostRuntime) -> Result<(), Fail> {
-    let steps = [
-        Step::Call(wait(0), 1),
-        Step::Call(wait(4), 1),
-        Step::Call(single(0), 1),
-    ];
-    on_traps(&rt, &steps, "refused 3; refused 3; refused 3; ", "")
-}
-
-#[test]
 fn entries_are_served_in_the_order_of_the_object(rt: HostRuntime) -> Result<(), Fail> {
     let steps = [
         Step::Call(wait(1), 10),
@@ -451,29 +414,4 @@ fn entries_are_served_in_the_order_of_the_object(rt: HostRuntime) -> Result<(), 
     on_trap(&rt, Order::Oldest, &steps, oldest, first)?;
     let first = "Issue Ran Serve(0) Ran Issue Issue Issue Ran Serve(1) Serve(2) Serve(0) ";
     on_trap(&rt, Order::Rotating, &steps, rotating, first)
-}
-
-#[test]
-fn procedures_are_refused_past_the_last_place(rt: HostRuntime) -> Result<(), Fail> {
-    let start = Start {
-        first_number: 1,
-        first_place: 18446744073709551614,
-        max_queue: None,
-    };
-    let steps = [
-        Step::Procedure(0),
-        Step::Procedure(0),
-        Step::Tick(1),
-        Step::Call(single(0), 5),
-        Step::Finalize,
-        Step::Place,
-    ];
-    on_relay(
-        &rt,
-        Order::Textual,
-        start,
-        &steps,
-        "done 0; refused 8; clock 1; #1; final, 1 program_error; place 18446744073709551618; ",
-        "Ran Tick(1) Issue Final ",
-    )
 }

@@ -14,11 +14,18 @@ use std::test::Fail;
 pub(crate) enum Step {
     Call(EntryRef, u64),
     Timed(u64, EntryRef, u64),
+    /// The calls and procedures that follow are this owner's.
+    By(u16),
+    /// The procedure with the number 0.
     Procedure(u64),
+    /// The procedure with this number.
+    Run(u16, u64),
     Function(u64),
     Cancel(u64),
     Tick(u64),
     Finalize,
+    /// The calls that the last command ended that wasn't refused, with their owners.
+    EndedNow,
     /// Where the call of the ticket with this index is.
     EndOf(usize),
     /// Collects the end of the call of the ticket with this index.
@@ -36,6 +43,7 @@ pub(crate) enum Step {
 #[derive(Drop)]
 struct Transcript<U: Unit<Value = u64> + Drop> {
     core: Core<U>,
+    owner: u16,
     tickets: Vec<Ticket>,
     text: String,
 }
@@ -92,6 +100,7 @@ pub(crate) fn compare<R: Abort + AllocGlobal, U: Unit<Value = u64> + Drop>(
 ) -> Result<(), Fail> {
     let mut run = Transcript {
         core,
+        owner: 0,
         tickets: Vec::new(rt.alloc()),
         text: String::new(rt.alloc()),
     };
@@ -121,18 +130,24 @@ impl<U: Unit<Value = u64> + Drop> Transcript<U> {
         match step {
             Step::Call(entry, value) => self.issue(entry, value, Deadline::Never),
             Step::Timed(time, entry, value) => self.issue(entry, value, Deadline::At(time)),
-            Step::Procedure(value) => self.procedure(value),
+            Step::Procedure(value) => self.run(0, value),
+            Step::Run(op, value) => self.run(op, value),
             Step::Function(value) => self.function(value),
             Step::Cancel(n) => self.cancel(n),
             Step::Tick(time) => self.tick(time),
             Step::Finalize => self.finalize(),
             Step::Cut => self.cut(),
+            Step::By(owner) => {
+                self.owner = owner;
+                Ok(())
+            }
             _ => self.look(step),
         }
     }
 
     fn look(&mut self, step: Step) -> Result<(), Fail> {
         match step {
+            Step::EndedNow => self.ended_now(),
             Step::EndOf(index) => self.end_of(index),
             Step::Collect(index) => self.collect(index),
             Step::Outcome(n) => {
@@ -158,8 +173,19 @@ impl<U: Unit<Value = u64> + Drop> Transcript<U> {
         Ok(())
     }
 
+    /// Adds the calls that the last command ended that wasn't refused, with their owners.
+    fn ended_now(&mut self) -> Result<(), Fail> {
+        write!(self.text, "now")?;
+        for call in self.core.ended_now() {
+            end(&mut self.text, call.number, call.end)?;
+            write!(self.text, " of {}", call.owner)?;
+        }
+        write!(self.text, "; ")?;
+        Ok(())
+    }
+
     fn issue(&mut self, entry: EntryRef, value: u64, deadline: Deadline) -> Result<(), Fail> {
-        match self.core.issue(0, entry, value, deadline) {
+        match self.core.issue(self.owner, entry, value, deadline) {
             Ok(ticket) => {
                 let number = ticket.number;
                 self.tickets.push(ticket)?;
@@ -170,8 +196,8 @@ impl<U: Unit<Value = u64> + Drop> Transcript<U> {
         }
     }
 
-    fn procedure(&mut self, value: u64) -> Result<(), Fail> {
-        match self.core.run(0, 0, value) {
+    fn run(&mut self, op: u16, value: u64) -> Result<(), Fail> {
+        match self.core.run(self.owner, op, value) {
             Ok(Ok(reply)) => write!(self.text, "done {reply}")?,
             Ok(Err(exception)) => write!(self.text, "raised {exception}")?,
             Err(refusal) => return refuse(&mut self.text, refusal),
