@@ -126,6 +126,9 @@ fn keeps_all_where_memory_is_refused(rt: HostRuntime) -> Result<(), Fail> {
         queues.reserve(1000)?;
     }
     queues.append(1, 1000, 30, Some(1));
-    assert_eq!(rt; (queues.next(4), queues.take_first(1)), (Some(1000), Some(1000)));
+    assert_eq!(rt;
+        (queues.next(4), queues.take_first(1)),
+        (Some(1000), Some(1000))
+    );
     Ok(())
 }
