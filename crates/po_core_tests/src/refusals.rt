@@ -2,7 +2,7 @@
 
 use crate::transcript::{Step, compare};
 use po_actions::{Core, MakeFault, Order, Refusal, Start};
-use po_classic_units::Allocator;
+use po_classic_units::{Allocator, ScriptUnit};
 use po_index::EntryRef;
 use std::fmt::Write;
 use std::process::Abort;
