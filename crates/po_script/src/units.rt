@@ -10,7 +10,8 @@ use po_language::{Beginning, Operation, UnitList};
 use po_unit::Unit;
 use std::alloc::{AllocError, Global};
 
-/// The units that scripts know: a line for each, in the order in which a `unit` line's name is looked up.
+/// The units that scripts know, in the order in which a `unit` line's name is looked up: the list to which a further unit is
+/// added.
 pub type Units = OneOf<
     Buffer,
     OneOf<
