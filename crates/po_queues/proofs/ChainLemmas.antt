@@ -1,58 +1,19 @@
 -- Chains of one entry: what their keys and times are, once a key is added or taken out, or times are written.
-use Rattle.std.proofs.Common.{◌≡◌, ℕ, ◌<◌, ◌≤◌, Bool, true, false, cond, eqb, List, [], ◌∷◌, ◌++◌, length}
-use Rattle.std.proofs.Common.{set, take, replicate, Option, Some, None, refl, sym, ap, ◌∙◌, inl, inr, arith}
+use Rattle.std.proofs.Common.{◌≡◌, ℕ, ◌<◌, ◌≤◌, Bool, true, false, cond, eqb, List, [], ◌∷◌, ◌++◌, length, set, take}
+use Rattle.std.proofs.Common.{replicate, refl, ap, inl, inr, arith}
 use Rattle.std.specs.List.{All}
-use Rattle.std.specs.Option.{option_map}
-use Rattle.std.proofs.lemmas.Bool.{cases_Bool, eq-eqb, eqb-true, eqb-false, false≢true}
+use Rattle.std.proofs.lemmas.Bool.{cases_Bool, eqb-true, eqb-false, false≢true}
 use Rattle.std.proofs.lemmas.List.{get_or-set_other, get_or_append_left, take_all}
 use Rattle.std.proofs.lemmas.List.Elements.{All-nil, All-cons, All-head, All-tail, All-map}
 use Rattle.po_queues.proofs.KeyLemmas.{tail_free, tail_has}
-use Rattle.po_queues.proofs.ItemLemmas.{item_has}
-use Rattle.po_queues.proofs.HoldLemmas.{item_entry}
-use Rattle.po_queues.specs.QueuedKeys.{QueuedKey, queue_of, keys_of, occurs, item_of, key_after, after_item}
-use Rattle.po_queues.specs.QueuedKeys.{key_after_in_queue, without_key, RiseBy, first_of, first_key}
+use Rattle.po_queues.specs.QueuedKeys.{QueuedKey, keys_of, occurs, without_key, RiseBy}
 use Rattle.po_queues.specs.Expiring.{Expiring, expiring_keys, without_expiring}
-use Rattle.po_queues.specs.Passing.{with_time, with_times}
+use Rattle.po_queues.specs.Timed.{with_time, with_times}
 
 -- the keys are those of the chain
 pub keys_with : (times : List ℕ) (items : List QueuedKey) → expiring_keys (with_times times items) ≡ keys_of items
 keys_with times [] = refl
 keys_with times (x ∷ xs) = ap (λ l. x.key ∷ l) (keys_with times xs)
-
--- the one entry has all
-pub queue_is_all : (items : List QueuedKey) → All (λ x. x.entry < 1) items → queue_of 0 items ≡ items
-queue_is_all [] all = refl
-queue_is_all (x ∷ xs) all =
-    let here : x.entry < 1 = All-head (λ x. x.entry < 1) x xs all in
-    simp (eq-eqb x.entry 0 (omega arith)) (ap (λ l. x ∷ l) (queue_is_all xs (All-tail (λ x. x.entry < 1) x xs all)))
-
--- nothing stands after a key that isn't there
-after_none : (k : ℕ) (ks : List ℕ) → occurs k ks ≡ false → key_after k ks ≡ None
-after_none k [] free = refl
-after_none k (x ∷ xs) free = let t = tail_free k x xs free in simp t.0 (after_none k xs t.1)
-
--- a key with no item isn't there
-item_none : (k : ℕ) (items : List QueuedKey) → item_of k items ≡ None → occurs k (keys_of items) ≡ false
-item_none k [] none = refl
-item_none k (x ∷ xs) none = elim (cases_Bool (eqb x.key k)) [
-  | inl equal ↦ let bad : Some x ≡ None = simp equal at none in absurd (cc)
-  | inr differ ↦ simp differ (item_none k xs (simp differ at none))
-]
-
--- by the item
-after_by_item : (k : ℕ) (items : List QueuedKey) → All (λ x. x.entry < 1) items → (o : Option QueuedKey)
-    → item_of k items ≡ o → after_item items o ≡ key_after k (keys_of items)
-after_by_item k items all None found = sym (after_none k (keys_of items) (item_none k items found))
-after_by_item k items all (Some x) found =
-    let h = item_has k items x found in
-    let here : x.entry < 1 = item_entry k 1 items x found all in
-    let zero_is : x.entry ≡ 0 = omega arith in
-    rw (zero_is, h.0) (ap (λ l. key_after k (keys_of l)) (queue_is_all items all))
-
--- what stands after a key in the one queue
-pub after_in_chain : (k : ℕ) (items : List QueuedKey) → All (λ x. x.entry < 1) items
-    → key_after_in_queue k items ≡ key_after k (keys_of items)
-after_in_chain k items all = after_by_item k items all (item_of k items) refl
 
 -- a key among those that are below a bound is below it
 pub key_below : (n k : ℕ) (items : List QueuedKey) → All (λ x. x.key < n) items → occurs k (keys_of items) ≡ true
@@ -114,37 +75,3 @@ stamps_with times n [] all = All-nil (λ x. x.stamp < n)
 stamps_with times n (x ∷ xs) all =
     All-cons (λ x. x.stamp < n) x xs (All-head (λ x. x.stamp < n) (with_time times x) (with_times times xs) all)
     (stamps_with times n xs (All-tail (λ x. x.stamp < n) (with_time times x) (with_times times xs) all))
-
--- the first key is that of the one queue
-first_in : (times : List ℕ) (items : List QueuedKey)
-    → option_map (λ (p : ℕ × ℕ). p.0) (first_of items) ≡ first_key (expiring_keys (with_times times items))
-first_in times [] = refl
-first_in times (x ∷ xs) = refl
-
--- the first key, by what the chain says is first on its entry
-pub first_in_chain : (times : List ℕ) (items : List QueuedKey) → All (λ x. x.entry < 1) items
-    → option_map (λ (p : ℕ × ℕ). p.0) (first_of (queue_of 0 items)) ≡
-    first_key (expiring_keys (with_times times items))
-first_in_chain times items all =
-    ap (λ l. option_map (λ (p : ℕ × ℕ). p.0) (first_of l)) (queue_is_all items all) ∙ first_in times items
-
--- no key is first where there is none
-pub none_first : (items : List Expiring) → first_key (expiring_keys items) ≡ None → items ≡ []
-none_first [] none = refl
-none_first (x ∷ xs) none = absurd (cc)
-
--- no more are left without a key
-few_without : (k : ℕ) (items : List Expiring) → length (without_expiring k items) ≤ length items
-few_without k [] = omega arith
-few_without k (x ∷ xs) = elim (cases_Bool (eqb x.key k)) [
-  | inl equal ↦ simp equal (omega (arith, few_without k xs))
-  | inr differ ↦ simp differ (omega (arith, few_without k xs))
-]
-
--- fewer are left without the first key
-pub fewer_without : (k : ℕ) (items : List Expiring) → Some k ≡ first_key (expiring_keys items)
-    → length (without_expiring k items) < length items
-fewer_without k [] first = absurd (cc)
-fewer_without k (x ∷ xs) first =
-    let same : k ≡ x.key = cc in
-    simp (eq-eqb x.key k (sym same)) (omega (arith, few_without k xs))

@@ -6,8 +6,9 @@ pub mod ExpirationLemmas
 pub mod HoldLemmas
 pub mod ItemLemmas
 pub mod KeyLemmas
+pub mod LeastLemmas
 pub mod LineLemmas
-pub mod PassedLemmas
+pub mod PlaceLemmas
 pub mod QueueLemmas
 pub mod RoomLemmas
 pub mod WriteLemmas

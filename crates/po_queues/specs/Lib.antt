@@ -2,7 +2,8 @@ pub mod Arrivals
 pub mod Arrived
 pub mod Busy
 pub mod Expiring
+pub mod Least
 pub mod Lines
 pub mod Links
-pub mod Passing
 pub mod QueuedKeys
+pub mod Timed

@@ -186,9 +186,8 @@ impl EntryQueues {
     }
 
     /// The first key whose call has expired by now, in order of arrival (9.7.2).
-    pub fn first_due(&mut self) -> Option<usize>
-        ensures found { result ≡ first_due self.old }
-        ensures same { self.new ≡ self.old }
+    pub fn first_due(&self) -> Option<usize>
+        ensures found { result ≡ first_due self.now }
     {
         self.expirations.first_due()
     }

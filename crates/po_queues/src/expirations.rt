@@ -1,40 +1,38 @@
 //! The calls that expire, in order of arrival, beside the clock.
 
-ghost use Rattle.std.specs.Prelude.{◌≡◌, ◌<◌, ◌≤◌, ◌+◌, ◌*◌, ◌++◌, [], ◌∷◌, max, false, IfOk, IsOk, OnOk, OnErr, if◌then◌else◌};
+ghost use Rattle.std.specs.Prelude.{◌≡◌, ◌<◌, ◌≤◌, ◌+◌, ◌*◌, ◌++◌, [], ◌∷◌, max, false, IfOk, IsOk, OnOk, OnErr};
 ghost use Rattle.std.specs.List.{All};
-ghost use Rattle.po_queues.specs.QueuedKeys.{occurs, first_key, is_this, key_after_in_queue};
+ghost use Rattle.po_queues.specs.QueuedKeys.{occurs};
 ghost use Rattle.po_queues.specs.Expiring.{AreSound, expiring_keys, first_due, without_expiring};
 
+use crate::minima::Minima;
 use crate::queues::Queues;
 use crate::room::grown;
 use std::alloc::{AllocError, Global};
 use std::marker::Model;
 
-/// A bound above all times.
-const NEVER: u128 = 1 << 64;
-
 /// The waiting calls that may be cancelled when their time comes, in order of arrival, beside the clock (9.7.2).
 ///
-/// A key stands for a call. Times and the clock count the same unit, from the same start. But for
-/// `new` and `reserve`, no method takes memory, and but for `first_due`, the time of none depends
-/// on how many keys there are.
+/// A key stands for a call. Times and the clock count the same unit, from the same start. But for `new` and `reserve`, no
+/// method takes memory. The time of each grows with the logarithm of how many keys are reserved, and that of `rise` also
+/// with how many times come by it.
 #[derive(Debug, Drop)]
 pub struct Expirations {
     // The keys, all on entry 0, in order of arrival.
     chain: Queues,
     // By key: when its call expires.
     times: Vec<u64>,
+    // By key: the same, where that time hasn't come.
+    later: Minima,
+    // By key: its stamp, where its time has come.
+    due: Minima,
     clock: u64,
-    // Where the search goes on: no key before it is due.
-    cursor: Option<usize>,
-    // Above the clock, and no key before the cursor expires earlier.
-    soonest: u128,
 }
 
 impl Model for Expirations {
     ghost use Rattle.std.specs.Prelude.{length};
     ghost use Rattle.po_queues.specs.Expiring.{ExpirationsView};
-    ghost use Rattle.po_queues.specs.Passing.{KeepsExpirations, with_times};
+    ghost use Rattle.po_queues.specs.Timed.{KeepsExpirations, with_times};
 
     ghost Value = { ExpirationsView };
 
@@ -44,7 +42,7 @@ impl Model for Expirations {
       items = with_times e.times.items e.chain.items;
     } };
 
-    ghost invariant = { λ e. KeepsExpirations e.chain e.times.items e.clock e.cursor e.soonest };
+    ghost invariant = { λ e. KeepsExpirations e.chain e.times.items e.later e.due e.clock };
 }
 
 impl Expirations {
@@ -55,9 +53,9 @@ impl Expirations {
         Ok(Expirations {
             chain: Queues::new(alloc, 1)?,
             times: Vec::new(alloc),
+            later: Minima::new(alloc),
+            due: Minima::new(alloc),
             clock: 0,
-            cursor: None,
-            soonest: NEVER,
         })
     }
 
@@ -81,6 +79,8 @@ impl Expirations {
         }
         let more = grown(reserved, key)?;
         self.chain.reserve(more - 1)?;
+        self.later.grow(more)?;
+        self.due.grow(more)?;
         self.times.resize(more, 0)
     }
 
@@ -97,7 +97,11 @@ impl Expirations {
     {
         self.times[key] = time;
         self.chain.append(0, key, stamp);
-        self.cursor = self.cursor.or(Some(key));
+        if time <= self.clock {
+            self.due.set(key, Some(stamp));
+        } else {
+            self.later.set(key, Some(u128::from(time)));
+        }
     }
 
     /// Takes out the key, and says whether it was there.
@@ -106,29 +110,20 @@ impl Expirations {
         ensures others { self.new
             ≡ record self.old { items = without_expiring key self.old.items } }
     {
-        self.chain.recall_invariant();
-        self.cursor = cursor_without(&self.chain, self.cursor, key);
-        self.chain.remove(key)
+        let was_there = self.chain.remove(key);
+        if was_there {
+            self.later.set(key, None);
+            self.due.set(key, None);
+        }
+        was_there
     }
 
     /// The first key in order of arrival whose time has come, if one's has (9.7.2).
-    ///
-    /// It goes on where it ended: a key whose time hasn't come is looked at again only once the
-    /// clock has reached the soonest of the times that were passed.
-    pub fn first_due(&mut self) -> Option<usize>
-        ensures found { result ≡ first_due self.old }
-        ensures same { self.new ≡ self.old }
+    pub fn first_due(&self) -> Option<usize>
+        ensures found { result ≡ first_due self.now }
     {
         self.chain.recall_invariant();
-        while let Some(key) = self.cursor {
-            let time = self.times[key];
-            if time <= self.clock {
-                return Some(key);
-            }
-            self.soonest = self.soonest.min(u128::from(time));
-            self.cursor = self.chain.after(key);
-        }
-        None
+        self.due.least()
     }
 
     /// Sets the clock to this time, if that is later.
@@ -136,9 +131,9 @@ impl Expirations {
         ensures { self.new ≡ record self.old { clock = max self.old.clock time } }
     {
         let clock = self.clock.max(time);
-        if u128::from(clock) >= self.soonest {
-            self.cursor = self.first();
-            self.soonest = NEVER;
+        while let Some(key) = self.later.least_within(u128::from(clock)) {
+            self.later.set(key, None);
+            self.due.set(key, self.chain.stamp(key));
         }
         self.clock = clock;
     }
@@ -155,27 +150,5 @@ impl Expirations {
         ensures { AreSound self.now }
     {
         self.chain.recall_invariant();
-    }
-
-    /// The first key in order of arrival.
-    fn first(&self) -> Option<usize>
-        ensures { result ≡ first_key (expiring_keys self.now.items) }
-    {
-        self.chain.recall_invariant();
-        let (key, _) = self.chain.first(0)?;
-        Some(key)
-    }
-}
-
-/// Where the search goes on once the key is taken out of the chain.
-fn cursor_without(chain: &Queues, cursor: Option<usize>, key: usize) -> Option<usize>
-    ensures { result ≡ (if is_this cursor key
-        then key_after_in_queue key chain.now.items
-        else cursor) }
-{
-    if cursor == Some(key) {
-        chain.after(key)
-    } else {
-        cursor
     }
 }

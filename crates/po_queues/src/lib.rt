@@ -6,6 +6,7 @@ mod busy;
 mod entry_queues;
 mod expirations;
 mod link;
+mod minima;
 mod queues;
 mod room;
 mod writes;

@@ -3,5 +3,5 @@ use Rattle.std.proofs.Common.{◌∙◌}
 use Rattle.po_queues.proofs.EntryLemmas.{seen_due}
 use Rattle.po_queues.proofs.entry_queues.EntryQueues.first_due.Goals as goal
 
-pub returns-clause-found : goal.returns-clause-found
-returns-clause-found c = c.first_due.ensures.found ∙ seen_due c.self.invariant c.self.view_is
+pub returns : goal.returns
+returns c = record { found = c.first_due.ensures.found ∙ seen_due c.self.invariant c.self.view_is }

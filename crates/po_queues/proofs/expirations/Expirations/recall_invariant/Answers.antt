@@ -8,4 +8,4 @@ pub returns : goal.returns
 returns c =
     let s = c.self.inside in
     subst AreSound c.self.view_is
-    (sound_with s.chain s.times.items s.clock c.self.invariant.keys c.recall_invariant.ensures)
+    (sound_with s.chain s.times.items s.clock c.self.invariant.holds.keys c.recall_invariant.ensures)

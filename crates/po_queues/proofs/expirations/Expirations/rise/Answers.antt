@@ -1,18 +1,30 @@
--- The search goes on, or begins again where a time that was passed has come.
-use Rattle.std.proofs.Common.{◌∙◌, sym, ap, arith}
-use Rattle.po_queues.specs.QueuedKeys.{first_key}
-use Rattle.po_queues.specs.Expiring.{ExpirationsView, expiring_keys}
-use Rattle.po_queues.proofs.ExpirationLemmas.{risen, begun}
-use Rattle.po_queues.proofs.expirations.Expirations.rise.Goals.{then-from-self, else-from-self}
+-- A call whose time has come moves to those that are due.
+use Rattle.std.proofs.Common.{◌≡◌, ◌<◌, ◌≤◌, sym, subst}
+use Rattle.std.specs.Prelude.{IfSome}
+use Rattle.po_queues.specs.Least.{number_of}
+use Rattle.po_queues.proofs.PlaceLemmas.{numbers, fewer_numbers}
+use Rattle.po_queues.proofs.ExpirationLemmas.{moving, moved}
 use Rattle.po_queues.proofs.expirations.Expirations.rise.Goals as goal
 
-pub invariant_of-self : goal.invariant_of-self
-invariant_of-self c = elim c.if-from-self.branch [
-  | then-from-self w ↦
-      let first = w.first-self-inside.ensures
-      ∙ ap (λ (v : ExpirationsView). first_key (expiring_keys v.items)) (sym c.self.view_is) in
-      rw w.self-inside-is (begun c.self.invariant c.max-clock.result c.max-clock.type_inv _ first)
-  | else-from-self w ↦
-      rw w.self-inside-is (risen c.self.invariant c.max-clock.result
-      (omega (arith, w.if-from-self.false, c.from.ensures)))
-]
+pub set-requires-in-Some : goal.set-requires-in-Some
+set-requires-in-Some c =
+    let s = c.loop-key.self-inside in
+    let within = subst (λ b. IfSome (number_of s.later c.in-Some.key) (λ n. n ≤ b)) c.from.ensures c.in-Some.ensures.within in
+    (moving c.loop-key.invariant.holds c.in-Some.key c.in-Some.ensures.some within).4
+
+pub loop-key-smaller : goal.loop-key-smaller
+loop-key-smaller c =
+    let s = c.loop-key.self-inside in
+    let within = subst (λ b. IfSome (number_of s.later c.in-Some.key) (λ n. n ≤ b)) c.from.ensures c.in-Some.ensures.within in
+    let m = moving c.loop-key.invariant.holds c.in-Some.key c.in-Some.ensures.some within in
+    subst (λ l. numbers l < numbers s.later) (sym c.set.ensures) (fewer_numbers s.later c.in-Some.key m.0 m.1)
+
+pub loop-key-preserved : goal.loop-key-preserved
+loop-key-preserved c =
+    let s = c.loop-key.self-inside in
+    let within = subst (λ b. IfSome (number_of s.later c.in-Some.key) (λ n. n ≤ b)) c.from.ensures c.in-Some.ensures.within in
+    record {
+      seen_is = c.loop-key.invariant.seen_is;
+      holds = rw (c.set.ensures, c.set-in-Some.ensures, c.stamp.ensures)
+          (moved c.loop-key.invariant.holds c.in-Some.key c.in-Some.ensures.some within);
+    }

@@ -1,0 +1,158 @@
+//! A row of optional numbers, of which the least is found at once.
+
+ghost use Rattle.std.specs.Prelude.{◌≡◌, ◌≢◌, ◌<◌, ◌≤◌, ◌+◌, ◌-◌, ◌*◌, ◌/◌, ◌++◌, ℕ, [], length, take, replicate};
+ghost use Rattle.std.specs.Prelude.{None, slice_set, IfOk, IfSome, IsNone, OnOk, OnErr};
+ghost use Rattle.po_queues.specs.Least.{number_of, lesser, IsLeastAt, IsMinimum, KeepsMinima};
+
+use std::alloc::{AllocError, Global};
+use std::marker::Model;
+
+/// A number, or none, by key: a tournament, in which the least number wins.
+///
+/// A change takes time by the logarithm of how many keys there are, and so does it to find the key of the least number;
+/// whether that is at most some bound is seen at once. But for `grow`, no method takes memory.
+#[derive(Debug, Drop)]
+pub(crate) struct Minima {
+    // The leaves, by key, and above them node `leaves + m`, the lesser of the nodes `2 * m` and `2 * m + 1`: the last
+    // one is the least of all.
+    nodes: Vec<Option<u128>>,
+    leaves: usize,
+}
+
+impl Model for Minima {
+    ghost use Rattle.std.specs.Prelude.{List, Option, ℕ, take};
+    ghost use Rattle.po_queues.specs.Least.{KeepsMinima};
+
+    ghost Value = { List (Option ℕ) };
+
+    ghost view = { λ m. take m.leaves m.nodes.items };
+
+    ghost invariant = { λ m. KeepsMinima m.leaves m.nodes.items };
+}
+
+impl Minima {
+    /// No key.
+    pub(crate) fn new(alloc: Global) -> Minima
+        ensures { result ≡ [] }
+    {
+        Minima {
+            nodes: Vec::new(alloc),
+            leaves: 0,
+        }
+    }
+
+    /// Makes room for so many keys, if there are fewer. The new ones have no number.
+    pub(crate) fn grow(&mut self, keys: usize) -> Result<(), AllocError>
+        ensures ok { OnOk result (self.new
+            ≡ self.old ++ replicate (keys - length self.old) None) }
+        ensures err { OnErr result (self.new ≡ self.old) }
+    {
+        if keys <= self.leaves {
+            return Ok(());
+        }
+        let total = keys.checked_mul(2).ok_or(AllocError)?;
+        let mut nodes = Vec::new(*self.nodes.allocator());
+        nodes.extend_from_slice(&self.nodes[..self.leaves])?;
+        nodes.resize(total - 1, None)?;
+        settle(&mut nodes, keys);
+        self.nodes = nodes;
+        self.leaves = keys;
+        Ok(())
+    }
+
+    /// Gives the key this number, or none.
+    pub(crate) fn set(&mut self, key: usize, number: Option<u128>)
+        requires { key < length self.old }
+        ensures { self.new ≡ slice_set self.old key number }
+    {
+        self.nodes[key] = number;
+        settle_above(&mut self.nodes, self.leaves, key);
+    }
+
+    /// A key that has the least number, if any has one.
+    pub(crate) fn least(&self) -> Option<usize>
+        ensures some { IfSome result (λ key. IsLeastAt self.now key) }
+        ensures none { IsNone result → (key : ℕ) → number_of self.now key ≡ None }
+    {
+        let _least = (*self.nodes.last()?)?;
+        Some(least_leaf(&self.nodes, self.leaves))
+    }
+
+    /// A key that has the least number, if that is at most this one.
+    pub(crate) fn least_within(&self, limit: u128) -> Option<usize>
+        ensures some { IfSome result (λ key. IsLeastAt self.now key) }
+        ensures within { IfSome result (λ key. IfSome (number_of self.now key) (λ n. n ≤ limit)) }
+        ensures none { IsNone result → (key : ℕ) → IfSome (number_of self.now key) (λ n. limit < n) }
+    {
+        let least = (*self.nodes.last()?)?;
+        if least > limit {
+            return None;
+        }
+        Some(least_leaf(&self.nodes, self.leaves))
+    }
+}
+
+/// The lesser of two numbers, if there are any.
+fn lesser_of(a: Option<u128>, b: Option<u128>) -> Option<u128>
+    ensures { result ≡ lesser a b }
+{
+    match (a, b) {
+        (Some(x), Some(y)) => Some(x.min(y)),
+        _ => a.or(b),
+    }
+}
+
+/// Makes each node above the leaves the lesser of its children.
+fn settle(nodes: &mut Vec<Option<u128>>, leaves: usize)
+    requires some { 0 < leaves }
+    requires len { length nodes.old.items ≡ 2 * leaves - 1 }
+    ensures keeps { KeepsMinima leaves nodes.new.items }
+    ensures row { take leaves nodes.new.items ≡ take leaves nodes.old.items }
+{
+    for above in 0..leaves - 1 {
+        nodes[leaves + above] = lesser_of(nodes[2 * above], nodes[2 * above + 1]);
+    }
+}
+
+/// Makes each node above this one the lesser of its children, where only the next one above may not be.
+///
+/// It ends at the first that stays as it is.
+fn settle_above(nodes: &mut Vec<Option<u128>>, leaves: usize, changed: usize)
+    requires node { changed < length nodes.old.items }
+    requires len { length nodes.old.items ≡ 2 * leaves - 1 }
+    requires minima { (m : ℕ) → m + 1 < leaves → m ≢ changed / 2 →
+        IsMinimum leaves nodes.old.items m }
+    ensures keeps { KeepsMinima leaves nodes.new.items }
+    ensures row { take leaves nodes.new.items ≡ take leaves nodes.old.items }
+{
+    let mut at = changed;
+    while at < nodes.len() - 1 {
+        let above = at / 2;
+        let least = lesser_of(nodes[2 * above], nodes[2 * above + 1]);
+        at = leaves + above;
+        if nodes[at] == least {
+            return;
+        }
+        nodes[at] = least;
+    }
+}
+
+/// A leaf that has the number of the root.
+fn least_leaf(nodes: &Vec<Option<u128>>, leaves: usize) -> usize
+    requires some { 0 < leaves }
+    requires keeps { KeepsMinima leaves nodes.now.items }
+    ensures leaf { result < leaves }
+    ensures least { number_of nodes.now.items result
+        ≡ number_of nodes.now.items (2 * leaves - 2) }
+{
+    let mut at = nodes.len() - 1;
+    while at >= leaves {
+        let child = 2 * (at - leaves);
+        at = if nodes[child] == nodes[at] {
+            child
+        } else {
+            child + 1
+        };
+    }
+    at
+}
