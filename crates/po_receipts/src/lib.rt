@@ -2,9 +2,18 @@
 #![tactic(auto)]
 
 mod asked;
+mod comparison;
+mod due;
+mod fault;
+mod laws;
+mod mark;
 mod receipt;
+mod round;
 mod spent;
 
 pub use asked::Asked;
+pub use comparison::{Agreed, compare};
+pub use fault::ReconcileFault;
+pub use laws::{every_answer, own_answers};
 pub use receipt::Receipt;
 pub use spent::Spent;
