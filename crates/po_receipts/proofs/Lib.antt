@@ -1,0 +1,5 @@
+pub mod Exactness
+pub mod Marking
+pub mod NoOthers
+pub mod OwnAnswers
+pub mod Rounds

@@ -1,0 +1,272 @@
+-- Where receipts and closing totals agree with the history, it has no other calls and procedures.
+use Rattle.std.proofs.Common.{◌≡◌, ◌==◌, ◌<◌, ◌≤◌, ◌+◌, ℕ, zero, suc, List, [], ◌∷◌, length, take, refl, sym, ap, subst, ◌∙◌, arith, Option, Some, None, Bool, true, false, cond, get_or}
+use Rattle.std.specs.List.{All, slice_get, count_by, sum_by}
+use Rattle.std.specs.Option.{IfSome}
+use Rattle.std.specs.Prelude.{nat_lt, is_some}
+use Rattle.std.proofs.lemmas.Bool.{ltb-true}
+use Rattle.std.proofs.lemmas.Bool.Decides.{nat_tests}
+use Rattle.std.proofs.lemmas.List.{take_more, take_all}
+use Rattle.std.proofs.lemmas.List.Elements.{All-nil, All-cons, All-head, All-tail, All-append}
+use Rattle.std.proofs.lemmas.List.Sums.{sum_by-append, sum_by-cons, length-filter}
+use Rattle.std.proofs.lemmas.Option.{slice_get-get_or}
+use Rattle.po_unit.specs.Meaning.{Meaning}
+use Rattle.po_history.specs.declared.event.Event.{Event}
+use Rattle.po_history.specs.declared.event.Event.TheVariants.{Issue, Ran, Abort, Tick, Final, Serve, Break, Expire}
+use Rattle.po_history.specs.Histories.{VolumeView, joined}
+use Rattle.po_accepted.specs.declared.ended.Ended.{Ended}
+use Rattle.po_actions.specs.Base.{is_issue, is_ran}
+use Rattle.po_actions.specs.ObjectState.{ObjectState, opening_state}
+use Rattle.po_actions.specs.Step.{replay, IsLegal}
+use Rattle.po_actions.specs.Public.{NamesPublic}
+use Rattle.po_actions.specs.Tickets.{CoreView}
+use Rattle.po_actions.specs.Cutting.{AreVolumes, Leads}
+use Rattle.po_actions.specs.Headline.{Headline}
+use Rattle.po_actions.proofs.Runs.{replay-append, legal-append}
+use Rattle.po_actions.proofs.Counting.{replay-next}
+use Rattle.po_receipts.specs.declared.receipt.Receipt.{Receipt}
+use Rattle.po_receipts.specs.declared.receipt.Receipt.TheVariants as R
+use Rattle.po_receipts.specs.Passes.{PassView, fresh, IsTallied, is_call, is_procedure, unfiled}
+use Rattle.po_receipts.specs.Receipts.{is_asked_by}
+use Rattle.po_receipts.specs.Agreement.{AllAgree, history_of}
+use Rattle.po_receipts.specs.Answers.{asker_of, HasNoOthers, NonePending, HasClosingTotals}
+use Rattle.po_receipts.proofs.OwnAnswers.{as_many}
+
+-- what a test counts
+abbrev one_if : Bool → ℕ
+one_if b = cond b 1 0
+
+-- whether it is one of the first seats
+abbrev is_below : ℕ → Option ℕ → Bool
+is_below limit None = false
+is_below limit (Some seat) = nat_lt seat limit
+
+-- whether it is this seat
+abbrev is_seat : ℕ → Option ℕ → Bool
+is_seat seat None = false
+is_seat seat (Some other) = other == seat
+
+-- one seat more
+seat_more : (limit : ℕ) (o : Option ℕ) → one_if (is_below (limit + 1) o) ≡ one_if (is_below limit o) + one_if (is_seat limit o)
+seat_more limit None = refl
+seat_more limit (Some seat) = grind (arith, nat_tests)
+
+-- there is none below 0
+below_none : (o : Option ℕ) → one_if (is_below 0 o) ≡ zero
+below_none None = refl
+below_none (Some seat) = grind (arith, nat_tests)
+
+-- one of the first seats is a seat
+below_some : (limit : ℕ) (o : Option ℕ) → one_if (is_below limit o) ≤ one_if (is_some o)
+below_some limit None = omega arith
+below_some limit (Some seat) = grind (arith, nat_tests)
+
+-- where the two count the same, the asker is one of the first seats
+asker_below : (limit : ℕ) (o : Option ℕ) → one_if (is_below limit o) ≡ one_if (is_some o) → IfSome o (λ seat. seat < limit)
+asker_below limit None same = tt
+asker_below limit (Some seat) same = one_below (nat_lt seat limit) refl same
+  where
+    one_below : (b : Bool) → nat_lt seat limit ≡ b → one_if b ≡ 1 → seat < limit
+    one_below true is same = ltb-true seat limit is
+    one_below false is same = absurd (omega (arith, same))
+
+module _ {V : Type 0} where
+  -- whether the event is a call or a procedure of one of the first seats
+  abbrev asked_below : ℕ → Event V → Bool
+  asked_below limit event = is_below limit (asker_of event)
+
+  -- whether the event is a call or a procedure
+  abbrev is_asked : Event V → Bool
+  is_asked event = is_some (asker_of event)
+
+  asked_is : (seat : ℕ) (event : Event V) → is_asked_by seat event ≡ is_seat seat (asker_of event)
+  asked_is seat (Issue n owner e v deadline) = refl
+  asked_is seat (Ran owner op v reply) = refl
+  asked_is seat (Abort n) = refl
+  asked_is seat (Tick t) = refl
+  asked_is seat Final = refl
+  asked_is seat (Serve e) = refl
+  asked_is seat (Break e) = refl
+  asked_is seat (Expire n) = refl
+
+  -- one seat more
+  below_more : (limit : ℕ) (event : Event V)
+      → one_if (asked_below (limit + 1) event) ≡ one_if (asked_below limit event) + one_if (is_asked_by limit event)
+  below_more limit event =
+      seat_more limit (asker_of event) ∙ ap (λ b. one_if (asked_below limit event) + one_if b) (sym (asked_is limit event))
+
+  -- there are as many of the first seats and one more as of the two
+  count_more : (limit : ℕ) (events : List (Event V))
+      → count_by (asked_below (limit + 1)) events ≡ count_by (asked_below limit) events + count_by (is_asked_by limit) events
+  count_more limit [] = refl
+  count_more limit (event ∷ events) =
+      let a = sum_by-cons (λ x. one_if (asked_below (limit + 1) x)) event events in
+      let b = sum_by-cons (λ x. one_if (asked_below limit x)) event events in
+      let d = sum_by-cons (λ x. one_if (is_asked_by limit x)) event events in
+      let here = below_more limit event in
+      let rest = count_more limit events in
+      omega (arith, a, b, d, here, rest)
+
+  -- none of no seats
+  count_none : (events : List (Event V)) → count_by (asked_below 0) events ≡ 0
+  count_none [] = refl
+  count_none (event ∷ events) =
+      let a = sum_by-cons (λ x. one_if (asked_below 0 x)) event events in
+      let here = below_none (asker_of event) in
+      let rest = count_none events in
+      omega (arith, a, here, rest)
+
+  -- those of the first seats are no more than all
+  count_le : (limit : ℕ) (events : List (Event V)) → count_by (asked_below limit) events ≤ count_by is_asked events
+  count_le limit [] = omega arith
+  count_le limit (event ∷ events) =
+      let a = sum_by-cons (λ x. one_if (asked_below limit x)) event events in
+      let b = sum_by-cons (λ x. one_if (is_asked x)) event events in
+      let here = below_some limit (asker_of event) in
+      let rest = count_le limit events in
+      omega (arith, a, b, here, rest)
+
+  -- where they are as many as all, each is of one of the first seats
+  all_below : (limit : ℕ) (events : List (Event V)) → count_by (asked_below limit) events ≡ count_by is_asked events
+      → All (λ event. IfSome (asker_of event) (λ seat. seat < limit)) events
+  all_below limit [] same = All-nil (λ event. IfSome (asker_of event) (λ seat. seat < limit))
+  all_below limit (event ∷ events) same =
+      let a = sum_by-cons (λ x. one_if (asked_below limit x)) event events in
+      let b = sum_by-cons (λ x. one_if (is_asked x)) event events in
+      let here = below_some limit (asker_of event) in
+      let rest = count_le limit events in
+      All-cons (λ event. IfSome (asker_of event) (λ seat. seat < limit)) event events
+      (asker_below limit (asker_of event) (omega (arith, same, a, b, here, rest)))
+      (all_below limit events (omega (arith, same, a, b, here, rest)))
+
+  -- an event that is asked for is a call or a procedure
+  asked_kinds : (event : Event V) → one_if (is_asked event) ≡ one_if (is_issue event) + one_if (is_ran event)
+  asked_kinds (Issue n owner e v deadline) = refl
+  asked_kinds (Ran owner op v reply) = refl
+  asked_kinds (Abort n) = refl
+  asked_kinds (Tick t) = refl
+  asked_kinds Final = refl
+  asked_kinds (Serve e) = refl
+  asked_kinds (Break e) = refl
+  asked_kinds (Expire n) = refl
+
+  count_kinds : (events : List (Event V)) → count_by is_asked events ≡ count_by is_issue events + count_by is_ran events
+  count_kinds [] = refl
+  count_kinds (event ∷ events) =
+      let a = sum_by-cons (λ x. one_if (is_asked x)) event events in
+      let b = sum_by-cons (λ x. one_if (is_issue x)) event events in
+      let d = sum_by-cons (λ x. one_if (is_ran x)) event events in
+      let here = asked_kinds event in
+      let rest = count_kinds events in
+      omega (arith, a, b, d, here, rest)
+
+  -- a receipt is of a call or of a procedure
+  filed_kinds : (receipt : Receipt V) → one_if (is_call receipt) + one_if (is_procedure receipt) ≡ 1
+  filed_kinds (R.Called number entry value deadline answer) = refl
+  filed_kinds (R.Ran op value reply) = refl
+
+  length_kinds : (receipts : List (Receipt V)) → length receipts ≡ count_by is_call receipts + count_by is_procedure receipts
+  length_kinds [] = refl
+  length_kinds (receipt ∷ receipts) =
+      let a = sum_by-cons (λ x. one_if (is_call x)) receipt receipts in
+      let b = sum_by-cons (λ x. one_if (is_procedure x)) receipt receipts in
+      let here = filed_kinds receipt in
+      let rest = length_kinds receipts in
+      omega (arith, a, b, here, rest)
+
+  -- how many receipts a pass has
+  abbrev receipts_in : PassView V → ℕ
+  receipts_in pass = length pass.receipts
+
+  -- where no call is pending, the tallies of a pass are its receipts
+  pass_tallied : (pass : PassView V) → IsTallied pass → pass.pending ≡ None → receipts_in pass ≡ pass.calls + pass.procedures
+  pass_tallied pass tallied none =
+      let kinds = length_kinds pass.receipts in
+      let calls = tallied.calls in
+      let procedures = tallied.procedures in
+      let filed : unfiled pass.pending ≡ 0 = ap unfiled none in
+      omega (arith, kinds, calls, procedures, filed)
+
+  -- and those of all passes are all receipts
+  all_tallied : (passes : List (PassView V)) → All IsTallied passes → NonePending passes
+      → sum_by receipts_in passes ≡ sum_by (λ pass. pass.calls) passes + sum_by (λ pass. pass.procedures) passes
+  all_tallied [] tallied none = refl
+  all_tallied (pass ∷ passes) tallied none =
+      let a = sum_by-cons receipts_in pass passes in
+      let b = sum_by-cons (λ (p : PassView V). p.calls) pass passes in
+      let d = sum_by-cons (λ (p : PassView V). p.procedures) pass passes in
+      let here = pass_tallied pass (All-head IsTallied pass passes tallied) (All-head (λ p. p.pending ≡ None) pass passes none) in
+      let rest = all_tallied passes (All-tail IsTallied pass passes tallied) (All-tail (λ p. p.pending ≡ None) pass passes none) in
+      omega (arith, a, b, d, here, rest)
+
+module _ {V : Type 0} (ended : List (Ended V)) (history : List (Event V)) (passes : List (PassView V)) where
+  -- the receipts of the first seats are as many as their calls and procedures
+  count_first : AllAgree ended history passes → (limit : ℕ) → limit ≤ length passes
+      → sum_by receipts_in (take limit passes) ≡ count_by (asked_below limit) history
+  count_first agree zero under = sym (count_none history)
+  count_first agree (suc limit) under =
+      let within : limit < length passes = omega (arith, under) in
+      let pass = get_or passes limit (fresh 0) in
+      let of_seat : slice_get passes limit ≡ Some pass = slice_get-get_or passes limit (fresh 0) within in
+      let many : length pass.receipts ≡ count_by (is_asked_by limit) history =
+      as_many ended history limit pass.receipts (agree limit pass of_seat) ∙ length-filter (is_asked_by limit) history in
+      let split : sum_by receipts_in (take (limit + 1) passes) ≡ sum_by receipts_in (take limit passes) + sum_by receipts_in (pass ∷ []) =
+      ap (sum_by receipts_in) (take_more passes limit (fresh 0) within)
+      ∙ sum_by-append receipts_in (take limit passes) (pass ∷ []) in
+      let one = sum_by-cons receipts_in pass [] in
+      let rest = count_first agree limit (omega (arith, under)) in
+      let more = count_more limit history in
+      let last : suc limit ≡ limit + 1 = omega arith in
+      let all : sum_by receipts_in (take (limit + 1) passes) ≡ count_by (asked_below (limit + 1)) history = omega (arith, many, split, one, rest, more) in
+      subst (λ n. sum_by receipts_in (take n passes) ≡ count_by (asked_below n) history) (sym last) all
+
+  -- where the calls and procedures are as many as the receipts, there are no others
+  no_others : AllAgree ended history passes → count_by is_asked history ≡ sum_by receipts_in passes → HasNoOthers history passes
+  no_others agree total =
+      let all : take (length passes) passes ≡ passes = take_all (length passes) passes (omega arith) in
+      let same : sum_by receipts_in passes ≡ count_by (asked_below (length passes)) history =
+      sym (ap (sum_by receipts_in) all) ∙ count_first agree (length passes) (omega arith) in
+      all_below (length passes) history (sym same ∙ sym total)
+
+module _ {S V : Type 0} (m : Meaning S V) (core : CoreView S V) (passes : List (PassView V)) (volumes : List (VolumeView V)) where
+  abbrev start : ObjectState S V
+  start = opening_state core.object.making.opening core.object.making.first_number
+
+  -- the whole history leads from the opening to the present state
+  pub whole_leads : AreVolumes m core.object volumes → Headline m core.object
+      → Leads m core.object.making (history_of core volumes) start core.object.state
+  whole_leads are headline =
+      let view = core.object in
+      let limit = view.making.max_queue in
+      let replays = headline.sound.replays in
+      let there = are.leads.to_there in
+      record {
+        legal = legal-append m limit start (joined volumes) view.events are.leads.legal (subst (λ s. IsLegal m limit s view.events) (sym there) replays.legal);
+        to_there = replay-append m limit start (joined volumes) view.events ∙ (ap (λ s. replay m limit s view.events) there ∙ replays.leads);
+        public = All-append (NamesPublic view.making.shape) (joined volumes) view.events are.leads.public replays.public;
+      }
+
+  -- the closing totals are those of the whole history
+  total_of : AreVolumes m core.object volumes → Headline m core.object → All IsTallied passes → NonePending passes
+      → HasClosingTotals core passes
+      → count_by is_asked (history_of core volumes) ≡ sum_by receipts_in passes
+  total_of are headline tallied none totals =
+      let view = core.object in
+      let history = history_of core volumes in
+      let leads = (whole_leads are headline).to_there in
+      let next : view.state.next ≡ view.making.first_number + count_by is_issue history =
+      sym (ap (λ s. s.next) leads) ∙ replay-next m view.making.max_queue start history in
+      let ran : count_by is_ran history ≡ count_by is_ran (joined volumes) + count_by is_ran view.events =
+      sum_by-append (λ x. one_if (is_ran x)) (joined volumes) view.events in
+      let based = are.ran in
+      let kinds = count_kinds history in
+      let filed = all_tallied passes tallied none in
+      let calls = totals.calls in
+      let procedures = totals.procedures in
+      omega (arith, next, ran, based, kinds, filed, calls, procedures)
+
+  pub none_other : AreVolumes m core.object volumes → Headline m core.object → All IsTallied passes → NonePending passes
+      → HasClosingTotals core passes
+      → AllAgree core.object.state.ended (history_of core volumes) passes
+      → HasNoOthers (history_of core volumes) passes
+  none_other are headline tallied none totals agree =
+      no_others core.object.state.ended (history_of core volumes) passes agree (total_of are headline tallied none totals)

@@ -1,0 +1,19 @@
+use Rattle.po_receipts.specs.Agreement.{history_of}
+use Rattle.po_receipts.proofs.OwnAnswers.{own_answers}
+use Rattle.po_receipts.proofs.NoOthers as lemmas
+use Rattle.po_receipts.proofs.laws.every_answer.Goals as goal
+
+pub returns : goal.returns
+returns g c =
+    let m = g.U.Unit.meaning in
+    let core = c.args.core.now in
+    let passes = c.args.passes.now in
+    let volumes = c.args.volumes.now in
+    let agree = c.requires.agreed.agree in
+    let are = c.requires.volumes in
+    let headline = c.headline.ensures.headline in
+    record {
+      own = own_answers core.object.state.ended (history_of core volumes) passes agree;
+      serial = lemmas.whole_leads m core passes volumes are headline;
+      none_other = lemmas.none_other m core passes volumes are headline c.recall_tallies.ensures c.requires.filed c.requires.totals agree;
+    }

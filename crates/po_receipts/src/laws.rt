@@ -1,0 +1,53 @@
+//! What follows where receipts and history agree.
+
+ghost use Rattle.std.specs.Prelude.{All};
+ghost use Rattle.po_actions.specs.ObjectState.{opening_state};
+ghost use Rattle.po_actions.specs.Cutting.{AreVolumes, Leads};
+ghost use Rattle.po_receipts.specs.Passes.{IsTallied};
+ghost use Rattle.po_receipts.specs.Agreement.{IsAgreed, history_of};
+ghost use Rattle.po_receipts.specs.Answers.{AnswersAreOwn, HasClosingTotals, HasNoOthers, NonePending};
+
+use crate::spent::Spent;
+use po_actions::{Core, Volume};
+use po_unit::Unit;
+
+/// Where receipts and history agree, every answer that a caller got is the history's answer to that caller's own call,
+/// each once and in the caller's order.
+pub fn own_answers<U: Unit>(
+    core: &Core<U>,
+    passes: &[Spent<U::Value>],
+    volumes: &[Volume<U::Value>],
+)
+    requires { IsAgreed core.now passes.now volumes.now }
+    ensures { AnswersAreOwn core.now.object.state.ended (history_of core.now volumes.now) passes.now }
+{}
+
+/// Where besides the volumes are those that were cut off from this object's history, and the passes are all that it had,
+/// with no call pending, these are the answers of the serial object, and the history has no other calls and procedures.
+pub fn every_answer<U: Unit>(
+    core: &Core<U>,
+    passes: &[Spent<U::Value>],
+    volumes: &[Volume<U::Value>],
+)
+    requires agreed { IsAgreed core.now passes.now volumes.now }
+    requires totals { HasClosingTotals core.now passes.now }
+    requires filed { NonePending passes.now }
+    requires volumes { AreVolumes U.meaning core.now.object volumes.now }
+    ensures own { AnswersAreOwn core.now.object.state.ended (history_of core.now volumes.now) passes.now }
+    // The whole history replays from the opening as serial protected actions of one thread, and the calls end so.
+    ensures serial { Leads U.meaning core.now.object.making (history_of core.now volumes.now)
+        (opening_state core.now.object.making.opening core.now.object.making.first_number) core.now.object.state }
+    ensures none_other { HasNoOthers (history_of core.now volumes.now) passes.now }
+{
+    core.headline();
+    recall_tallies(passes);
+}
+
+/// The tallies of each pass are the numbers of its receipts, with the call that has none yet.
+fn recall_tallies<V: Copy>(passes: &[Spent<V>])
+    ensures { All IsTallied passes.now }
+{
+    for pass in passes {
+        pass.recall_invariant();
+    }
+}

@@ -1,0 +1,19 @@
+//! What callers file of their calls and procedures, and whether the history of their object says the same.
+#![tactic(auto)]
+
+mod asked;
+mod comparison;
+mod due;
+mod fault;
+mod laws;
+mod mark;
+mod receipt;
+mod round;
+mod spent;
+
+pub use asked::Asked;
+pub use comparison::{Agreed, compare};
+pub use fault::ReconcileFault;
+pub use laws::{every_answer, own_answers};
+pub use receipt::Receipt;
+pub use spent::Spent;
