@@ -245,24 +245,35 @@ module _ {S V : Type 0} (m : Meaning S V) (core : CoreView S V) (passes : List (
         public = All-append (NamesPublic view.making.shape) (joined volumes) view.events are.leads.public replays.public;
       }
 
-  -- the closing totals are those of the whole history
+  -- the whole history has issued as many calls as were accepted
+  pub calls_counted : AreVolumes m core.object volumes → Headline m core.object → HasClosingTotals core passes
+      → count_by is_issue (history_of core volumes) ≡ sum_by (λ pass. pass.calls) passes
+  calls_counted are headline totals =
+      let making = core.object.making in
+      let next : core.object.state.next ≡ making.first_number + count_by is_issue (history_of core volumes) =
+      sym (ap (λ s. s.next) (whole_leads are headline).to_there) ∙ replay-next m making.max_queue start (history_of core volumes) in
+      let calls = totals.calls in
+      omega (arith, next, calls)
+
+  -- and as many procedures ran in it
+  pub procedures_counted : AreVolumes m core.object volumes → HasClosingTotals core passes
+      → count_by is_ran (history_of core volumes) ≡ sum_by (λ pass. pass.procedures) passes
+  procedures_counted are totals =
+      let ran = sum_by-append (λ x. one_if (is_ran x)) (joined volumes) core.object.events in
+      let based = are.ran in
+      let procedures = totals.procedures in
+      omega (arith, ran, based, procedures)
+
+  -- so it has as many of both as there are receipts
   total_of : AreVolumes m core.object volumes → Headline m core.object → All IsTallied passes → NonePending passes
       → HasClosingTotals core passes
       → count_by is_asked (history_of core volumes) ≡ sum_by receipts_in passes
   total_of are headline tallied none totals =
-      let view = core.object in
-      let history = history_of core volumes in
-      let leads = (whole_leads are headline).to_there in
-      let next : view.state.next ≡ view.making.first_number + count_by is_issue history =
-      sym (ap (λ s. s.next) leads) ∙ replay-next m view.making.max_queue start history in
-      let ran : count_by is_ran history ≡ count_by is_ran (joined volumes) + count_by is_ran view.events =
-      sum_by-append (λ x. one_if (is_ran x)) (joined volumes) view.events in
-      let based = are.ran in
-      let kinds = count_kinds history in
+      let kinds = count_kinds (history_of core volumes) in
+      let calls = calls_counted are headline totals in
+      let procedures = procedures_counted are totals in
       let filed = all_tallied passes tallied none in
-      let calls = totals.calls in
-      let procedures = totals.procedures in
-      omega (arith, next, ran, based, kinds, filed, calls, procedures)
+      omega (arith, kinds, calls, procedures, filed)
 
   pub none_other : AreVolumes m core.object volumes → Headline m core.object → All IsTallied passes → NonePending passes
       → HasClosingTotals core passes

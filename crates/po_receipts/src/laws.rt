@@ -1,6 +1,7 @@
 //! What follows where receipts and history agree.
 
-ghost use Rattle.std.specs.Prelude.{All};
+ghost use Rattle.std.specs.Prelude.{◌≡◌, All, count_by, sum_by};
+ghost use Rattle.po_actions.specs.Base.{is_issue, is_ran};
 ghost use Rattle.po_actions.specs.ObjectState.{opening_state};
 ghost use Rattle.po_actions.specs.Cutting.{AreVolumes, Leads};
 ghost use Rattle.po_receipts.specs.Passes.{IsTallied};
@@ -41,6 +42,21 @@ pub fn every_answer<U: Unit>(
 {
     core.headline();
     recall_tallies(passes);
+}
+
+/// Where the closing totals hold, and the volumes are those that were cut off from this object's history, as many calls were
+/// issued in the whole history, and as many procedures ran, as were accepted from the passes.
+pub fn closing_counts<U: Unit>(
+    core: &Core<U>,
+    passes: &[Spent<U::Value>],
+    volumes: &[Volume<U::Value>],
+)
+    requires totals { HasClosingTotals core.now passes.now }
+    requires volumes { AreVolumes U.meaning core.now.object volumes.now }
+    ensures calls { count_by is_issue (history_of core.now volumes.now) ≡ sum_by (λ pass. pass.calls) passes.now }
+    ensures procedures { count_by is_ran (history_of core.now volumes.now) ≡ sum_by (λ pass. pass.procedures) passes.now }
+{
+    core.headline();
 }
 
 /// The tallies of each pass are the numbers of its receipts, with the call that has none yet.
