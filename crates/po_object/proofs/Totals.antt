@@ -4,7 +4,8 @@ use Rattle.po_receipts.specs.Passes.{PassView}
 use Rattle.po_actions.specs.Tickets.{CoreView}
 use Rattle.po_object.specs.Holds.{IsCounted}
 use Rattle.po_object.specs.Seats.{OneEach, ArePlaced}
-use Rattle.po_object.specs.Closing.{HasClosingTotals, IsClosed}
+use Rattle.po_receipts.specs.Answers.{HasClosingTotals}
+use Rattle.po_object.specs.Closing.{IsClosed}
 use Rattle.po_object.proofs.Seating.{placed-by_seat, at-seats, sum-by_seat}
 
 module _ {S V : Type 0} where

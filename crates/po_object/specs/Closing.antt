@@ -1,8 +1,8 @@
 -- What a closed object shows (this project's own).
-use Rattle.std.specs.Prelude.{ℕ, ◌≡◌, ◌+◌, ◌≤◌, List, length, slice_get, sum_by, Some}
+use Rattle.std.specs.Prelude.{ℕ, ◌≡◌, ◌≤◌, List, length, slice_get, Some}
 use Rattle.po_actions.specs.Tickets.{CoreView}
-use Rattle.po_actions.specs.Cutting.{procedures_run}
 use Rattle.po_receipts.specs.Passes.{PassView}
+use Rattle.po_receipts.specs.Answers.{HasClosingTotals}
 
 -- the core, and the passes
 pub record ClosedView (S V : Type 0) : Type 0 where
@@ -10,11 +10,6 @@ pub record ClosedView (S V : Type 0) : Type 0 where
   pub passes : List (PassView V)
 
 module _ {S V : Type 0} where
-  -- In its whole history the core has issued as many calls as the passes counted, and run as many procedures.
-  pub record HasClosingTotals (core : CoreView S V) (passes : List (PassView V)) : Type 0 where
-    pub calls : core.object.state.next ≡ core.object.making.first_number + sum_by (λ p. p.calls) passes
-    pub procedures : procedures_run core.object ≡ sum_by (λ p. p.procedures) passes
-
   -- The passes stand at the places of their seats, and the closing totals are theirs.
   pub record IsClosed (closed : ClosedView S V) : Type 0 where
     pub seats : length closed.passes ≤ 65_535

@@ -3,7 +3,8 @@
 ghost use Rattle.std.specs.Prelude.{◌≡◌, ◌+◌, ◌^◌, ◌<◌, ◌≤◌, IfOk, IfErr, IfSome, IfNone, OnOk, length, vec_len, slice_index, slice_set, sum_by};
 ghost use Rattle.po_object.specs.Seats.{OneEach, IsMissing, AreBySeat, ArePlaced, AreCounts};
 ghost use Rattle.po_object.specs.Faults.{KeepsAll};
-ghost use Rattle.po_object.specs.Closing.{IsClosed, HasClosingTotals};
+ghost use Rattle.po_object.specs.Closing.{IsClosed};
+ghost use Rattle.po_receipts.specs.Answers.{HasClosingTotals};
 
 use crate::fault::CloseFault;
 use crate::hold::{Hold, Pass};

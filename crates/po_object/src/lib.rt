@@ -8,10 +8,12 @@ mod ledgers;
 mod object;
 mod opening;
 mod pass;
+mod reconciliation;
 mod seat;
 
 pub use closing::Closed;
 pub use fault::{CloseFault, OpenFault};
 pub use ledgers::CallLedger;
 pub use object::Object;
-pub use po_receipts::{Asked, Receipt, Spent};
+pub use po_receipts::{Agreed, Asked, Receipt, ReconcileFault, Spent};
+pub use reconciliation::{every_answer, reconcile};

@@ -1,0 +1,46 @@
+//! Reconciliation: whether the history of a closed object says what its callers were answered.
+
+ghost use Rattle.std.specs.Prelude.{◌≡◌, ◌↔◌, IsOk};
+ghost use Rattle.po_actions.specs.ObjectState.{opening_state};
+ghost use Rattle.po_actions.specs.Cutting.{AreVolumes, Leads};
+ghost use Rattle.po_receipts.specs.Agreement.{IsAgreed, IsFaultOf, history_of};
+ghost use Rattle.po_receipts.specs.Answers.{AnswersAreOwn, HasNoOthers, NonePending};
+ghost use Rattle.po_receipts.specs.declared.fault.ReconcileFault.{ReconcileFault as Fault};
+
+use crate::closing::Closed;
+use po_actions::Volume;
+use po_receipts::{Agreed, ReconcileFault, compare};
+use po_unit::Unit;
+
+/// Whether the receipts of all passes are those that the history gives: of each seat a receipt for each call and procedure
+/// that it asked for, in that order, with what was asked and what was answered.
+///
+/// The volumes are those that were cut off from the history, in their order; without a cut there are none. A gap in the
+/// history is answered first, else the lowest seat that differs and its first place that does. No memory is taken.
+pub fn reconcile<U: Unit>(
+    closed: &Closed<U>,
+    volumes: &[Volume<U::Value>],
+) -> Result<Agreed, ReconcileFault>
+    ensures agreed { IsOk result ↔ IsAgreed closed.now.core closed.now.passes volumes.now }
+    ensures fault { (fault : Fault) → (result ≡ Err fault) ↔ IsFaultOf closed.now.core closed.now.passes volumes.now fault }
+{
+    closed.closing_totals();
+    compare(closed.core(), closed.passes(), volumes)
+}
+
+/// What it means that `reconcile` answers `Agreed`, where the volumes are those of the object's cuts and no pass has a call
+/// pending: every answer that a caller got is the history's answer to that caller's own call, each once and in the caller's
+/// order; these are the answers of the serial object; and the history has no other calls and procedures.
+pub fn every_answer<U: Unit>(closed: &Closed<U>, volumes: &[Volume<U::Value>])
+    requires agreed { IsAgreed closed.now.core closed.now.passes volumes.now }
+    requires filed { NonePending closed.now.passes }
+    requires volumes { AreVolumes U.meaning closed.now.core.object volumes.now }
+    ensures own { AnswersAreOwn closed.now.core.object.state.ended (history_of closed.now.core volumes.now) closed.now.passes }
+    // The whole history replays from the opening as serial protected actions of one thread, and the calls end so.
+    ensures serial { Leads U.meaning closed.now.core.object.making (history_of closed.now.core volumes.now)
+        (opening_state closed.now.core.object.making.opening closed.now.core.object.making.first_number) closed.now.core.object.state }
+    ensures none_other { HasNoOthers (history_of closed.now.core volumes.now) closed.now.passes }
+{
+    closed.closing_totals();
+    po_receipts::every_answer(closed.core(), closed.passes(), volumes);
+}
