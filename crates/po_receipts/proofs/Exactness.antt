@@ -6,7 +6,6 @@ use Rattle.std.proofs.lemmas.Bool.{cases_eq, cond-true, cond-false, eq-eqb, ne_e
 use Rattle.po_accepted.specs.declared.ended.Ended.{Ended}
 use Rattle.po_history.specs.declared.event.Event.{Event}
 use Rattle.po_history.specs.Histories.{VolumeView, RunOn}
-use Rattle.po_receipts.specs.declared.receipt.Receipt.{Receipt}
 use Rattle.po_receipts.specs.declared.fault.ReconcileFault.{ReconcileFault}
 use Rattle.po_receipts.specs.declared.comparison.Agreed.{Agreed}
 use Rattle.po_receipts.specs.declared.fault.ReconcileFault.TheVariants.{Gap, Mismatch}

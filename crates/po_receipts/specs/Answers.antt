@@ -6,7 +6,6 @@ use Rattle.po_accepted.specs.declared.ended.Ended.{Ended}
 use Rattle.po_actions.specs.Tickets.{CoreView}
 use Rattle.po_actions.specs.Cutting.{procedures_run}
 use Rattle.po_receipts.specs.declared.receipt.Receipt.{Receipt}
-use Rattle.po_receipts.specs.declared.receipt.Receipt.TheVariants as Receipt
 use Rattle.po_receipts.specs.Passes.{PassView}
 use Rattle.po_receipts.specs.Receipts.{asked_by, answer_of}
 

@@ -7,7 +7,6 @@ use Rattle.po_history.specs.declared.event.Event.TheVariants.{Issue, Ran}
 use Rattle.po_accepted.specs.declared.ended.Ended.{Ended}
 use Rattle.po_accepted.specs.Ending.{has_ended}
 use Rattle.po_receipts.specs.declared.receipt.Receipt.{Receipt}
-use Rattle.po_receipts.specs.declared.receipt.Receipt.TheVariants as Receipt
 
 module _ {V : Type 0} where
   -- whether the event is a call or a procedure that this seat asked for (9.5.1, 9.5.3)

@@ -3,7 +3,7 @@ use Rattle.std.proofs.lemmas.Option.{slice_get_read}
 use Rattle.po_receipts.specs.declared.mark.Mark.TheVariants.{Follows}
 use Rattle.po_receipts.specs.Receipts.{receipts_due}
 use Rattle.po_receipts.specs.Agreement.{AgreeBelow}
-use Rattle.po_receipts.proofs.Rounds.{HasReceipts, mark_of, differs_first, agree_more}
+use Rattle.po_receipts.proofs.Rounds.{mark_of, differs_first, agree_more}
 use Rattle.po_receipts.proofs.round.lowest_difference.Goals as goal
 
 pub returns-in-Some : goal.returns-in-Some
