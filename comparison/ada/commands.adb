@@ -1,0 +1,315 @@
+with Ada.Exceptions; use Ada.Exceptions;
+with Ada.Real_Time; use Ada.Real_Time;
+with Ada.Strings.Unbounded; use Ada.Strings.Unbounded;
+with Ada.Text_IO;   use Ada.Text_IO;
+with Ada.Unchecked_Deallocation;
+with Calls;         use Calls;
+with Callers;
+with Deadlines;
+with Ends;
+with Names;
+with Units;         use Units;
+
+package body Commands is
+
+   procedure Free is new Ada.Unchecked_Deallocation (Unit'Class, Unit_Access);
+
+   --  How long, beside some steps of time, a call may be neither queued nor over before it counts as never woken.
+   Patience : constant Time_Span := Seconds (1);
+
+   type Declarations_Access is access Declarations;
+
+   Step : Time_Span;
+
+   --  The object, which is there from the command `unit` up to `final`, and what is known of it afterwards too.
+   Object         : Unit_Access;
+   Finalized      : Boolean := False;
+   Entry_List     : Declarations_Access;
+   Procedure_Name : Unbounded_String;
+
+   --  What the script's clock shows.
+   Clock_Now : Value := 0;
+
+   --  How many ends have been written, and how many calls are never woken.
+   Written : Natural := 0;
+   Lost    : Natural := 0;
+
+   --  A command that Ada's own rules refuse, mostly when a program is compiled; the number is that of pobj.
+   Refused : exception;
+
+   --  The decimal digits of the number.
+   function Image (Number : Value) return String is
+      Spaced : constant String := Value'Image (Number);
+   begin
+      return Spaced (Spaced'First + 1 .. Spaced'Last);
+   end Image;
+
+   procedure Write (Text : String; Number : Value) is
+   begin
+      Put_Line (Text & Image (Number));
+   end Write;
+
+   -------------
+   -- At rest --
+   -------------
+
+   function Calls_Queued return Natural is
+      Sum : Natural := 0;
+   begin
+      if not Finalized then
+         for Count of Object.Waiting loop
+            Sum := Sum + Count;
+         end loop;
+      end if;
+      return Sum;
+   end Calls_Queued;
+
+   --  How many calls are neither queued nor over. A call leaves its queue before it is told, so the queues come last.
+   function Calls_Underway return Integer is
+      Not_Told : constant Integer := Callers.Made - Lost - Ends.Told;
+   begin
+      return Not_Told - Calls_Queued;
+   end Calls_Underway;
+
+   --  Waits until each call is queued or over. Calls that are neither for too long are never woken.
+   procedure Wait_For_Rest (Finalizing : Boolean := False) is
+      Limit : constant Time := Clock + Patience + 5 * Step;
+   begin
+      loop
+         Callers.Tell_For_Aborted (Otherwise_Finalized => Finalizing);
+         exit when Calls_Underway = 0;
+         if Clock > Limit then
+            Lost := Lost + Calls_Underway;
+            exit;
+         end if;
+         delay 0.000_2;
+      end loop;
+   end Wait_For_Rest;
+
+   --  Waits until the call is over, but no longer than a step of time: it may be protected from being cancelled.
+   procedure Wait_For_End (Number : Positive) is
+      Limit : constant Time := Clock + Step;
+   begin
+      loop
+         Callers.Tell_For_Aborted (Otherwise_Finalized => False);
+         exit when Ends.Is_Told (Number) or else Clock > Limit;
+         delay 0.000_2;
+      end loop;
+   end Wait_For_End;
+
+   --  Writes the ends that were not written yet.
+   procedure Write_Ends is
+      Ended : Ends.Call_End;
+   begin
+      for Place in Written + 1 .. Ends.Known loop
+         Ended := Ends.Known_End (Place);
+         case Ended.Kind is
+            when Ends.Completed =>
+               Write (Image (Value (Ended.Number)) & " done ", Ended.Item);
+            when Ends.Raised =>
+               Write (Image (Value (Ended.Number)) & " raised ", Ended.Item);
+            when Ends.Cancelled =>
+               Put_Line (Image (Value (Ended.Number)) & " cancelled");
+            when Ends.Program_Error_Raised =>
+               Put_Line (Image (Value (Ended.Number)) & " program_error");
+         end case;
+      end loop;
+      Written := Ends.Known;
+   end Write_Ends;
+
+   --  Ends the command: what it led to, and calls that were lost by it.
+   procedure Settle (Finalizing : Boolean := False) is
+      Lost_Before : constant Natural := Lost;
+   begin
+      Wait_For_Rest (Finalizing);
+      Write_Ends;
+      if Lost > Lost_Before then
+         Write ("never woken ", Value (Lost - Lost_Before));
+      end if;
+   end Settle;
+
+   --------------
+   -- Refusals --
+   --------------
+
+   procedure Refuse_If (Condition : Boolean; Code : Positive) is
+   begin
+      if Condition then
+         raise Refused with Positive'Image (Code);
+      end if;
+   end Refuse_If;
+
+   --  The declaration of that name, or 0.
+   function Declared (Name : String) return Natural is
+   begin
+      for Place in Entry_List'Range loop
+         if Names.Image (Entry_List (Place).Name) = Name then
+            return Place;
+         end if;
+      end loop;
+      return 0;
+   end Declared;
+
+   --  The entry that the word names, a member of a family by `Name(Index)`.
+   function Named (Word : String) return Target is
+      Open    : Natural := Word'First;
+      Place   : Natural;
+      Indexed : Boolean;
+      Index   : Integer := 0;
+   begin
+      while Open <= Word'Last and then Word (Open) /= '(' loop
+         Open := Open + 1;
+      end loop;
+      Indexed := Open <= Word'Last;
+      if Indexed then
+         Index := Integer'Value (Word (Open + 1 .. Word'Last - 1));
+      end if;
+      Place := Declared (Word (Word'First .. Open - 1));
+      Refuse_If (Place = 0, 1);
+      Refuse_If (not Entry_List (Place).Public, 2);
+      Refuse_If (Indexed /= (Entry_List (Place).Members > 0), 3);
+      Refuse_If (Indexed and then Index not in 1 .. Entry_List (Place).Members, 3);
+      Refuse_If (Finalized, 7);
+      return (Entry_List (Place).Name, Index);
+   end Named;
+
+   --------------
+   -- Commands --
+   --------------
+
+   procedure Make_Unit (Line : String) is
+      Name : constant String := Scripts.Word (Line, 2);
+      Size : constant String := Scripts.Word (Line, 3);
+   begin
+      Object :=
+        Made (Name, (if Size'Length > 0 and then Size (Size'First) in '0' .. '9' then Positive'Value (Size) else 1));
+      Entry_List     := new Declarations'(Object.Entries);
+      Procedure_Name := To_Unbounded_String (Object.Procedure_Name);
+   end Make_Unit;
+
+   --  A timed call whose deadline is past may be queued for a moment.
+   procedure Make_Call (To : String; How : Manner; Item : String; Is_Past : Boolean := False) is
+      Its_Entry : constant Target := Named (To);
+   begin
+      Write ("#", Value (Callers.Made + 1));
+      Callers.Start (Object, Its_Entry, How, Value'Value (Item));
+      if Is_Past then
+         Wait_For_End (Callers.Made);
+      end if;
+      Settle;
+   end Make_Call;
+
+   procedure Run_Procedure (Name : String; Item : Value) is
+      Result : Value := Item;
+   begin
+      Refuse_If (Name /= To_String (Procedure_Name), 4);
+      Refuse_If (Finalized, 7);
+      begin
+         Object.Run (Result);
+         Write ("done ", Result);
+      exception
+         when Occurrence : Failure =>
+            Write ("raised ", Value'Value (Exception_Message (Occurrence)));
+      end;
+      Settle;
+   end Run_Procedure;
+
+   procedure Call_Function (Name : String) is
+   begin
+      Refuse_If (Name /= "State", 4);
+      Refuse_If (Finalized, 7);
+      Write ("value ", Object.State);
+   end Call_Function;
+
+   procedure Cancel (Number : Value) is
+   begin
+      Refuse_If (Number = 0 or else Number > Value (Callers.Made), 5);
+      Refuse_If (Ends.Is_Told (Positive (Number)), 6);
+      Callers.Attempt_To_Cancel (Positive (Number));
+      Wait_For_End (Positive (Number));
+      if not Ends.Is_Told (Positive (Number)) then
+         Put_Line ("kept");
+      end if;
+      Settle;
+   end Cancel;
+
+   procedure Tick (Line : Positive; To : Value) is
+   begin
+      Refuse_If (Finalized, 7);
+      Clock_Now := Value'Max (Clock_Now, To);
+      Write ("clock ", Clock_Now);
+      if Deadlines.Has_Due (Line) then
+         if Clock > Deadlines.Start_Of_Tick (Line) then
+            raise Too_Late;
+         end if;
+         delay until Deadlines.End_Of_Tick (Line);
+      end if;
+      Settle;
+   end Tick;
+
+   procedure Finalize is
+   begin
+      Refuse_If (Finalized, 7);
+      Put_Line ("final");
+      Free (Object);
+      Finalized := True;
+      Settle (Finalizing => True);
+   end Finalize;
+
+   procedure Show is
+      Queued : constant Counts := (if Finalized then [1 .. 1_026 => 0] else Object.Waiting);
+      Place  : Positive := Queued'First;
+   begin
+      for Its_Entry of Entry_List.all loop
+         for Member in (if Its_Entry.Members = 0 then 0 else 1) .. Its_Entry.Members loop
+            Write
+              (Names.Image (Its_Entry.Name) & (if Member = 0 then " " else "(" & Image (Value (Member)) & ") "),
+               Value (Queued (Place)));
+            Place := Place + 1;
+         end loop;
+      end loop;
+      Write ("clock ", Clock_Now);
+      Write ("next ", Value (Callers.Made + 1));
+   end Show;
+
+   procedure Carry_Out_Line (Script : Scripts.Line_Vectors.Vector; Line : Positive) is
+      Text    : constant String := Script (Line);
+      Command : constant String := Scripts.Word (Text, 1);
+      function Word (Place : Positive) return String is (Scripts.Word (Text, Place));
+   begin
+      if Command = "unit" then
+         Make_Unit (Text);
+      elsif Command = "call" then
+         Make_Call (Word (2), (Kind => Simple, others => <>), Word (3));
+      elsif Command = "cond" then
+         Make_Call (Word (2), (Kind => Conditional, others => <>), Word (3));
+      elsif Command = "timed" then
+         Make_Call (Word (3), (Timed, Deadlines.Of_Call (Line)), Word (4), Deadlines.Is_Past (Line));
+      elsif Command = "proc" then
+         Run_Procedure (Word (2), Value'Value (Word (3)));
+      elsif Command = "func" then
+         Call_Function (Word (2));
+      elsif Command = "cancel" then
+         Cancel (Value'Value (Word (2)));
+      elsif Command = "tick" then
+         Tick (Line, Value'Value (Word (2)));
+      elsif Command = "final" then
+         Finalize;
+      else
+         Show;
+      end if;
+   exception
+      when Occurrence : Refused =>
+         Write ("refused ", Value'Value (Exception_Message (Occurrence)));
+   end Carry_Out_Line;
+
+   procedure Carry_Out (Script : Scripts.Line_Vectors.Vector; Step_In_Milliseconds : Positive) is
+   begin
+      Step := Milliseconds (Step_In_Milliseconds);
+      Deadlines.Plan (Script, Step);
+      for Line in 1 .. Script.Last_Index loop
+         Carry_Out_Line (Script, Line);
+      end loop;
+   end Carry_Out;
+
+end Commands;

@@ -1,0 +1,14 @@
+--  The lines of a script that say something, and their words.
+with Ada.Containers.Indefinite_Vectors;
+
+package Scripts is
+
+   package Line_Vectors is new Ada.Containers.Indefinite_Vectors (Positive, String);
+
+   --  The lines of standard input, without those that are skipped.
+   function Read return Line_Vectors.Vector;
+
+   --  The word at that place of the line, or no text where it has fewer words.
+   function Word (Line : String; Place : Positive) return String;
+
+end Scripts;

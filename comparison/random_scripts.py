@@ -1,0 +1,127 @@
+"""Random scripts over all units, without the constructs by which GNAT is known to differ: a conditional call that could
+open an entry by being counted, and on the relay conditional calls, and attempts to cancel a call that is protected from
+them by a requeue without abort."""
+
+import random
+
+PARAMETER = ("buffer", "meeting", "allocator")
+# The names that a script may ask for: the entries of a unit, public ones first, and its procedure.
+ENTRIES = {
+    "buffer": ["Put", "Get"],
+    "signal": ["Wait"],
+    "broadcast": ["Receive"],
+    "pulse": ["Wait", "Signal"],
+    "meeting": ["Wait"],
+    "allocator": ["Request", "Claim"],
+    "relay": ["First"],
+    "trap": ["Wait(1)", "Wait(2)", "Wait(3)", "Fail", "Exact"],
+}
+PROCEDURE = {"signal": "Send", "broadcast": "Send", "allocator": "Release", "relay": "Set", "trap": "Set"}
+REFUSED = ["Nothing", "Put(1)", "Wait", "Wait(0)", "Wait(4)", "Reset", "Grant(1)", "Grant(99)", "Second", "Third", "Exact(2)"]
+GREAT = [2**32, 2**32 - 1, 2**63, 2**64 - 1]
+
+
+class Maker:
+    """A script in the making, and what the exclusions need to know of its object."""
+
+    def __init__(self, chance):
+        self.chance = chance
+        self.unit = chance.choice(sorted(ENTRIES))
+        self.size = chance.randint(1, 5)
+        self.lines = [f"unit {self.unit}" + (f" {self.size}" if self.unit in PARAMETER else "")]
+        # How often each entry is called, and each command comes, so that now one queue gets long and now another.
+        self.weights = [chance.choice([1, 3, 9]) for _ in ENTRIES[self.unit]]
+        self.commands = [50, chance.choice([5, 15, 40]), chance.choice([5, 25]), chance.choice([5, 20]), 4]
+        self.clock = 0
+        self.calls = 0
+        self.level = 0
+        # The calls of a relay that wait on Second.
+        self.protected = set()
+
+    def value(self):
+        """A value that says something to the unit, mostly."""
+        if self.chance.random() < 0.03:
+            return self.chance.choice(GREAT)
+        if self.unit == "allocator":
+            return self.chance.choices(range(self.size + 2), [1] + [6] * self.size + [1])[0]
+        if self.unit == "relay":
+            return self.chance.choice([0, 1, 2, 3])
+        if self.unit == "trap":
+            return self.chance.choice([0, 1, 1, 1, 2, 2, 3, 4, 13, 13])
+        return self.chance.randint(0, 99)
+
+    def may_open_by_being_counted(self, entry):
+        """Whether a conditional call of the entry could open it by its own count."""
+        if self.unit == "meeting":
+            return self.calls + 1 >= self.size
+        return entry == "Exact" and 0 < self.level <= self.calls + 1
+
+    def kind(self, entry):
+        """The first words of a call of the entry."""
+        kind = self.chance.choice(["call", "call", "call", "cond", "timed"])
+        if kind == "cond" and (self.unit == "relay" or self.may_open_by_being_counted(entry)):
+            kind = "call"
+        if kind != "timed":
+            return kind
+        later = 1_000_000 if self.unit == "relay" and self.level == 0 else self.chance.choice([-1, 0, 1, 1, 2, 2, 3, 9])
+        return f"timed {max(0, self.clock + later)}"
+
+    def call(self):
+        """A call of one of the entries."""
+        entry = self.chance.choices(ENTRIES[self.unit], self.weights)[0]
+        value = self.value()
+        self.lines.append(f"{self.kind(entry)} {entry} {value}")
+        self.calls += 1
+        if self.unit == "relay" and self.level == 0:
+            self.protected.add(self.calls)
+        if entry == "Fail":
+            self.level = value
+
+    def procedure(self):
+        """A call of the procedure, where the unit has one."""
+        if self.unit not in PROCEDURE:
+            return self.call()
+        value = self.value()
+        self.lines.append(f"proc {PROCEDURE[self.unit]} {value}")
+        if PROCEDURE[self.unit] == "Set":
+            self.level = value
+            if value > 0:
+                self.protected.clear()
+
+    def cancel(self):
+        """An attempt to cancel one of the last calls mostly, sometimes any number, or one that no call has."""
+        lately = self.calls > 0 and self.chance.random() < 0.8
+        number = self.chance.randint(max(1, self.calls - 4), self.calls) if lately else self.chance.randint(0, self.calls + 1)
+        if number not in self.protected:
+            self.lines.append(f"cancel {number}")
+
+    def tick(self):
+        """A tick, seldom backwards."""
+        to = max(0, self.clock + self.chance.randint(-1, 4))
+        self.clock = max(self.clock, to)
+        self.lines.append(f"tick {to}")
+
+    def refused(self):
+        """A command that the unit refuses."""
+        entry = self.chance.choice(REFUSED)
+        command = f"call {entry}" if entry not in ENTRIES[self.unit] else "proc State"
+        self.lines.append(f"{command} {self.value()}")
+
+    def command(self):
+        """One command more."""
+        makers = [self.call, self.procedure, self.cancel, self.tick, self.refused]
+        self.chance.choices(makers, self.commands)[0]()
+        if self.chance.random() < 0.1:
+            self.lines.append(f"func State {self.value()}")
+
+
+def script(seed, place):
+    """The script at that place among those of the seed."""
+    maker = Maker(random.Random(f"{seed} {place}"))
+    for _ in range(maker.chance.randint(6, 30)):
+        maker.command()
+    if maker.chance.random() < 0.2:
+        maker.lines.append("final")
+        maker.command()
+        maker.command()
+    return "".join(f"{line}\n" for line in maker.lines)

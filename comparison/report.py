@@ -1,0 +1,154 @@
+"""What the commands print."""
+
+import concurrent.futures
+
+import programs
+
+DIFFERENCES = programs.HERE / "differences"
+# How many scripts are compared at a time.
+AT_A_TIME = 2
+
+
+def not_expressible(file):
+    """Why Ada can't express the script, or None where it can."""
+    words = file.with_suffix(".words")
+    if words.exists() and words.read_bytes().split() != [b"run"]:
+        return "no script: it is about the command line"
+    text = file.read_bytes().decode(errors="replace")
+    if programs.of_pobj(text) is None:
+        return "a fault of the script itself"
+    for command in programs.commands(text)[:1]:
+        unit = command.split()
+        if "max" in unit:
+            return "max: the bound of a queue is static in Ada (D.4, D.7)"
+        if "oldest" in unit or "rotating" in unit:
+            return "another service order than GNAT's"
+    return None
+
+
+def stated(name):
+    """What a page says that GNAT writes on the script of that name, or None where there is no page."""
+    file = DIFFERENCES / f"{name}.gnat"
+    return programs.comparable(file.read_text()) if file.exists() else None
+
+
+def compared(file):
+    """What there is to say of a script of examples/ or cases/, and whether it is good."""
+    why = not_expressible(file)
+    if why is not None:
+        return f"not expressible: {why}", True
+    text = file.read_text()
+    ours, theirs = programs.answers(programs.shown(text))
+    if ours == theirs:
+        return "same", True
+    page = stated(file.stem)
+    if page is not None and programs.answers(text, page)[1] == page:
+        return f"differs, explained in comparison/differences/{file.stem}.why", True
+    return "DIFFERS, and nothing explains it", False
+
+
+def difference(file):
+    """What there is to say of a script that shows a difference, and whether it is good."""
+    text = file.read_text()
+    page = stated(file.stem)
+    ours, theirs = programs.answers(text, page)
+    if ours != programs.comparable(file.with_suffix(".out").read_text()):
+        return "pobj DOESN'T WRITE what the page says", False
+    if theirs == page:
+        return f"differs, explained in {file.with_suffix('.why').name}", True
+    if theirs == ours:
+        return "same: this GNAT is another one than the page speaks of", True
+    return "DIFFERS in another way than the page says", False
+
+
+def two_functions(_):
+    """What there is to say of two functions of one object that are called at the same time, and that it is good: both are
+    allowed."""
+    name = "functions_exclude_each_other"
+    ended = programs.run([str(programs.OUT / "two_functions")], "")
+    if ended.stdout.splitlines() == stated(name):
+        return f"differs, explained in {name}.why", True
+    return f"this GNAT says: {ended.stdout.strip()}", True
+
+
+def scripts_in(folder):
+    """The scripts of the folder by name."""
+    return sorted(folder.glob("*.pobj"))
+
+
+def scripts():
+    """Prints the table of all scripts, and gives the status."""
+    good = True
+    rows = [(file, compared) for folder in ("examples", "cases") for file in scripts_in(programs.TOP / folder)]
+    rows += [(file, difference) for file in scripts_in(DIFFERENCES)]
+    rows.append((programs.HERE / "ada" / "two_functions.adb", two_functions))
+    names = [str(file.relative_to(programs.TOP)) for file, _ in rows]
+    width = max(len(name) for name in names)
+    print(f"{'script':<{width}} result")
+    for name, (file, judge) in zip(names, rows):
+        result, is_good = judge(file)
+        good = good and is_good
+        print(f"{name:<{width}} {result}", flush=True)
+    print("each difference is explained" if good else "a difference isn't explained: ./compare script FILE shows it")
+    return 0 if good else 1
+
+
+def by_command(text, lines):
+    """The commands of a script with what was written at each, up to the end of the `show` behind it."""
+    rest = iter(lines)
+    for command in programs.commands(text):
+        ends, written = (2 if command.split(" ")[0] == "show" else 1), []
+        while ends > 0 and (line := next(rest, None)) is not None:
+            written.append(line)
+            ends -= line.startswith("next ")
+        yield command, written
+
+
+def print_first_difference(text, ours, theirs):
+    """Prints the script up to the first command at which the answers differ, and what each wrote at it and behind it."""
+    for (command, one), (_, other) in zip(by_command(text, ours), by_command(text, theirs)):
+        print(f"  {command}")
+        if one != other:
+            print("pobj, with the queues after it:", *one, sep="\n  ")
+            print("GNAT, with the queues after it:", *other, sep="\n  ")
+            return
+
+
+def one_script(file):
+    """Compares one script, and gives the status."""
+    why = not_expressible(file)
+    if why is not None:
+        print(f"not expressible: {why}")
+        return 0
+    text = file.read_text()
+    ours, theirs = programs.answers(programs.shown(text))
+    if ours == theirs:
+        print("same")
+        return 0
+    print_first_difference(text, ours, theirs)
+    return 1
+
+
+def random_ones(seed, count, script):
+    """Compares random scripts, and gives the status. The first one that differs is kept as a file."""
+    def judge(place):
+        text = script(seed, place)
+        ours, theirs = programs.answers(programs.shown(text))
+        return place, text, ours, theirs
+
+    agree, first = 0, None
+    with concurrent.futures.ThreadPoolExecutor(AT_A_TIME) as pool:
+        for place, text, ours, theirs in pool.map(judge, range(count)):
+            if ours == theirs:
+                agree += 1
+            elif first is None:
+                first = place, text, ours, theirs
+    print(f"{agree} of {count} random scripts agree (seed {seed})")
+    if first is None:
+        return 0
+    place, text, ours, theirs = first
+    kept = programs.OUT / f"random_{seed}_{place}.pobj"
+    kept.write_text(text)
+    print(f"the first that doesn't: ./compare script {kept.relative_to(programs.TOP)}")
+    print_first_difference(text, ours, theirs)
+    return 1
