@@ -3,3 +3,4 @@ pub mod Seats
 pub mod Holds
 pub mod Closing
 pub mod Faults
+pub mod LatestCalls
