@@ -2,5 +2,6 @@ pub mod Filing
 pub mod Seats
 pub mod Holds
 pub mod Closing
+pub mod Refused
 pub mod Faults
 pub mod LatestCalls

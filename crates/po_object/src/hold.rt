@@ -117,7 +117,9 @@ impl<U: Unit, C: CallLedger, P: Ledger> Hold<U, C, P> {
 
     /// The core.
     pub fn core(&self) -> &Core<U>
-        ensures { result.now ≡ self.now }
+        ensures core { result.now ≡ self.now }
+        // The ledger of calls names the declarations of the core's entries.
+        ensures shape { self.now.object.making.shape ≡ C.shape }
     {
         &self.core
     }

@@ -1,9 +1,12 @@
 //! An object that threads share: its core behind a lock, and where the callers of its seats wait.
 
-ghost use Rattle.std.specs.Prelude.{◌≡◌, IfOk, OnErr, IsSome};
+ghost use Rattle.std.specs.Prelude.{◌≡◌, None, Some, IfOk, IfErr, OnOk, OnErr, IsSome};
+ghost use Rattle.po_index.specs.Numbering.{flat_number};
 ghost use Rattle.po_calls.specs.declared.call.Deadline.TheVariants.{Never, At};
-ghost use Rattle.po_actions.specs.Refusals.{entry_of};
+ghost use Rattle.po_actions.specs.Refusals.{entry_of, entry_refusal, if_unindexed};
+ghost use Rattle.po_actions.specs.declared.refusal.Refusal.{Refusal};
 ghost use Rattle.po_object.specs.Filing.{IsFinished, IsCalled, running};
+ghost use Rattle.po_object.specs.Refused.{IsCallRefusal, IsProcedureRefusal, IsFunctionRefusal, IsTickRefusal, IsCutRefusal};
 
 use crate::hold::{Hold, Pass};
 use crate::ledgers::{CallLedger, Division};
@@ -53,7 +56,9 @@ impl<U: Unit + Drop, C: CallLedger, P: Ledger> Object<U, C, P> {
     /// Cuts the history, as `Core::cut` does.
     ///
     /// Refused 8 and 9, also on a finalized object.
-    pub fn cut<R: Wait>(&self, rt: &R) -> Result<Volume<U::Value>, Refusal> {
+    pub fn cut<R: Wait>(&self, rt: &R) -> Result<Volume<U::Value>, Refusal>
+        ensures refused { IfErr result IsCutRefusal }
+    {
         let mut hold = self.change(rt);
         let volume = hold.cut()?;
         Ok(volume)
@@ -80,6 +85,8 @@ impl<U: Unit, C: CallLedger, P: Ledger> Object<U, C, P> {
     ) -> Result<End<U::Value>, Refusal>
         requires { pass.old.pending ≡ None }
         ensures called { IfOk result (λ end. IsCalled pass.old (entry_of C.shape entry) value Never end pass.new) }
+        ensures allowed { OnOk result (entry_refusal C.shape entry None ≡ None) }
+        ensures refused { IfErr result (IsCallRefusal C.shape entry) }
         ensures unchanged { OnErr result (pass.new ≡ pass.old) }
     {
         self.ask(rt, pass, entry, value, Deadline::Never)
@@ -97,6 +104,8 @@ impl<U: Unit, C: CallLedger, P: Ledger> Object<U, C, P> {
     ) -> Result<End<U::Value>, Refusal>
         requires { pass.old.pending ≡ None }
         ensures called { IfOk result (λ end. IsCalled pass.old (entry_of C.shape entry) value (At 0) end pass.new) }
+        ensures allowed { OnOk result (entry_refusal C.shape entry None ≡ None) }
+        ensures refused { IfErr result (IsCallRefusal C.shape entry) }
         ensures unchanged { OnErr result (pass.new ≡ pass.old) }
     {
         self.ask(rt, pass, entry, value, Deadline::At(0))
@@ -116,6 +125,8 @@ impl<U: Unit, C: CallLedger, P: Ledger> Object<U, C, P> {
     ) -> Result<End<U::Value>, Refusal>
         requires { pass.old.pending ≡ None }
         ensures called { IfOk result (λ end. IsCalled pass.old (entry_of C.shape entry) value (At deadline) end pass.new) }
+        ensures allowed { OnOk result (entry_refusal C.shape entry None ≡ None) }
+        ensures refused { IfErr result (IsCallRefusal C.shape entry) }
         ensures unchanged { OnErr result (pass.new ≡ pass.old) }
     {
         self.ask(rt, pass, entry, value, Deadline::At(deadline))
@@ -133,6 +144,7 @@ impl<U: Unit, C: CallLedger, P: Ledger> Object<U, C, P> {
     ) -> Result<Result<U::Value, u32>, Refusal>
         requires { pass.old.pending ≡ None }
         ensures ran { IfOk result (λ reply. pass.new ≡ running pass.old op value reply) }
+        ensures refused { IfErr result IsProcedureRefusal }
         ensures unchanged { OnErr result (pass.new ≡ pass.old) }
     {
         let mut hold = self.change(rt);
@@ -151,14 +163,18 @@ impl<U: Unit, C: CallLedger, P: Ledger> Object<U, C, P> {
         rt: &R,
         op: u16,
         value: U::Value,
-    ) -> Result<Result<U::Value, u32>, Refusal> {
+    ) -> Result<Result<U::Value, u32>, Refusal>
+        ensures refused { IfErr result IsFunctionRefusal }
+    {
         self.look(rt).core().read(op, value)
     }
 
     /// Raises the clock to t, if it is lower, and answers the clock.
     ///
     /// Refused as `Core::tick` is.
-    pub fn tick<R: Wait>(&self, rt: &R, t: u64) -> Result<u64, Refusal> {
+    pub fn tick<R: Wait>(&self, rt: &R, t: u64) -> Result<u64, Refusal>
+        ensures refused { IfErr result IsTickRefusal }
+    {
         let mut hold = self.change(rt);
         let clock = hold.tick(t)?;
         let sleepers = self.tell(&hold, None);
@@ -170,7 +186,9 @@ impl<U: Unit, C: CallLedger, P: Ledger> Object<U, C, P> {
     /// Finalizes the object: Program_Error is raised at each queued call (9.4). No memory is taken.
     ///
     /// Refused as `Core::finalize` is.
-    pub fn finalize<R: Wait>(&self, rt: &R) -> Result<(), Refusal> {
+    pub fn finalize<R: Wait>(&self, rt: &R) -> Result<(), Refusal>
+        ensures refused { IfErr result (λ r. r ≡ Refusal.Finalized) }
+    {
         let mut hold = self.change(rt);
         hold.finalize()?;
         let sleepers = self.tell(&hold, None);
@@ -182,7 +200,9 @@ impl<U: Unit, C: CallLedger, P: Ledger> Object<U, C, P> {
     /// Attempts to cancel the seat's earliest queued call (9.5.3, 9.5.4). No memory is taken.
     ///
     /// Refused 10, where no call of the seat is queued.
-    pub fn abort_seat<R: Wait>(&self, rt: &R, seat: u16) -> Result<Aborted, Refusal> {
+    pub fn abort_seat<R: Wait>(&self, rt: &R, seat: u16) -> Result<Aborted, Refusal>
+        ensures refused { IfErr result (λ r. r ≡ Refusal.NoCall) }
+    {
         let mut hold = self.change(rt);
         let aborted = hold.abort_seat(seat)?;
         let sleepers = self.tell(&hold, None);
@@ -195,7 +215,10 @@ impl<U: Unit, C: CallLedger, P: Ledger> Object<U, C, P> {
     /// was being handed on. No memory is taken.
     ///
     /// Refused as `Core::count` is.
-    pub fn try_count(&self, entry: EntryRef) -> Result<Option<u64>, Refusal> {
+    pub fn try_count(&self, entry: EntryRef) -> Result<Option<u64>, Refusal>
+        ensures allowed { IfOk result (λ count. IsSome count → if_unindexed (flat_number C.shape entry) None ≡ None) }
+        ensures refused { IfErr result (λ r. if_unindexed (flat_number C.shape entry) None ≡ Some r) }
+    {
         match self.hold.try_read() {
             Some(hold) => Ok(Some(hold.core().count(entry)?)),
             None => Ok(None),
@@ -230,6 +253,8 @@ impl<U: Unit, C: CallLedger, P: Ledger> Object<U, C, P> {
     ) -> Result<End<U::Value>, Refusal>
         requires { pass.old.pending ≡ None }
         ensures called { IfOk result (λ end. IsCalled pass.old (entry_of C.shape entry) value deadline end pass.new) }
+        ensures allowed { OnOk result (entry_refusal C.shape entry None ≡ None) }
+        ensures refused { IfErr result (IsCallRefusal C.shape entry) }
         ensures unchanged { OnErr result (pass.new ≡ pass.old) }
     {
         let mut hold = self.change(rt);

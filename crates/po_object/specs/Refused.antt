@@ -1,0 +1,31 @@
+-- Which refusals a call of an object may meet (this project's own). What lies behind the lock isn't known, but for the
+-- declarations of its entries.
+use Rattle.std.specs.Prelude.{◌≡◌, ◌⊎◌, List, Some, None}
+use Rattle.po_index.specs.declared.decl.Decl.{Decl}
+use Rattle.po_index.specs.declared.decl.EntryRef.{EntryRef}
+use Rattle.po_actions.specs.Refusals.{entry_refusal}
+use Rattle.po_actions.specs.declared.refusal.Refusal.{Refusal}
+use Rattle.po_actions.specs.declared.refusal.Refusal.TheVariants.{NoSuchOperation, Finalized, NumbersSpent, OutOfMemory}
+
+-- of a call on an entry: that of the entry, whatever the object's state, else of the state, or memory is wanting
+abbrev pub IsCallRefusal : List Decl → EntryRef → Refusal → Type 0
+IsCallRefusal shape entry r =
+    (r ≡ OutOfMemory)
+    ⊎ (entry_refusal shape entry None ≡ Some r)
+    ⊎ ((entry_refusal shape entry None ≡ None) × ((r ≡ Finalized) ⊎ (r ≡ NumbersSpent)))
+
+-- of a procedure
+abbrev pub IsProcedureRefusal : Refusal → Type 0
+IsProcedureRefusal r = (r ≡ OutOfMemory) ⊎ (r ≡ NoSuchOperation) ⊎ (r ≡ Finalized) ⊎ (r ≡ NumbersSpent)
+
+-- of a function
+abbrev pub IsFunctionRefusal : Refusal → Type 0
+IsFunctionRefusal r = (r ≡ NoSuchOperation) ⊎ (r ≡ Finalized)
+
+-- of a tick
+abbrev pub IsTickRefusal : Refusal → Type 0
+IsTickRefusal r = (r ≡ OutOfMemory) ⊎ (r ≡ Finalized)
+
+-- of a cut
+abbrev pub IsCutRefusal : Refusal → Type 0
+IsCutRefusal r = (r ≡ OutOfMemory) ⊎ (r ≡ NumbersSpent)
