@@ -3,6 +3,7 @@ pub mod Counting
 pub mod CutLemmas
 pub mod Ends
 pub mod Falls
+pub mod Finds
 pub mod Histories
 pub mod Looks
 pub mod Noted
@@ -12,6 +13,7 @@ pub mod Picks
 pub mod PlaceSteps
 pub mod Places
 pub mod PlacesKept
+pub mod Remaining
 pub mod Runs
 pub mod Settling
 pub mod Soundness

@@ -1,8 +1,8 @@
 //! A protected object between two protected actions: its core, which carries out every operation on it.
 
-ghost use Rattle.std.specs.Prelude.{◌≡◌, ◌≢◌, ◌∷◌, ◌++◌, [], ◌↔◌, slice_index, None, Some, find, option_map, unwrap_or, Option, List, true, IfOk, IfErr, IfNone, OnSome, MatchResult, OnOk, OnErr};
+ghost use Rattle.std.specs.Prelude.{◌≡◌, ◌≢◌, ◌∷◌, ◌++◌, [], ◌↔◌, slice_index, None, Some, find, option_map, unwrap_or, Option, is_some, List, true, IfOk, IfErr, IfNone, OnSome, MatchResult, OnOk, OnErr};
 ghost use Rattle.po_index.specs.Numbering.{entry_count, flat_number, is_public};
-ghost use Rattle.po_accepted.specs.WaitingCalls.{is_of};
+ghost use Rattle.po_accepted.specs.WaitingCalls.{has_number, is_of};
 ghost use Rattle.po_actions.specs.ObjectState.{counts_in};
 ghost use Rattle.po_accepted.specs.Ending.{has_ended};
 ghost use Rattle.po_actions.specs.View.{next_place, ended_now, opening_view, base_state};
@@ -412,6 +412,13 @@ impl<U: Unit> Core<U> {
         ensures { result ≡ option_map (λ x. x.number) (find (is_of owner) self.now.object.state.waiting) }
     {
         self.recorded.state().waiting_of(owner)
+    }
+
+    /// Whether the call with number n is queued.
+    pub fn is_waiting(&self, n: u64) -> bool
+        ensures { result ≡ is_some (find (has_number n) self.now.object.state.waiting) }
+    {
+        self.recorded.state().waiting_call(n).is_some()
     }
 
     /// The number that the next call gets.

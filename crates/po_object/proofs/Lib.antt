@@ -1,4 +1,5 @@
 pub mod Counting
+pub mod LatestKept
 pub mod Refused
 pub mod Seating
 pub mod Shared

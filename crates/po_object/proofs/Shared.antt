@@ -10,6 +10,7 @@ use Rattle.std.proofs.sync.ledger.Book.TheSendSync as book
 use Rattle.std.specs.contracts.sync.ledger.Share as Share
 use Rattle.std.proofs.sync.ledger.Share.TheSendSync as share
 use Rattle.po_object.proofs.hold.Hold.TheSendSync as hold
+use Rattle.po_object.proofs.latest.LatestCalls.TheSendSync as latest
 use Rattle.po_actions.proofs.object_core.Core.TheSendSync as core
 use Rattle.po_unit.specs.declared.unit.Unit as Unit
 use Rattle.std.specs.declared.cmp.PartialEq as PartialEq
@@ -34,7 +35,7 @@ pub share_sync : (T : RattleType) (g : Ghosts T.Denot) → IsSync (Share.the_row
 share_sync T g = record { shared = λ d b o κ q. whole-keyless _ _ (λ z vs. (share.the_send T g).owned z vs) q d b o }
 
 pub hold_sync : (T T' T'' T3 : RattleType) (g : Unit.Ghosts T.Denot T3.Denot) (e : PartialEq.Ghosts T3.Denot) (l : CallLedger.Ghosts T'.Denot) (g' : Ghosts T'.Denot) (g'' : Ghosts T''.Denot) → IsSync T → IsSync T3 → IsSync (Hold.the_row T T' T'' T3 g e l g' g'')
-hold_sync T T' T'' T3 g e l g' g'' s s3 = let c = core.the_sync in search (sendable, core.the_sync, book_sync, share_sync) depth 14
+hold_sync T T' T'' T3 g e l g' g'' s s3 = let c = core.the_sync in search (sendable, core.the_sync, book_sync, share_sync, latest.the_sync) depth 14
 
 pub object_sync : (T T' T'' T3 : RattleType) (g : Ghosts T'.Denot) (g' : Ghosts T''.Denot) (g'' : Unit.Ghosts T.Denot T3.Denot) (e : PartialEq.Ghosts T3.Denot) (l : CallLedger.Ghosts T'.Denot) → IsSend T → IsSync T → IsSend T3 → IsSync T3 → IsSync (Object.the_row T T' T'' T3 g g' g'' e l)
 object_sync T T' T'' T3 g g' g'' e l n s n3 s3 =

@@ -4,3 +4,4 @@ pub mod Holds
 pub mod Closing
 pub mod Refused
 pub mod Faults
+pub mod LatestCalls

@@ -1,6 +1,6 @@
 //! What lies behind an object's lock, with the pass by which callers come to it.
 
-ghost use Rattle.std.specs.Prelude.{◌≡◌, ◌+◌, ◌⊎◌, ◌∷◌, ◌++◌, [], None, Some, find, unwrap_or, List, IfOk, IfErr, IfSome, IfNone, IsSome, OnOk, OnErr, OnSome, MatchResult};
+ghost use Rattle.std.specs.Prelude.{◌≡◌, ◌+◌, ◌⊎◌, ◌∷◌, ◌++◌, [], None, Some, find, length, unwrap_or, List, IfOk, IfErr, IfSome, IfNone, IsSome, OnOk, OnErr, OnSome, MatchResult};
 ghost use Rattle.po_accepted.specs.Tickets.{number_at, SetsTicket};
 ghost use Rattle.po_accepted.specs.WaitingCalls.{is_of};
 ghost use Rattle.po_accepted.specs.Finding.{IsFound};
@@ -16,7 +16,9 @@ ghost use Rattle.po_actions.specs.declared.refusal.Refusal.{Refusal};
 ghost use Rattle.po_receipts.specs.Passes.{PassView};
 ghost use Rattle.po_object.specs.Filing.{IsFinished, asking, running};
 ghost use Rattle.po_object.specs.Holds.{IsCounted};
+ghost use Rattle.po_object.specs.LatestCalls.{NoneIssued};
 
+use crate::latest::LatestCalls;
 use crate::ledgers::CallLedger;
 pub use crate::pass::Pass;
 use po_actions::{Aborted, Core, Deadline, End, Event, Refusal, Ticket, Volume};
@@ -29,7 +31,8 @@ use std::sync::ledger::{Book, Ledger, Share};
 /// The core of an object, with the books of its ledgers. Contracts see it as its core, so the headline holds of it.
 ///
 /// A hold of the lock is one command of the core, or a look at it. In its whole history the core has issued as many calls as
-/// the passes have in their tallies, and run as many procedures.
+/// the passes have in their tallies, and run as many procedures. By what is known of each seat's latest call, its waiting one
+/// is found at flat cost.
 #[derive(Drop)]
 pub struct Hold<U: Unit, C: CallLedger, P: Ledger> {
     core: Core<U>,
@@ -37,12 +40,14 @@ pub struct Hold<U: Unit, C: CallLedger, P: Ledger> {
     procedures: Book<P>,
     last_calls: Share<C>,
     last_procedures: Share<P>,
+    latest: LatestCalls,
 }
 
 impl<U: Unit, C: CallLedger, P: Ledger> Model for Hold<U, C, P> {
-    ghost use Rattle.std.specs.Prelude.{◌≡◌};
+    ghost use Rattle.std.specs.Prelude.{◌≡◌, ◌+◌, length};
     ghost use Rattle.po_actions.specs.Tickets.{CoreView};
     ghost use Rattle.po_object.specs.Holds.{IsCounted};
+    ghost use Rattle.po_object.specs.LatestCalls.{IsTrueOfAll};
 
     ghost Value = { CoreView U U.Value };
 
@@ -53,6 +58,8 @@ impl<U: Unit, C: CallLedger, P: Ledger> Model for Hold<U, C, P> {
       parts : (h.last_calls.parts ≡ 1) × (h.last_procedures.parts ≡ 1);
       amounts : (h.last_calls.amount ≡ 0) × (h.last_procedures.amount ≡ 0);
       shape : h.core.object.making.shape ≡ C.shape;
+      latest : IsTrueOfAll h.latest h.core.object.state;
+      seats : length h.latest + 1 ≡ C.parts;
     } };
 }
 
@@ -86,20 +93,25 @@ impl<U: Unit, C: CallLedger, P: Ledger> Hold<U, C, P> {
         procedures: Book<P>,
         last_calls: Share<C>,
         last_procedures: Share<P>,
+        latest: LatestCalls,
     ) -> Hold<U, C, P>
         requires fresh { (core.object.state.next ≡ core.object.making.first_number) × (procedures_run core.object ≡ 0) }
         requires shape { core.object.making.shape ≡ C.shape }
         requires totals { (calls.total ≡ 0) × (procedures.total ≡ 0) }
         requires parts { (last_calls.parts ≡ 1) × (last_procedures.parts ≡ 1) }
         requires amounts { (last_calls.amount ≡ 0) × (last_procedures.amount ≡ 0) }
+        requires seats { length latest + 1 ≡ C.parts }
+        requires latest { NoneIssued (length latest) latest }
         ensures { result ≡ core }
     {
+        core.headline();
         Hold {
             core,
             calls,
             procedures,
             last_calls,
             last_procedures,
+            latest,
         }
     }
 
@@ -147,11 +159,14 @@ impl<U: Unit, C: CallLedger, P: Ledger> Hold<U, C, P> {
     {
         let number = number_of(&self.core, entry);
         pass.receipts.reserve(1)?;
+        self.core.headline();
+        let idle = self.latest.is_idle(&self.core, pass.seat);
         let ticket = self.core.issue(pass.seat, entry, value, deadline)?;
         let _next = self.core.next();
         self.calls.audit(&mut pass.made);
         self.calls.add(&mut pass.made, 1);
         pass.calls += 1;
+        self.latest.note(pass.seat, ticket.number, idle);
         pass.pending = Some(Asked {
             ticket,
             entry: number,
@@ -271,7 +286,7 @@ impl<U: Unit, C: CallLedger, P: Ledger> Hold<U, C, P> {
         ensures unchanged { OnErr result (self.new ≡ self.old) }
     {
         self.core.headline();
-        let Some(number) = self.core.waiting_of(seat) else {
+        let Some(number) = self.latest.waiting_of(&self.core, seat) else {
             return Err(Refusal::NoCall);
         };
         let aborted = self.core.abort(number)?;
@@ -291,6 +306,7 @@ impl<U: Unit, C: CallLedger, P: Ledger> Hold<U, C, P> {
             procedures,
             last_calls,
             last_procedures,
+            latest: _latest,
         } = self;
         (core, calls, procedures, last_calls, last_procedures)
     }

@@ -4,6 +4,7 @@
 mod closing;
 mod fault;
 pub mod hold;
+mod latest;
 mod ledgers;
 mod object;
 mod opening;

@@ -4,9 +4,11 @@ ghost use Rattle.std.specs.Prelude.{◌≡◌, ◌+◌, ◌≤◌, [], IfOk, IfE
 ghost use Rattle.po_actions.specs.View.{next_place};
 ghost use Rattle.po_object.specs.Seats.{AreFresh};
 ghost use Rattle.po_object.specs.Faults.{HandsBack};
+ghost use Rattle.po_object.specs.LatestCalls.{NoneIssued};
 
 use crate::fault::OpenFault;
 use crate::hold::{Hold, Pass};
+use crate::latest::LatestCalls;
 use crate::ledgers::{CallLedger, Division};
 use crate::object::Object;
 use crate::seat::Seat;
@@ -52,6 +54,7 @@ impl<U: Unit, C: CallLedger, P: Ledger> Object<U, C, P> {
             room,
             counts,
             passes,
+            latest,
         } = places;
         let (calls, mut last_calls) = calls.open::<C>();
         let (procedures, mut last_procedures) = procedures.open::<P>();
@@ -63,7 +66,7 @@ impl<U: Unit, C: CallLedger, P: Ledger> Object<U, C, P> {
             &mut last_calls,
             &mut last_procedures,
         );
-        let hold = Hold::new(core, calls, procedures, last_calls, last_procedures);
+        let hold = Hold::new(core, calls, procedures, last_calls, last_procedures, latest);
         let object = Object {
             hold: RwLock::new(hold),
             seats: places,
@@ -94,6 +97,8 @@ struct Places<V: Copy, C: Ledger, P: Ledger> {
     counts: Vec<usize>,
     /// Room for the passes.
     passes: Vec<Pass<V, C, P>>,
+    /// That no seat has issued a call.
+    latest: LatestCalls,
 }
 
 /// Takes all memory that an object with so many seats needs.
@@ -105,7 +110,9 @@ fn make_places<V: Copy, C: Ledger, P: Ledger>(
     ensures places { IfOk result (λ p. vec_len p.places ≡ seats) }
     ensures room { IfOk result (λ p. (vec_len p.room ≡ seats) × (vec_len p.counts ≡ seats)) }
     ensures passes { IfOk result (λ p. (p.passes.items ≡ []) × (seats ≤ vec_capacity p.passes)) }
+    ensures latest { IfOk result (λ p. NoneIssued seats p.latest) }
 {
+    let latest = LatestCalls::new(alloc, seats)?;
     let mut parkers = Vec::new(alloc);
     let mut places = Vec::new(alloc);
     let mut room = Vec::new(alloc);
@@ -126,6 +133,7 @@ fn make_places<V: Copy, C: Ledger, P: Ledger>(
         room,
         counts,
         passes,
+        latest,
     })
 }
 
@@ -142,6 +150,7 @@ fn hand_out<V: Copy, C: Ledger, P: Ledger>(
     requires room { (room.items ≡ []) × (seats ≤ vec_capacity room) }
     requires parts { (last_calls.old.parts ≡ seats + 1) × (last_procedures.old.parts ≡ seats + 1) }
     requires amounts { (last_calls.old.amount ≡ 0) × (last_procedures.old.amount ≡ 0) }
+    requires seats { C.parts ≡ seats + 1 }
     ensures passes { AreFresh seats result.items }
     ensures parts { (last_calls.new.parts ≡ 1) × (last_procedures.new.parts ≡ 1) }
     ensures amounts { (last_calls.new.amount ≡ 0) × (last_procedures.new.amount ≡ 0) }

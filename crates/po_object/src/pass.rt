@@ -1,6 +1,6 @@
 //! What a caller carries.
 
-ghost use Rattle.std.specs.Prelude.{◌≡◌, ◌≤◌, ◌+◌, ◌↔◌, true, IsSome};
+ghost use Rattle.std.specs.Prelude.{◌≡◌, ◌<◌, ◌≤◌, ◌+◌, ◌↔◌, true, IsSome};
 ghost use Rattle.po_receipts.specs.Passes.{PassView, IsTallied, fresh};
 
 use crossbeam_utils::sync::Parker;
@@ -25,7 +25,7 @@ pub struct Pass<V: Copy, C: Ledger, P: Ledger> {
 }
 
 impl<V: Copy, C: Ledger, P: Ledger> Model for Pass<V, C, P> {
-    ghost use Rattle.std.specs.Prelude.{◌≡◌, ◌<◌, IsSome, vec_len, vec_capacity};
+    ghost use Rattle.std.specs.Prelude.{◌≡◌, ◌<◌, ◌+◌, IsSome, vec_len, vec_capacity};
     ghost use Rattle.po_receipts.specs.Passes.{PassView, IsTallied};
 
     ghost Value = { PassView V };
@@ -49,6 +49,7 @@ impl<V: Copy, C: Ledger, P: Ledger> Model for Pass<V, C, P> {
       parts : (p.made.parts ≡ 1) × (p.ran.parts ≡ 1);
       amounts : (p.made.amount ≡ p.calls) × (p.ran.amount ≡ p.procedures);
       room : IsSome p.pending → vec_len p.receipts < vec_capacity p.receipts;
+      seat : p.seat + 1 < C.parts;
     } };
 }
 
@@ -62,6 +63,8 @@ impl<V: Copy, C: Ledger, P: Ledger> Pass<V, C, P> {
     ) -> Pass<V, C, P>
         requires parts { (made.parts ≡ 1) × (ran.parts ≡ 1) }
         requires amounts { (made.amount ≡ 0) × (ran.amount ≡ 0) }
+        // The ledger has a part for each seat, and one more.
+        requires seat { seat + 1 < C.parts }
         ensures { result ≡ fresh seat }
     {
         Pass {

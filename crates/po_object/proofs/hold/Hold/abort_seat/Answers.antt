@@ -1,6 +1,7 @@
 use Rattle.std.proofs.Common.{◌∙◌, sym}
 use Rattle.po_accepted.specs.WaitingCalls.{is_of}
 use Rattle.po_object.proofs.Counting.{counted-abort_of, abort-shape}
+use Rattle.po_object.proofs.LatestKept.{known-abort_of}
 use Rattle.po_object.proofs.Waits.{found-unrefused}
 use Rattle.po_object.proofs.hold.Hold.abort_seat.Goals as goal
 
@@ -18,4 +19,6 @@ invariant_of-self-2 g c =
       parts = c.self.invariant.parts;
       amounts = c.self.invariant.amounts;
       shape = abort-shape g.U.Unit.meaning _ _ _ _ c.in_ok-aborted.ensures.action ∙ c.self.invariant.shape;
+      latest = known-abort_of g.U.Unit.meaning _ _ _ _ c.in_ok-aborted.ensures.action c.self.invariant.latest;
+      seats = c.self.invariant.seats;
     }

@@ -1,0 +1,95 @@
+//! What is known of the waiting calls of each seat, so that the call of one is found without a walk over those of all.
+
+ghost use Rattle.std.specs.Prelude.{◌≡◌, ◌<◌, IfOk, None, option_map, find, length, slice_set, true, if◌then◌else◌};
+ghost use Rattle.po_accepted.specs.WaitingCalls.{is_of};
+ghost use Rattle.po_object.specs.LatestCalls.{latest_of, IsTrueOfAll, NoneIssued};
+
+use po_actions::Core;
+use po_unit::Unit;
+use std::alloc::{AllocError, Global};
+use std::marker::Model;
+
+/// What is known of the waiting calls of one seat.
+#[derive(Clone, Copy)]
+pub(crate) enum Latest {
+    /// None waits.
+    Never,
+    /// Where one waits, it is the one with this number, which the seat issued last.
+    Number(u64),
+    /// Others may wait beside the one that the seat issued last.
+    Several,
+}
+
+/// What is known of the waiting calls of each seat. Contracts see it as a list, by seat.
+///
+/// A pass asks for one thing at a time, so `Several` never comes about through an object. The value behind its lock can't
+/// know that, and walks there.
+#[derive(Drop)]
+pub(crate) struct LatestCalls {
+    by_seat: Vec<Latest>,
+}
+
+impl Model for LatestCalls {
+    ghost use Rattle.std.specs.Prelude.{List};
+    ghost use Rattle.po_object.specs.declared.latest.Latest.{Latest};
+
+    ghost Value = { List Latest };
+
+    ghost view = { λ c. c.by_seat.items };
+}
+
+impl LatestCalls {
+    /// No seat has issued a call.
+    pub(crate) fn new(alloc: Global, seats: u16) -> Result<LatestCalls, AllocError>
+        ensures { IfOk result (λ c. NoneIssued seats c) }
+    {
+        let by_seat = vec![in alloc; Latest::Never; seats as usize]?;
+        Ok(LatestCalls { by_seat })
+    }
+
+    /// What is known of the seat.
+    fn of_seat(&self, seat: u16) -> Latest
+        ensures { result ≡ latest_of self.now seat }
+    {
+        self.by_seat
+            .get(seat as usize)
+            .copied()
+            .unwrap_or(Latest::Never)
+    }
+
+    /// The number of the seat's earliest queued call.
+    pub(crate) fn waiting_of<U: Unit>(&self, core: &Core<U>, seat: u16) -> Option<u64>
+        requires { IsTrueOfAll self.now core.now.object.state }
+        ensures { result ≡ option_map (λ x. x.number) (find (is_of seat) core.now.object.state.waiting) }
+    {
+        match self.of_seat(seat) {
+            Latest::Never => None,
+            Latest::Number(n) => core.is_waiting(n).then_some(n),
+            Latest::Several => core.waiting_of(seat),
+        }
+    }
+
+    /// Whether it is known that no call of the seat waits.
+    pub(crate) fn is_idle<U: Unit>(&self, core: &Core<U>, seat: u16) -> bool
+        requires { IsTrueOfAll self.now core.now.object.state }
+        ensures { result ≡ true → find (is_of seat) core.now.object.state.waiting ≡ None }
+    {
+        match self.of_seat(seat) {
+            Latest::Never => true,
+            Latest::Number(n) => !core.is_waiting(n),
+            Latest::Several => false,
+        }
+    }
+
+    /// The seat has issued the call with this number, where `idle` says whether it was known that none of it waited.
+    pub(crate) fn note(&mut self, seat: u16, number: u64, idle: bool)
+        requires { seat < length self.old }
+        ensures { self.new ≡ slice_set self.old seat (if idle then Latest.Number number else Latest.Several) }
+    {
+        self.by_seat[seat as usize] = if idle {
+            Latest::Number(number)
+        } else {
+            Latest::Several
+        };
+    }
+}
