@@ -1,0 +1,7 @@
+//! Tests of an object behind its lock, which one thread calls.
+#![tactic(auto)]
+
+#[cfg(test)]
+mod buffers;
+#[cfg(test)]
+mod scenes;
