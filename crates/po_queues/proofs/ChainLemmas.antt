@@ -7,7 +7,7 @@ use Rattle.std.proofs.lemmas.List.{get_or-set_other, get_or_append_left, take_al
 use Rattle.std.proofs.lemmas.List.Elements.{All-nil, All-cons, All-head, All-tail, All-map}
 use Rattle.po_queues.proofs.KeyLemmas.{tail_free, tail_has}
 use Rattle.po_queues.specs.QueuedKeys.{QueuedKey, keys_of, occurs, without_key, RiseBy}
-use Rattle.po_queues.specs.Expiring.{Expiring, expiring_keys, without_expiring}
+use Rattle.po_queues.specs.Expiring.{expiring_keys, without_expiring}
 use Rattle.po_queues.specs.Timed.{with_time, with_times}
 
 -- the keys are those of the chain

@@ -1,12 +1,12 @@
 -- What the root of a tournament says of its leaves.
-use Rattle.std.proofs.Common.{◌≡◌, ◌≢◌, ℕ, zero, suc, ◌+◌, ◌-◌, ◌*◌, ◌/◌, ◌<◌, ◌≤◌, min, List, length, take, replicate}
+use Rattle.std.proofs.Common.{◌≡◌, ℕ, zero, suc, ◌+◌, ◌-◌, ◌*◌, ◌/◌, ◌<◌, ◌≤◌, List, length, take, replicate}
 use Rattle.std.proofs.Common.{◌++◌, Option, Some, None, refl, sym, ap, subst, ◌∙◌, inl, inr, arith}
 use Rattle.std.specs.Prelude.{IsSome, IfSome, slice_get}
 use Rattle.std.proofs.lemmas.Bool.{cases_eq, cases_lt}
 use Rattle.std.proofs.lemmas.List.{get_or-take, get_or_past, length-take, take_all, take-replicate}
 use Rattle.std.proofs.lemmas.Option.{get_or_from_slice_get}
 use Rattle.std.proofs.Math.Seq.{take-append-add}
-use Rattle.po_queues.specs.Least.{number_of, IsAtMost, IsLeastAt, lesser, IsMinimum, KeepsMinima}
+use Rattle.po_queues.specs.Least.{number_of, IsAtMost, IsLeastAt, lesser, KeepsMinima}
 
 -- each is at most itself
 pub at_most_same : (a : Option ℕ) → IsAtMost a a

@@ -1,17 +1,16 @@
 -- Where calls stand in two rows, once a key is added, taken out or moved, and which of them is the first that is due.
-use Rattle.std.proofs.Common.{◌≡◌, ◌≢◌, ℕ, zero, suc, ◌+◌, ◌<◌, ◌≤◌, Bool, true, false, cond, eqb, leb, List, [], ◌∷◌}
+use Rattle.std.proofs.Common.{◌≡◌, ◌≢◌, ℕ, zero, suc, ◌<◌, ◌≤◌, true, false, eqb, leb, List, [], ◌∷◌}
 use Rattle.std.proofs.Common.{◌++◌, length, set, replicate, Option, Some, None, refl, sym, ap, subst, ◌∙◌, inl, inr}
 use Rattle.std.proofs.Common.{arith}
 use Rattle.std.specs.Prelude.{IsSome, IfSome}
 use Rattle.std.specs.Option.{option_map}
 use Rattle.std.specs.List.{find, All}
 use Rattle.std.proofs.lemmas.Bool.{cases_Bool, cases_eq, cases_lt, eq-eqb, eqb-true, leb-true, le-leb, false≢true}
-use Rattle.std.proofs.lemmas.List.{get_or-set_same, get_or-set_other, get_or_past}
+use Rattle.std.proofs.lemmas.List.{get_or-set_other, get_or_past}
 use Rattle.std.proofs.lemmas.List.Elements.{All-nil, All-cons, All-head, All-tail, All-weaker}
 use Rattle.po_queues.proofs.KeyLemmas.{tail_free}
 use Rattle.po_queues.specs.QueuedKeys.{QueuedKey, occurs, stamp_of, AreDistinct, RiseBy}
-use Rattle.po_queues.specs.Expiring.{Expiring, ExpirationsView, AreSound, expiring_keys, without_expiring, is_due}
-use Rattle.po_queues.specs.Expiring.{first_due}
+use Rattle.po_queues.specs.Expiring.{Expiring, expiring_keys, without_expiring, is_due}
 use Rattle.po_queues.specs.Least.{number_of, IsAtMost, IsLeastAt}
 use Rattle.po_queues.specs.Timed.{with_times, expiring_by_key, IsPlaced, ArePlaced}
 

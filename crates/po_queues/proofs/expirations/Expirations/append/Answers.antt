@@ -1,5 +1,5 @@
 -- The key and its time are added at the end, and it stands among those that are due, or not.
-use Rattle.std.proofs.Common.{◌≡◌, ◌∙◌, sym, ap, false}
+use Rattle.std.proofs.Common.{◌∙◌, sym, ap}
 use Rattle.po_queues.specs.QueuedKeys.{occurs}
 use Rattle.po_queues.proofs.ChainLemmas.{keys_with, stamps_with}
 use Rattle.po_queues.proofs.ExpirationLemmas.{push_seen, appended_due, appended_later}

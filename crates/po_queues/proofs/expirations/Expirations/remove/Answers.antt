@@ -1,5 +1,5 @@
 -- The key is taken out of the chain, and out of the row in which it stands.
-use Rattle.std.proofs.Common.{◌≡◌, ◌<◌, ◌∙◌, sym, ap, length, arith}
+use Rattle.std.proofs.Common.{◌∙◌, sym, ap, length, arith}
 use Rattle.po_queues.specs.QueuedKeys.{occurs}
 use Rattle.po_queues.proofs.ChainLemmas.{keys_with, key_below}
 use Rattle.po_queues.proofs.ExpirationLemmas.{seen_without, taken_out, left_out}

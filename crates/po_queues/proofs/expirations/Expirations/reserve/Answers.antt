@@ -1,5 +1,5 @@
 -- Room for more keys changes nothing else.
-use Rattle.std.proofs.Common.{◌≡◌, ◌≤◌, ◌∙◌, length, arith}
+use Rattle.std.proofs.Common.{◌≤◌, length, arith}
 use Rattle.po_queues.proofs.ExpirationLemmas.{reserved}
 use Rattle.po_queues.proofs.expirations.Expirations.reserve.Goals as goal
 

@@ -1,5 +1,5 @@
 -- A call whose time has come moves to those that are due.
-use Rattle.std.proofs.Common.{◌≡◌, ◌<◌, ◌≤◌, sym, subst}
+use Rattle.std.proofs.Common.{◌<◌, ◌≤◌, sym, subst}
 use Rattle.std.specs.Prelude.{IfSome}
 use Rattle.po_queues.specs.Least.{number_of}
 use Rattle.po_queues.proofs.PlaceLemmas.{numbers, fewer_numbers}

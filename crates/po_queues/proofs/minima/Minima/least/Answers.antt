@@ -1,5 +1,5 @@
 -- The root's number is the least, and a leaf has it.
-use Rattle.std.proofs.Common.{◌≡◌, ◌∙◌, sym, ap}
+use Rattle.std.proofs.Common.{◌∙◌}
 use Rattle.po_queues.proofs.LeastLemmas.{root_is, no_number, leaf_least}
 use Rattle.po_queues.proofs.minima.Minima.least.Goals as goal
 

@@ -1,5 +1,5 @@
 -- The root's number is the least, and a leaf has it.
-use Rattle.std.proofs.Common.{◌≡◌, ◌<◌, ◌∙◌, sym, ap, subst, arith}
+use Rattle.std.proofs.Common.{◌<◌, ◌∙◌, sym, subst}
 use Rattle.std.specs.Prelude.{IfSome}
 use Rattle.po_queues.proofs.LeastLemmas.{root_is, no_number, all_above, leaf_least}
 use Rattle.po_queues.proofs.minima.Minima.least_within.Goals as goal
