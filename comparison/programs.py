@@ -56,6 +56,11 @@ def run(words, text, limit=LIMIT):
         raise Failed(f"{' '.join(words)} took more than {limit} seconds on this script:\n{text}") from late
 
 
+def text_of(file):
+    """The text of a script, whose skipped lines may hold any bytes."""
+    return file.read_bytes().decode(errors="replace")
+
+
 def of_pobj(text):
     """What pobj writes, or None where the script itself has a fault."""
     ended = run([POBJ, "run"], text)

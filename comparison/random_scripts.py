@@ -26,7 +26,7 @@ class Maker:
 
     def __init__(self, chance):
         self.chance = chance
-        self.unit = chance.choice(sorted(ENTRIES))
+        self.unit = chance.choices(list(ENTRIES), [2, 1, 1, 2, 2, 4, 2, 4])[0]
         self.size = chance.randint(1, 5)
         self.lines = [f"unit {self.unit}" + (f" {self.size}" if self.unit in PARAMETER else "")]
         # How often each entry is called, and each command comes, so that now one queue gets long and now another.
@@ -35,7 +35,8 @@ class Maker:
         self.clock = 0
         self.calls = 0
         self.level = 0
-        # The calls of a relay that wait on Second.
+        # The calls that may wait, and those that wait on Second of a relay.
+        self.may_wait = []
         self.protected = set()
 
     def value(self):
@@ -43,7 +44,7 @@ class Maker:
         if self.chance.random() < 0.03:
             return self.chance.choice(GREAT)
         if self.unit == "allocator":
-            return self.chance.choices(range(self.size + 2), [1] + [6] * self.size + [1])[0]
+            return self.chance.choices(range(self.size + 2), [1, *range(3, self.size + 3), 1])[0]
         if self.unit == "relay":
             return self.chance.choice([0, 1, 2, 3])
         if self.unit == "trap":
@@ -70,8 +71,11 @@ class Maker:
         """A call of one of the entries."""
         entry = self.chance.choices(ENTRIES[self.unit], self.weights)[0]
         value = self.value()
-        self.lines.append(f"{self.kind(entry)} {entry} {value}")
+        kind = self.kind(entry)
+        self.lines.append(f"{kind} {entry} {value}")
         self.calls += 1
+        if kind != "cond" or entry == "Claim":
+            self.may_wait.append(self.calls)
         if self.unit == "relay" and self.level == 0:
             self.protected.add(self.calls)
         if entry == "Fail":
@@ -89,11 +93,15 @@ class Maker:
                 self.protected.clear()
 
     def cancel(self):
-        """An attempt to cancel one of the last calls mostly, sometimes any number, or one that no call has."""
-        lately = self.calls > 0 and self.chance.random() < 0.8
-        number = self.chance.randint(max(1, self.calls - 4), self.calls) if lately else self.chance.randint(0, self.calls + 1)
+        """An attempt to cancel a call that may wait, or else any number."""
+        if self.may_wait and self.chance.random() < 0.85:
+            number = self.chance.choice(self.may_wait[-6:])
+        else:
+            number = self.chance.randint(0, self.calls + 1)
         if number not in self.protected:
             self.lines.append(f"cancel {number}")
+            if self.chance.random() < 0.7 and number in self.may_wait:
+                self.may_wait.remove(number)
 
     def tick(self):
         """A tick, seldom backwards."""
@@ -118,7 +126,7 @@ class Maker:
 def script(seed, place):
     """The script at that place among those of the seed."""
     maker = Maker(random.Random(f"{seed} {place}"))
-    for _ in range(maker.chance.randint(6, 30)):
+    for _ in range(maker.chance.randint(6, 36)):
         maker.command()
     if maker.chance.random() < 0.2:
         maker.lines.append("final")

@@ -14,7 +14,7 @@ def not_expressible(file):
     words = file.with_suffix(".words")
     if words.exists() and words.read_bytes().split() != [b"run"]:
         return "no script: it is about the command line"
-    text = file.read_bytes().decode(errors="replace")
+    text = programs.text_of(file)
     if programs.of_pobj(text) is None:
         return "a fault of the script itself"
     for command in programs.commands(text)[:1]:
@@ -37,7 +37,7 @@ def compared(file):
     why = not_expressible(file)
     if why is not None:
         return f"not expressible: {why}", True
-    text = file.read_text()
+    text = programs.text_of(file)
     ours, theirs = programs.answers(programs.shown(text))
     if ours == theirs:
         return "same", True
@@ -49,7 +49,7 @@ def compared(file):
 
 def difference(file):
     """What there is to say of a script that shows a difference, and whether it is good."""
-    text = file.read_text()
+    text = programs.text_of(file)
     page = stated(file.stem)
     ours, theirs = programs.answers(text, page)
     if ours != programs.comparable(file.with_suffix(".out").read_text()):
@@ -120,7 +120,7 @@ def one_script(file):
     if why is not None:
         print(f"not expressible: {why}")
         return 0
-    text = file.read_text()
+    text = programs.text_of(file)
     ours, theirs = programs.answers(programs.shown(text))
     if ours == theirs:
         print("same")

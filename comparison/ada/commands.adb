@@ -1,14 +1,14 @@
-with Ada.Exceptions; use Ada.Exceptions;
-with Ada.Real_Time; use Ada.Real_Time;
+with Ada.Exceptions;        use Ada.Exceptions;
+with Ada.Real_Time;         use Ada.Real_Time;
 with Ada.Strings.Unbounded; use Ada.Strings.Unbounded;
-with Ada.Text_IO;   use Ada.Text_IO;
+with Ada.Text_IO;           use Ada.Text_IO;
 with Ada.Unchecked_Deallocation;
-with Calls;         use Calls;
+with Calls;                 use Calls;
 with Callers;
 with Deadlines;
 with Ends;
 with Names;
-with Units;         use Units;
+with Units;                 use Units;
 
 package body Commands is
 
@@ -44,6 +44,7 @@ package body Commands is
       return Spaced (Spaced'First + 1 .. Spaced'Last);
    end Image;
 
+   --  Writes a line: the text, and the number right behind it.
    procedure Write (Text : String; Number : Value) is
    begin
       Put_Line (Text & Image (Number));
@@ -53,6 +54,7 @@ package body Commands is
    -- At rest --
    -------------
 
+   --  How many calls wait on the entries of the object.
    function Calls_Queued return Natural is
       Sum : Natural := 0;
    begin
@@ -132,6 +134,7 @@ package body Commands is
    -- Refusals --
    --------------
 
+   --  Ends the command as refused with that number where the condition holds.
    procedure Refuse_If (Condition : Boolean; Code : Positive) is
    begin
       if Condition then
@@ -177,6 +180,7 @@ package body Commands is
    -- Commands --
    --------------
 
+   --  `unit`: makes the object.
    procedure Make_Unit (Line : String) is
       Name : constant String := Scripts.Word (Line, 2);
       Size : constant String := Scripts.Word (Line, 3);
@@ -187,7 +191,7 @@ package body Commands is
       Procedure_Name := To_Unbounded_String (Object.Procedure_Name);
    end Make_Unit;
 
-   --  A timed call whose deadline is past may be queued for a moment.
+   --  `call`, `cond` and `timed`: a task makes the call. A timed one whose deadline is past may be queued for a moment.
    procedure Make_Call (To : String; How : Manner; Item : String; Is_Past : Boolean := False) is
       Its_Entry : constant Target := Named (To);
    begin
@@ -199,6 +203,7 @@ package body Commands is
       Settle;
    end Make_Call;
 
+   --  `proc`.
    procedure Run_Procedure (Name : String; Item : Value) is
       Result : Value := Item;
    begin
@@ -214,6 +219,7 @@ package body Commands is
       Settle;
    end Run_Procedure;
 
+   --  `func`.
    procedure Call_Function (Name : String) is
    begin
       Refuse_If (Name /= "State", 4);
@@ -221,6 +227,7 @@ package body Commands is
       Write ("value ", Object.State);
    end Call_Function;
 
+   --  `cancel`: a call that hasn't ended after a step of time is kept.
    procedure Cancel (Number : Value) is
    begin
       Refuse_If (Number = 0 or else Number > Value (Callers.Made), 5);
@@ -233,6 +240,7 @@ package body Commands is
       Settle;
    end Cancel;
 
+   --  `tick`: waits until the deadlines that it makes due have come and gone.
    procedure Tick (Line : Positive; To : Value) is
    begin
       Refuse_If (Finalized, 7);
@@ -247,6 +255,7 @@ package body Commands is
       Settle;
    end Tick;
 
+   --  `final`: an object that is deallocated is finalized first.
    procedure Finalize is
    begin
       Refuse_If (Finalized, 7);
@@ -256,6 +265,7 @@ package body Commands is
       Settle (Finalizing => True);
    end Finalize;
 
+   --  `show`.
    procedure Show is
       Queued : constant Counts := (if Finalized then [1 .. 1_026 => 0] else Object.Waiting);
       Place  : Positive := Queued'First;
@@ -272,6 +282,7 @@ package body Commands is
       Write ("next ", Value (Callers.Made + 1));
    end Show;
 
+   --  Carries out the command on that line.
    procedure Carry_Out_Line (Script : Scripts.Line_Vectors.Vector; Line : Positive) is
       Text    : constant String := Script (Line);
       Command : constant String := Scripts.Word (Text, 1);
