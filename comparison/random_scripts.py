@@ -29,8 +29,13 @@ class Maker:
         self.unit = chance.choices(list(ENTRIES), [2, 1, 1, 2, 2, 4, 2, 4])[0]
         self.size = chance.randint(1, 5)
         self.lines = [f"unit {self.unit}" + (f" {self.size}" if self.unit in PARAMETER else "")]
-        # How often each entry is called, and each command comes, so that now one queue gets long and now another.
-        self.weights = [chance.choice([1, 3, 9]) for _ in ENTRIES[self.unit]]
+        # How often each entry is called, in which way, and how often each command comes: scripts differ in this.
+        self.weights = [chance.choice([1, 1, 6, 20]) for _ in ENTRIES[self.unit]]
+        if self.unit == "trap" and chance.random() < 0.5:
+            # Many calls on Exact, whose barrier is the one that a cancellation can open.
+            self.weights = [1, 1, 1, 1, 60]
+        self.levels = chance.choice([[0, 1, 2], [0, 1, 2], [0, 1, 2, 3, 13]])
+        self.kinds = chance.choice([["call", "call", "cond", "timed"], ["call", "timed", "timed", "timed"]])
         self.commands = [50, chance.choice([5, 15, 40]), chance.choice([5, 25]), chance.choice([5, 20]), 4]
         self.clock = 0
         self.calls = 0
@@ -48,7 +53,7 @@ class Maker:
         if self.unit == "relay":
             return self.chance.choice([0, 1, 2, 3])
         if self.unit == "trap":
-            return self.chance.choice([0, 1, 1, 1, 2, 2, 3, 4, 13, 13])
+            return self.chance.choice(self.levels)
         return self.chance.randint(0, 99)
 
     def may_open_by_being_counted(self, entry):
@@ -59,7 +64,7 @@ class Maker:
 
     def kind(self, entry):
         """The first words of a call of the entry."""
-        kind = self.chance.choice(["call", "call", "call", "cond", "timed"])
+        kind = self.chance.choice(self.kinds)
         if kind == "cond" and (self.unit == "relay" or self.may_open_by_being_counted(entry)):
             kind = "call"
         if kind != "timed":
