@@ -1,5 +1,5 @@
 -- What is known of the calls of seats is true at first, stays true, and finds the call of a seat.
-use Rattle.std.proofs.Common.{◌≡◌, ◌≢◌, ℕ, ◌+◌, ◌<◌, ◌≤◌, ◌==◌, List, length, get_or, set, refl, subst, ap, sym, ◌∙◌, arith, inl, inr, Bool, true, false, not, Option, Some, None, Result, is_some, if◌then◌else◌}
+use Rattle.std.proofs.Common.{◌≡◌, ◌≢◌, ℕ, ◌<◌, ◌≤◌, ◌==◌, List, length, get_or, set, refl, subst, ap, sym, ◌∙◌, arith, inl, inr, Bool, true, false, not, Option, Some, None, is_some, if◌then◌else◌}
 use Rattle.std.specs.Bool.{then_some}
 use Rattle.std.specs.List.{find, All}
 use Rattle.std.specs.Option.{option_map}
@@ -18,7 +18,7 @@ use Rattle.po_actions.specs.View.{View, IsInOnePlace}
 use Rattle.po_accepted.specs.Finding.{IsFound}
 use Rattle.po_actions.specs.ProtectedAction.{IsProtectedAction, IsAbortOf, IsAbortOfCall}
 use Rattle.po_actions.specs.Cutting.{cut}
-use Rattle.po_actions.proofs.Counting.{issues, action-next}
+use Rattle.po_actions.proofs.Counting.{action-next}
 use Rattle.po_actions.proofs.Finds.{find_agree, none-found, none-passes}
 use Rattle.po_actions.proofs.Remaining.{OfIssued, of-action, waiting-issued}
 use Rattle.po_object.specs.declared.latest.Latest.{Latest}
