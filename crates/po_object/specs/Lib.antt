@@ -1,0 +1,5 @@
+pub mod Filing
+pub mod Seats
+pub mod Holds
+pub mod Closing
+pub mod Faults

@@ -1,0 +1,184 @@
+//! How an object is closed, and what is left of it.
+
+ghost use Rattle.std.specs.Prelude.{◌≡◌, ◌+◌, ◌^◌, ◌<◌, ◌≤◌, IfOk, IfErr, IfSome, IfNone, OnOk, length, vec_len, slice_index, slice_set, sum_by};
+ghost use Rattle.po_object.specs.Seats.{OneEach, IsMissing, AreBySeat, ArePlaced, AreCounts};
+ghost use Rattle.po_object.specs.Faults.{KeepsAll};
+ghost use Rattle.po_object.specs.Closing.{IsClosed, HasClosingTotals};
+
+use crate::fault::CloseFault;
+use crate::hold::{Hold, Pass};
+use crate::ledgers::{CallLedger, Division};
+use crate::object::Object;
+use po_actions::Core;
+use po_receipts::Spent;
+use po_unit::Unit;
+use std::marker::Model;
+use std::sync::ledger::{Ledger, Share};
+
+/// An object that was closed: nobody can call it any more. Contracts see it as its core and its passes.
+#[derive(Drop)]
+pub struct Closed<U: Unit> {
+    core: Core<U>,
+    passes: Vec<Spent<U::Value>>,
+}
+
+impl<U: Unit> Model for Closed<U> {
+    ghost use Rattle.po_object.specs.Closing.{ClosedView, IsClosed};
+
+    ghost Value = { ClosedView U U.Value };
+
+    ghost view = { λ c. record { core = c.core; passes = c.passes.items } };
+
+    ghost invariant = { λ c. IsClosed (record { core = c.core; passes = c.passes.items }) };
+}
+
+impl<U: Unit> Closed<U> {
+    /// The core.
+    pub fn core(&self) -> &Core<U>
+        ensures { result.now ≡ self.now.core }
+    {
+        &self.core
+    }
+
+    /// The passes, by rising seat.
+    pub fn passes(&self) -> &[Spent<U::Value>]
+        ensures { result.now ≡ self.now.passes }
+    {
+        self.passes.as_slice()
+    }
+
+    /// What holds of every closed object: the pass of a seat stands at the seat's place, and in the whole history as many
+    /// calls were issued, and as many procedures ran, as the passes counted.
+    pub fn closing_totals(&self)
+        ensures { IsClosed self.now }
+    {
+        let _ = &self.core;
+    }
+}
+
+impl<U: Unit, C: CallLedger, P: Ledger> Object<U, C, P> {
+    /// Closes the object, where each seat has exactly one of the passes. No memory is taken.
+    ///
+    /// Else the fault names the lowest seat that hasn't, and hands the object and the passes back.
+    pub fn close(self, passes: Vec<Pass<U::Value, C, P>>) -> Result<Closed<U>, CloseFault<U, C, P>>
+        ensures one_each { OnOk result (OneEach self passes.items × (length passes.items ≡ self)) }
+        ensures by_seat { IfOk result (λ closed. AreBySeat self passes.items closed.passes) }
+        ensures totals { IfOk result (λ closed. HasClosingTotals closed.core closed.passes) }
+        ensures fault { IfErr result (λ fault. KeepsAll self passes.items fault) }
+    {
+        let mut object = self;
+        if let Some(seat) = object.missing(&passes) {
+            return Err(CloseFault::PassMissing {
+                seat,
+                object,
+                passes,
+            });
+        }
+        let Object {
+            hold,
+            seats: _seats,
+            calls,
+            procedures,
+            room,
+            counts: _counts,
+        } = object;
+        let closed = gather(hold.into_inner(), room, passes, &calls, &procedures);
+        Ok(closed)
+    }
+}
+
+impl<U: Unit, C: CallLedger, P: Ledger> Object<U, C, P> {
+    /// The lowest seat that hasn't exactly one of the passes.
+    fn missing(&mut self, passes: &Vec<Pass<U::Value, C, P>>) -> Option<u16>
+        ensures same { self.new ≡ self.old }
+        ensures some { IfSome result (λ s. IsMissing self.old passes.now.items s) }
+        ensures none { IfNone result (OneEach self.old passes.now.items) }
+    {
+        count(&mut self.counts, passes);
+        for seat in 0..self.calls.seats {
+            if self.counts[seat as usize] != 1 {
+                return Some(seat);
+            }
+        }
+        None
+    }
+}
+
+/// Counts the passes of each seat.
+fn count<V: Copy, C: Ledger, P: Ledger>(counts: &mut Vec<usize>, passes: &Vec<Pass<V, C, P>>)
+    ensures { AreCounts (vec_len counts.old) passes.now.items counts.new.items }
+{
+    counts.as_mut_slice().fill(0);
+    for i in 0..passes.len() {
+        count_one(counts, passes[i].seat());
+    }
+}
+
+/// Counts one pass more of the seat, if there is such a seat.
+fn count_one(counts: &mut Vec<usize>, seat: u16)
+    requires { seat < vec_len counts.old → slice_index counts.old.items seat + 1 < 2 ^ 64 }
+    ensures within { seat < vec_len counts.old →
+        counts.new.items ≡ slice_set counts.old.items seat (slice_index counts.old.items seat + 1) }
+    ensures past { vec_len counts.old ≤ seat → counts.new.items ≡ counts.old.items }
+{
+    let seat = seat as usize;
+    if seat < counts.len() {
+        counts[seat] += 1;
+    }
+}
+
+/// Takes the core out, with the passes by rising seat.
+fn gather<U: Unit, C: CallLedger, P: Ledger>(
+    hold: Hold<U, C, P>,
+    room: Vec<Spent<U::Value>>,
+    passes: Vec<Pass<U::Value, C, P>>,
+    calls: &Division<C>,
+    procedures: &Division<P>,
+) -> Closed<U>
+    requires room { vec_len room ≡ calls.now.seats }
+    requires seats { procedures.now.seats ≡ calls.now.seats }
+    requires one_each { OneEach calls.now.seats passes.items }
+    ensures length { length passes.items ≡ calls.now.seats }
+    ensures by_seat { AreBySeat calls.now.seats passes.items result.passes }
+    ensures totals { HasClosingTotals result.core result.passes }
+{
+    let (core, mut calls_book, mut procedures_book, mut made, mut ran) = hold.take_apart();
+    let _seats = procedures.seats;
+    let spent = collect(calls.seats, room, passes, &mut made, &mut ran);
+    calls_book.audit(&mut made);
+    procedures_book.audit(&mut ran);
+    Closed {
+        core,
+        passes: spent,
+    }
+}
+
+/// Puts each pass into the room of its seat, and its parts of the ledgers to these.
+fn collect<V: Copy, C: Ledger, P: Ledger>(
+    seats: u16,
+    room: Vec<Spent<V>>,
+    passes: Vec<Pass<V, C, P>>,
+    made: &mut Share<C>,
+    ran: &mut Share<P>,
+) -> Vec<Spent<V>>
+    requires room { vec_len room ≡ seats }
+    requires parts { (made.old.parts ≡ 1) × (ran.old.parts ≡ 1) }
+    requires bound { 1 ≤ C.parts }
+    requires amounts { (made.old.amount ≡ 0) × (ran.old.amount ≡ 0) }
+    ensures room { vec_len result ≡ seats }
+    ensures parts { (made.new.parts ≡ length passes.items + 1) × (ran.new.parts ≡ length passes.items + 1) }
+    ensures bound { made.new.parts ≤ C.parts }
+    ensures calls { made.new.amount ≡ sum_by (λ pass. pass.calls) passes.items }
+    ensures procedures { ran.new.amount ≡ sum_by (λ pass. pass.procedures) passes.items }
+    ensures placed { ArePlaced seats passes.items result.items }
+{
+    let mut room = room;
+    for pass in passes {
+        let seat = pass.seat() as usize;
+        let spent = pass.spend(made, ran);
+        if seat < room.len() {
+            room[seat] = spent;
+        }
+    }
+    room
+}

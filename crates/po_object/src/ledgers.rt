@@ -1,0 +1,25 @@
+//! The two ledgers of an object: of its accepted calls, and of its procedures.
+
+ghost use Rattle.std.specs.Prelude.{◌≡◌, ◌+◌, List, []};
+ghost use Rattle.po_index.specs.declared.decl.Decl.{Decl};
+
+use std::marker::{Brand, PhantomData};
+use std::sync::ledger::Ledger;
+
+/// A ledger of accepted calls, which names the declarations of the entries that they are made on: so a call can say of its
+/// entry what only the core behind the lock knows.
+pub trait CallLedger: Ledger {
+    ghost shape: { List Decl };
+}
+
+impl CallLedger for Brand {
+    ghost shape = { [] };
+}
+
+/// That a ledger is cut into a part for each seat, and one more, which the object keeps.
+#[derive(Drop)]
+pub(crate) struct Division<L: Ledger> {
+    pub(crate) seats: u16,
+    pub(crate) of: PhantomData<L>,
+    pub(crate) ghost whole: { L.parts ≡ seats + 1 },
+}
