@@ -2,7 +2,7 @@
 //!
 //! Two producers put 100 values each into a buffer for two, and two consumers get 100 each. When they are done, one thread
 //! more calls Get on the empty buffer, and its call waits until it is cancelled. Then the object is closed, and what the
-//! callers were told is counted. What is printed is the same in every run.
+//! callers were told is compared with the history. What is printed is the same in every run.
 #![tactic(auto)]
 
 ghost use Rattle.std.specs.Prelude.{◌≡◌, ◌+◌};
@@ -12,7 +12,7 @@ use po_actions::{Aborted, Core, End, Order};
 use po_classic_units::{Buffer, ScriptUnit};
 use po_index::EntryRef;
 use po_object::hold::Pass;
-use po_object::{CallLedger, Closed, Object, Receipt};
+use po_object::{CallLedger, Closed, Object, Receipt, reconcile};
 use std::alloc::{AllocError, Global};
 use std::io::Print;
 use std::marker::Brand;
@@ -188,5 +188,7 @@ fn main(rt: HostRuntime) -> Result<()> {
     let closed = use_object::<Brand, Brand, HostRuntime>(rt, core, calls, procedures)?;
     let (completed, cancelled) = answers(&closed);
     println!(rt; "{completed} calls completed, {cancelled} cancelled")?;
+    reconcile(&closed, &[])?;
+    println!(rt; "every answer agrees with the history")?;
     Ok(())
 }
