@@ -1,0 +1,288 @@
+//! An object whose allocations are refused: an opening that found no memory hands back what it was given, every call that
+//! found none has changed neither its pass nor the object, and both do their work when they are asked again; what takes no
+//! memory answers the same, whatever was refused.
+
+ghost use Rattle.std.specs.Prelude.{◌≡◌, ◌+◌};
+
+use po_actions::{Core, End, Order, Refusal, Volume};
+use po_classic_units::{Allocator, ScriptUnit};
+use po_index::EntryRef;
+use po_object::hold::Pass;
+use po_object::{CallLedger, Object, OpenFault, reconcile};
+use std::alloc::Global;
+use std::io::{self, Print};
+use std::marker::Brand;
+use std::sync::Wait;
+use std::sync::ledger::{Blank, Ledger};
+
+/// The entry Request.
+const REQUEST: EntryRef = EntryRef {
+    entry: 0,
+    index: None,
+};
+
+/// What a caller asks for that takes memory.
+#[derive(Clone, Copy)]
+enum Ask {
+    /// A call of Request with this value.
+    Call(u64),
+    /// The same, given up where it isn't selected at once.
+    Conditional(u64),
+    /// The same, given up at the time that comes second.
+    Timed(u64, u64),
+    /// The procedure with this value.
+    Procedure(u64),
+    /// The clock raised to this time.
+    Tick(u64),
+}
+
+/// What is answered.
+#[derive(Clone, Copy, Debug)]
+enum Answer {
+    /// How a call ended.
+    Ended(End<u64>),
+    /// What the procedure replied.
+    Replied(Result<u64, u32>),
+    /// What the clock shows.
+    Clock(u64),
+    /// The pass waits for a call, so it was not asked.
+    Pending,
+}
+
+/// What a call that is refused may not change.
+#[derive(Clone, Copy, PartialEq, Eq)]
+struct Snapshot {
+    calls: u64,
+    procedures: u64,
+    receipts: usize,
+    pending: bool,
+    free: Result<Result<u64, u32>, Refusal>,
+    waiting: Result<Option<u64>, Refusal>,
+}
+
+/// What is seen of the pass and of the object.
+fn see<C: CallLedger, P: Ledger, R: Wait>(
+    rt: &R,
+    object: &Object<Allocator, C, P>,
+    pass: &Pass<u64, C, P>,
+) -> Snapshot {
+    Snapshot {
+        calls: pass.calls(),
+        procedures: pass.procedures(),
+        receipts: pass.receipts().len(),
+        pending: pass.pending(),
+        free: object.function(rt, 0, 0),
+        waiting: object.try_count(REQUEST),
+    }
+}
+
+/// Asks the object.
+fn answer_of<C: CallLedger, P: Ledger, R: Wait>(
+    rt: &R,
+    object: &Object<Allocator, C, P>,
+    pass: &mut Pass<u64, C, P>,
+    what: Ask,
+) -> Result<Answer, Refusal> {
+    if pass.pending() {
+        return Ok(Answer::Pending);
+    }
+    match what {
+        Ask::Call(value) => Ok(Answer::Ended(object.call(rt, pass, REQUEST, value)?)),
+        Ask::Conditional(value) => Ok(Answer::Ended(object.conditional(rt, pass, REQUEST, value)?)),
+        Ask::Timed(value, time) => Ok(Answer::Ended(object.timed(rt, pass, REQUEST, value, time)?)),
+        Ask::Procedure(value) => Ok(Answer::Replied(object.procedure(rt, pass, 0, value)?)),
+        Ask::Tick(time) => Ok(Answer::Clock(object.tick(rt, time)?)),
+    }
+}
+
+/// Asks the object, once more where memory was wanting, prints the answer, and gives how often memory was wanting.
+fn print_answer<C: CallLedger, P: Ledger, R: Print + Wait>(
+    rt: &R,
+    object: &Object<Allocator, C, P>,
+    pass: &mut Pass<u64, C, P>,
+    what: Ask,
+) -> io::Result<u64> {
+    for refusals in 0..2 {
+        let before = see(rt, object, pass);
+        let answer = answer_of(rt, object, pass, what);
+        if !matches!(answer, Err(Refusal::OutOfMemory)) {
+            println!(rt; "{answer:?}")?;
+            return Ok(refusals);
+        }
+        if before != see(rt, object, pass) {
+            println!(rt; "changed")?;
+        }
+    }
+    println!(rt; "refused twice")?;
+    Ok(2)
+}
+
+/// Asks for all of these, and gives how often memory was wanting.
+fn print_all<C: CallLedger, P: Ledger, R: Print + Wait>(
+    rt: &R,
+    object: &Object<Allocator, C, P>,
+    pass: &mut Pass<u64, C, P>,
+    all: &[Ask],
+) -> io::Result<u64> {
+    let mut refusals = 0u64;
+    for what in all {
+        refusals = refusals.saturating_add(print_answer(rt, object, pass, *what)?);
+    }
+    Ok(refusals)
+}
+
+/// Cuts the history, once more where memory was wanting, and counts how often memory was wanting.
+fn cut<C: CallLedger, P: Ledger, R: Print + Wait>(
+    rt: &R,
+    object: &Object<Allocator, C, P>,
+    pass: &Pass<u64, C, P>,
+    refusals: &mut u64,
+) -> io::Result<Option<Volume<u64>>> {
+    for _ in 0..2 {
+        let before = see(rt, object, pass);
+        if let Ok(volume) = object.cut(rt) {
+            let events = volume.events().len();
+            println!(rt; "volume {} of {events}", volume.first_place())?;
+            return Ok(Some(volume));
+        }
+        *refusals = refusals.saturating_add(1);
+        if before != see(rt, object, pass) {
+            println!(rt; "changed")?;
+        }
+    }
+    println!(rt; "refused twice")?;
+    Ok(None)
+}
+
+/// Prints what takes no memory, and finalizes the object.
+fn print_the_rest<C: CallLedger, P: Ledger, R: Print + Wait>(
+    rt: &R,
+    object: &Object<Allocator, C, P>,
+) -> io::Result<()> {
+    println!(rt; "count {:?}", object.try_count(REQUEST))?;
+    println!(rt; "function {:?}", object.function(rt, 0, 0))?;
+    println!(rt; "abort {:?}", object.abort_seat(rt, 0))?;
+    println!(rt; "finalize {:?}", object.finalize(rt))
+}
+
+/// Uses the object, whose history is cut twice, and gives the two volumes.
+fn use_object<C: CallLedger, P: Ledger, R: Print + Wait>(
+    rt: &R,
+    object: &Object<Allocator, C, P>,
+    pass: &mut Pass<u64, C, P>,
+    refusals: &mut u64,
+) -> io::Result<Option<[Volume<u64>; 2]>> {
+    let first = [Ask::Call(1), Ask::Conditional(1), Ask::Timed(1, 0)];
+    let mut asked = print_all(rt, object, pass, &first)?;
+    let earlier = cut(rt, object, pass, &mut asked)?;
+    let second = [Ask::Procedure(1), Ask::Tick(5), Ask::Timed(1, 6)];
+    asked = asked.saturating_add(print_all(rt, object, pass, &second)?);
+    let later = cut(rt, object, pass, &mut asked)?;
+    print_the_rest(rt, object)?;
+    let third = [Ask::Call(1)];
+    asked = asked.saturating_add(print_all(rt, object, pass, &third)?);
+    *refusals = refusals.saturating_add(asked);
+    match (earlier, later) {
+        (Some(earlier), Some(later)) => Ok(Some([earlier, later])),
+        _ => Ok(None),
+    }
+}
+
+/// Opens an object with one seat, once more with what is handed back where memory was wanting.
+fn open<C: CallLedger, P: Ledger, R: Print + AllocGlobal>(
+    rt: &R,
+    core: Core<Allocator>,
+    calls: Blank,
+    procedures: Blank,
+    refusals: &mut u64,
+) -> io::Result<Option<(Object<Allocator, C, P>, Vec<Pass<u64, C, P>>)>>
+    requires shape { core.object.making.shape ≡ C.shape }
+    requires calls { (calls.name ≡ C.name) × (calls.parts ≡ C.parts) × (calls.parts ≡ 2) }
+    requires procedures { (procedures.name ≡ P.name) × (procedures.parts ≡ P.parts) × (procedures.parts ≡ 2) }
+{
+    match Object::open(rt.alloc(), core, 1, calls, procedures) {
+        Ok(opened) => Ok(Some(opened)),
+        Err(OpenFault::OutOfMemory(core, calls, procedures)) => {
+            *refusals = refusals.saturating_add(1);
+            if core.next() != 1 || !core.events().is_empty() {
+                println!(rt; "changed")?;
+            }
+            Ok(Object::open(rt.alloc(), core, 1, calls, procedures).ok())
+        }
+        Err(_) => Ok(None),
+    }
+}
+
+/// Closes the object, and prints the receipts and what they and the history say together.
+fn close<C: CallLedger, P: Ledger, R: Print>(
+    rt: &R,
+    object: Object<Allocator, C, P>,
+    passes: Vec<Pass<u64, C, P>>,
+    volumes: &[Volume<u64>],
+) -> io::Result<()> {
+    let Ok(closed) = object.close(passes) else {
+        return println!(rt; "not closed");
+    };
+    println!(rt;
+        "closed {} of {}",
+        closed.core().place(),
+        closed.core().events().len()
+    )?;
+    for pass in closed.passes() {
+        for receipt in pass.receipts() {
+            println!(rt; "{receipt:?}")?;
+        }
+    }
+    println!(rt; "{:?}", reconcile(&closed, volumes))
+}
+
+/// Opens, uses and closes an object over the core, and gives how often memory was wanting.
+fn try_object<C: CallLedger, P: Ledger, R: Print + Wait + AllocGlobal>(
+    rt: &R,
+    core: Core<Allocator>,
+    calls: Blank,
+    procedures: Blank,
+) -> io::Result<u64>
+    requires shape { core.object.making.shape ≡ C.shape }
+    requires calls { (calls.name ≡ C.name) × (calls.parts ≡ C.parts) × (calls.parts ≡ 2) }
+    requires procedures { (procedures.name ≡ P.name) × (procedures.parts ≡ P.parts) × (procedures.parts ≡ 2) }
+{
+    let mut refusals = 0;
+    let opened = open::<C, P, R>(rt, core, calls, procedures, &mut refusals)?;
+    let Some((object, mut passes)) = opened else {
+        println!(rt; "not opened")?;
+        return Ok(refusals);
+    };
+    let volumes = match passes.first_mut() {
+        Some(pass) => use_object(rt, &object, pass, &mut refusals)?,
+        None => None,
+    };
+    match volumes {
+        Some(volumes) => close(rt, object, passes, &volumes)?,
+        None => println!(rt; "no pass, or not cut")?,
+    }
+    Ok(refusals)
+}
+
+/// A core of an allocator of 1, or none where memory was wanting.
+fn make_core(alloc: Global) -> Option<Core<Allocator>> {
+    let unit = Allocator::new(1);
+    let shape = unit.shape(alloc).ok()?;
+    Core::new(alloc, unit, shape, Order::Textual, 1).ok()
+}
+
+/// Tries an object over an allocator of 1, and answers how often memory was wanting.
+pub(crate) fn run<R: Print + Wait + AllocGlobal>(rt: &R) -> io::Result<u64> {
+    let made = make_core(rt.alloc());
+    let refusals = u64::from(made.is_none());
+    match made.or_else(|| make_core(rt.alloc())) {
+        Some(core) => {
+            let met = try_object::<Brand, Brand, R>(rt, core, Blank::new(2), Blank::new(2))?;
+            Ok(refusals.saturating_add(met))
+        }
+        None => {
+            println!(rt; "refused twice")?;
+            Ok(refusals)
+        }
+    }
+}

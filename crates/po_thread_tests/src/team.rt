@@ -1,0 +1,45 @@
+//! What threads share beside their object.
+
+use std::sync::Barrier;
+use std::sync::atomic::{AtomicU64, Ordering};
+use std::thread;
+
+/// How often something is looked for before it is given up.
+pub(crate) const TURNS: u64 = 100_000_000;
+
+/// The line from which threads start together, and how many of their calls had the answer that they were to have.
+#[derive(Drop)]
+pub(crate) struct Team {
+    pub(crate) line: Barrier,
+    answered: AtomicU64,
+}
+
+impl Team {
+    /// A team that starts when so many threads have come to the line.
+    pub(crate) fn new(threads: usize) -> Team {
+        Team {
+            line: Barrier::new(threads),
+            answered: AtomicU64::new(0),
+        }
+    }
+
+    /// Counts a call that had the answer that it was to have.
+    pub(crate) fn count(&self) {
+        self.answered.fetch_add(1, Ordering::SeqCst);
+    }
+
+    /// How many calls had the answer that they were to have.
+    pub(crate) fn answered(&self) -> u64 {
+        self.answered.load(Ordering::SeqCst)
+    }
+
+    /// Waits until so many calls are answered, but not for ever.
+    pub(crate) fn wait_for(&self, calls: u64) {
+        for _ in 0..TURNS {
+            if self.answered() >= calls {
+                return;
+            }
+            thread::yield_now();
+        }
+    }
+}
