@@ -4,7 +4,7 @@ use po_actions::{Deadline, End, Refusal};
 use po_classic_units::Buffer;
 use po_index::EntryRef;
 use po_object::hold::Pass;
-use po_object::{CallLedger, Closed, Object, Receipt};
+use po_object::{Agreed, CallLedger, Closed, Object, Receipt, reconcile};
 use std::process::Abort;
 use std::sync::Wait;
 use std::sync::ledger::Ledger;
@@ -69,10 +69,13 @@ pub fn look<R: Abort>(rt: &R, closed: &Closed<Buffer>, scene: Scene) -> Result<(
     let mut seat = 0;
     for pass in closed.passes() {
         assert_eq!(rt; pass.seat(), seat);
-        filed += pass.receipts().len();
-        seat += 1;
+        filed = pass.receipts().len().saturating_add(filed);
+        seat = pass.seat().saturating_add(1);
     }
     assert_eq!(rt; filed, receipts);
+    if !matches!(scene, Scene::Cuts) {
+        assert_eq!(rt; reconcile(closed, &[]), Ok(Agreed));
+    }
     Ok(())
 }
 
