@@ -16,6 +16,7 @@ mod against_mutex;
 mod commands;
 mod cores;
 mod entries;
+mod expiring;
 mod history;
 mod measure;
 mod plan;
@@ -71,6 +72,7 @@ fn print_all<R: Print + Clock + Wait + AllocGlobal>(rt: &R, plan: &Plan) -> io::
     keep_memory(rt.alloc())?;
     against_mutex::print(rt, plan)?;
     waiting::print(rt, plan)?;
+    expiring::print(rt, plan)?;
     entries::print(rt, plan)?;
     history::print(rt, plan)
 }

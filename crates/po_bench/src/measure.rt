@@ -31,8 +31,7 @@ impl Measure {
         start: Instant,
         commands: u64,
     ) -> io::Result<()> {
-        let nanos = u64::try_from(start.elapsed(rt)?.as_nanos()).unwrap_or(u64::MAX);
-        self.count(nanos, commands);
+        self.count(nanos_since(rt, start)?, commands);
         Ok(())
     }
 
@@ -42,7 +41,7 @@ impl Measure {
     }
 
     /// Counts a batch of so many commands, which took so many nanoseconds.
-    fn count(&mut self, nanos: u64, commands: u64) {
+    pub(crate) fn count(&mut self, nanos: u64, commands: u64) {
         self.commands = self.commands.saturating_add(commands);
         self.nanos = self.nanos.saturating_add(nanos);
         self.picos = self.picos.min(picos_of(nanos, commands));
@@ -58,6 +57,12 @@ impl Measure {
         let hundredths = self.picos.saturating_mul(100);
         hundredths.checked_div(other.picos).unwrap_or(0)
     }
+}
+
+/// The nanoseconds since then.
+pub(crate) fn nanos_since<R: Clock>(rt: &R, start: Instant) -> io::Result<u64> {
+    let elapsed = start.elapsed(rt)?;
+    Ok(u64::try_from(elapsed.as_nanos()).unwrap_or(u64::MAX))
 }
 
 /// The picoseconds that one of so many commands took, or the most where there is none.

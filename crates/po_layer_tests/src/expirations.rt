@@ -67,9 +67,27 @@ fn due_keys_are_found_in_order_of_arrival(rt: HostRuntime) -> Result<(), Fail> {
     Ok(())
 }
 
-// A key is removed before the one at which the search stands, at it, and behind it.
+// Of several that are due at once the first is the one that arrived first, whatever their times.
 #[test]
-fn removes_where_the_search_goes_on(rt: HostRuntime) -> Result<(), Fail> {
+fn keys_due_at_once_are_found_in_order_of_arrival(rt: HostRuntime) -> Result<(), Fail> {
+    let mut expirations = worked(rt.alloc())?;
+    expirations.append(5, 20, 55);
+    let due = [
+        take_due(&mut expirations, 60),
+        take_due(&mut expirations, 60),
+        take_due(&mut expirations, 60),
+        take_due(&mut expirations, 60),
+        take_due(&mut expirations, 60),
+    ];
+    let wanted = [Some(4), Some(0), Some(2), Some(5), None];
+    assert_eq!(rt; due, wanted);
+    assert_eq!(rt; take_due(&mut expirations, 90), Some(7));
+    Ok(())
+}
+
+// Of the keys that are due and of those that aren't some are removed.
+#[test]
+fn removes_due_keys_and_others(rt: HostRuntime) -> Result<(), Fail> {
     let mut expirations = worked(rt.alloc())?;
     let before = due_at(&mut expirations, 20);
     let removed = [
@@ -85,7 +103,7 @@ fn removes_where_the_search_goes_on(rt: HostRuntime) -> Result<(), Fail> {
 }
 
 #[test]
-fn adds_after_all_were_passed(rt: HostRuntime) -> Result<(), Fail> {
+fn adds_keys_that_are_due(rt: HostRuntime) -> Result<(), Fail> {
     let mut expirations = Expirations::new(rt.alloc())?;
     expirations.reserve(1)?;
     expirations.append(0, 1, u64::MAX);
