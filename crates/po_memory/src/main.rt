@@ -13,7 +13,7 @@ use std::alloc::Global;
 use std::io::{self, Input, Print, Read};
 
 /// How many bytes of standard input are looked at.
-const MOST: usize = 256;
+const MOST: usize = 512;
 
 /// Takes a byte of memory, if there is one, gives it back, and tells whether there was one.
 fn take_one(alloc: Global) -> bool {
