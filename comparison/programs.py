@@ -31,21 +31,33 @@ class Failed(Exception):
     """A program couldn't be built or run."""
 
 
-def prepare():
-    """Builds both programs."""
+def say(text):
+    """Tells what goes on."""
+    print(f"compare: {text}", file=sys.stderr)
+
+
+def build(name, level):
+    """Builds an Ada program at this level of optimization."""
     if shutil.which("gnatmake") is None:
         raise Missing("there is no gnatmake; install it with: sudo apt-get install gnat")
     OUT.mkdir(exist_ok=True)
+    words = ["gnatmake", "-q", "-gnat2022", level, "-I../ada", f"{name}.adb"]
+    built = subprocess.run(words, cwd=OUT, capture_output=True, text=True)
+    if built.returncode != 0:
+        raise Failed(f"gnatmake can't build {name}:\n{built.stderr}")
+
+
+def prepare():
+    """Builds both programs that carry out scripts."""
     for name in ("carry_out", "two_functions"):
-        words = ["gnatmake", "-q", "-gnat2022", "-O1", "-I../ada", f"{name}.adb"]
-        built = subprocess.run(words, cwd=OUT, capture_output=True, text=True)
-        if built.returncode != 0:
-            raise Failed(f"gnatmake can't build {name}:\n{built.stderr}")
-    if POBJ == str(TOP / "pobj") and not (TOP / "crates/po_main/out/po_main").exists():
-        print("compare: pobj is built first, which takes minutes", file=sys.stderr)
-    first = run([POBJ, "run"], "", BUILD_LIMIT)
+        build(name, "-O1")
+    # The first call may have to build pobj, and says on standard error how far that is.
+    try:
+        first = subprocess.run([POBJ, "run"], stdin=subprocess.DEVNULL, stdout=subprocess.DEVNULL, timeout=BUILD_LIMIT)
+    except subprocess.TimeoutExpired as late:
+        raise Failed(f"{POBJ} took more than {BUILD_LIMIT} seconds to build") from late
     if first.returncode != 0:
-        raise Failed(f"{POBJ} can't be run: {first.stderr}")
+        raise Failed(f"{POBJ} can't be run: status {first.returncode}")
 
 
 def run(words, text, limit=LIMIT):

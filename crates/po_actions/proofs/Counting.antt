@@ -1,7 +1,8 @@
 -- How many calls are issued and how many procedures run: by an event, by a history, and by a protected action.
 use Rattle.std.proofs.Common.{◌≡◌, ℕ, zero, ◌+◌, ◌≤◌, length, List, [], ◌∷◌, ◌++◌, refl, ap, sym, ◌∙◌, arith, Bool, true, false, cond, not, ◌&&◌, Option, Some, None, Result, Ok, Err, if◌then◌else◌, map}
-use Rattle.std.specs.List.{count_by, find}
+use Rattle.std.specs.List.{All, count_by, find}
 use Rattle.std.specs.Option.{option_map, option_or}
+use Rattle.std.proofs.lemmas.List.Elements.{All-nil, All-cons}
 use Rattle.std.proofs.lemmas.List.Sums.{sum_by-append, sum_by-cons}
 use Rattle.po_unit.specs.Meaning.{Meaning}
 use Rattle.po_unit.specs.declared.outcome.Outcome.{Outcome}
@@ -17,7 +18,7 @@ use Rattle.po_accepted.specs.WaitingCalls.{is_on, has_number, is_due, mark}
 use Rattle.po_actions.specs.ObjectState.{ObjectState, counts_in, gate_in}
 use Rattle.po_actions.specs.Step.{step, replay, enter, end_call, queue, land, run_body, arrive, serve, cancel, abort, take_out, is_full}
 use Rattle.po_actions.specs.Base.{is_issue, is_ran}
-use Rattle.po_actions.specs.Pick.{pick, event_of, next_turn, ArePicks, served_last, last_from}
+use Rattle.po_actions.specs.Pick.{event_of, next_turn, ArePicks, served_last, last_from}
 use Rattle.po_actions.specs.View.{View}
 use Rattle.po_actions.specs.ProtectedAction.{IsProtectedAction}
 use Rattle.po_actions.specs.Cutting.{procedures_run}
@@ -38,7 +39,7 @@ module _ {V : Type 0} where
   runs e = cond (is_ran e) 1 0
 
   -- neither issues a call nor is by a procedure
-  abbrev is_neither : Event V → Bool
+  abbrev pub is_neither : Event V → Bool
   is_neither e = not (is_issue e) && not (is_ran e)
 
   abbrev is_neither_if : Option (Event V) → Bool
@@ -122,6 +123,13 @@ module _ {S V : Type 0} (m : Meaning S V) (limit : Option ℕ) where
       let one = none_of_both (is_issue e) (is_ran e) (event_is_neither (next_turn m order last p) (find (is_due p.clock) p.waiting) e h.0) in
       let rest = picks-none order (served_last last e) (step m limit p e) es h.1 in
       (omega (arith, sum_by-cons issues e es, one.0, rest.0), omega (arith, sum_by-cons runs e es, one.1, rest.1))
+
+  -- an inner event neither issues a call nor is by a procedure
+  pub picks-neither : (order : Order) (last : Option ℕ) (p : ObjectState S V) (events : List (Event V)) → ArePicks m limit order last p events → All (λ e. is_neither e ≡ true) events
+  picks-neither order last p [] h = All-nil (λ e. is_neither e ≡ true)
+  picks-neither order last p (e ∷ es) h =
+      let one = event_is_neither (next_turn m order last p) (find (is_due p.clock) p.waiting) e h.0 in
+      All-cons (λ x. is_neither x ≡ true) e es one (picks-neither order (served_last last e) (step m limit p e) es h.1)
 
 module _ {S V : Type 0} (m : Meaning S V) (old new : View S V) (own : Event V) (a : IsProtectedAction m old new own) where
   -- a protected action takes as many numbers as its own event: one for a call, else none

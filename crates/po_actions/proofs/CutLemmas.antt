@@ -1,5 +1,5 @@
 -- What a cut of the history makes of the present picture, and of the volumes.
-use Rattle.std.proofs.Common.{◌≡◌, ℕ, ◌+◌, ◌<◌, ◌≤◌, ◌==◌, List, [], ◌∷◌, ◌++◌, length, map, refl, subst, ap, sym, ◌∙◌, arith, Bool, true, false, cond, Option, if◌then◌else◌}
+use Rattle.std.proofs.Common.{◌≡◌, ℕ, ◌+◌, ◌<◌, ◌≤◌, ◌==◌, List, [], ◌∷◌, ◌++◌, length, map, refl, subst, ap, sym, ◌∙◌, arith, Bool, true, false, cond, Option, None, if◌then◌else◌}
 use Rattle.std.specs.List.{All, count_by}
 use Rattle.std.proofs.lemmas.List.{take_all}
 use Rattle.std.proofs.lemmas.List.Elements.{All-nil, All-cons, All-head, All-tail, All-weaker, All-append}
@@ -13,9 +13,10 @@ use Rattle.po_history.proofs.Volumes.{run_on-append, joined-append}
 use Rattle.po_actions.specs.ObjectState.{opening_state}
 use Rattle.po_accepted.specs.WaitingCalls.{has_number}
 use Rattle.po_actions.specs.Step.{replay, IsLegal}
-use Rattle.po_actions.specs.Base.{Base, state_with, arrived, arrived_among, is_ran}
+use Rattle.po_actions.specs.Base.{Base, opening_base, state_with, state_at, arrived, arrived_among, is_ran}
 use Rattle.po_actions.specs.Public.{NamesPublic}
 use Rattle.po_actions.specs.Making.{Making}
+use Rattle.po_actions.specs.Pick.{last_from}
 use Rattle.po_actions.specs.View.{View, Replays, IsInOnePlace, base_state, next_place}
 use Rattle.po_actions.specs.Arrival.{Rises, AreAt, arrival}
 use Rattle.po_actions.specs.StateView.{StateView}
@@ -28,6 +29,11 @@ use Rattle.po_actions.proofs.Orders.{Ordered, ordered_all}
 use Rattle.po_actions.proofs.Falls.{emptied, IsEmptied}
 use Rattle.po_actions.proofs.Picks.{eq_self}
 use Rattle.po_actions.proofs.PlacesKept.{arrivals_are_places}
+
+-- a list of no length is empty
+nothing : {X : Type 0} (xs : List X) → length xs ≡ 0 → xs ≡ []
+nothing [] h = refl
+nothing (x ∷ xs) h = absurd (omega (arith, h))
 
 eq_of : (a b : ℕ) → (a == b) ≡ true → a ≡ b
 eq_of a b h = grind (arith, nat_tests)
@@ -115,6 +121,36 @@ module _ {S V : Type 0} (m : Meaning S V) where
       let issued = replay-next m view.making.max_queue (base_state view) view.events in
       omega (arith, issued, counted-apart view.events, h.base.counted, ap (λ s. s.next) h.leads)
 
+  -- the base isn't before the first place
+  pub base_begun : (view : View S V) → IsHistory m view.making view.base view.state view.events → view.making.first_place ≤ view.base.place
+  base_begun view h = omega (arith, h.base.counted, h.base.low)
+
+  -- without events behind the opening, the present picture is the opening
+  picture_opens : (view : View S V) → view.base ≡ opening_base view.making.opening view.making.first_number view.making.first_place → view.events ≡ [] → replay m view.making.max_queue (base_state view) view.events ≡ view.state → present_base m view ≡ opening_base view.making.opening view.making.first_number view.making.first_place
+  picture_opens view base none leads =
+      let making = view.making in
+      let unchanged : view.state ≡ opening_state making.opening making.first_number =
+      sym leads ∙ (ap (replay m making.max_queue (base_state view)) none ∙ ap (λ b. state_at b view.state.ended) base) in
+      let place : next_place view ≡ making.first_place = omega (arith, ap (λ b. b.place) base, ap length none) in
+      let ran : procedures_run view ≡ 0 = omega (arith, ap (λ b. b.ran) base, ap (count_by is_ran) none) in
+      same_base (present_base m view) (opening_base making.opening making.first_number making.first_place)
+      (ap (λ s. s.unit) unchanged)
+      (ap (λ s. s.waiting) unchanged)
+      (ap (λ s. map (λ x. arrival m view x.number) s.waiting) unchanged)
+      (ap (λ s. length s.ended) unchanged)
+      (ap (λ s. s.next) unchanged)
+      (ap (λ s. s.clock) unchanged)
+      (ap (λ s. s.finalized) unchanged)
+      place
+      ran
+      (ap (λ b. last_from b.last view.events) base ∙ ap (last_from None) none)
+
+  -- a picture at the place of the first event is the opening, since no event came before
+  pub opened_so_far : (view : View S V) → IsHistory m view.making view.base view.state view.events → next_place view ≡ view.making.first_place → present_base m view ≡ opening_base view.making.opening view.making.first_number view.making.first_place
+  opened_so_far view h at =
+      let none : length view.events ≡ 0 = omega (arith, base_begun view h, at) in
+      picture_opens view (h.base.opened (omega (arith, at, none))) (nothing view.events none) h.leads
+
   -- the present picture is a base
   pub present_is_base : IsLawful m → (view : View S V) → IsHistory m view.making view.base view.state view.events → IsBase m view.making (present_base m view) view.state.ended
   present_is_base law view h =
@@ -138,6 +174,7 @@ module _ {S V : Type 0} (m : Meaning S V) where
         emptied = subst IsEmptied h.leads (emptied m law limit (base_state view) view.events h.legal h.base.emptied);
         ended = omega arith;
         counted = counted_so_far view h;
+        opened = opened_so_far view h;
       }
 
 module _ {S V : Type 0} (m : Meaning S V) (making : Making S) (b : Base S V) (s : StateView S V) (h : HistoryView V) (served : Option ℕ) (procedures before : ℕ) where

@@ -82,6 +82,7 @@ module _ {S V : Type 0} (m : Meaning S V) (making : Making S) where
       emptied = λ _. refl;
       ended = omega arith;
       counted = omega arith;
+      opened = λ _. refl;
     };
     legal = tt;
     leads = refl;
@@ -104,6 +105,7 @@ module _ {S V : Type 0} (m : Meaning S V) (making : Making S) where
           emptied = h.base.emptied;
           ended = ended_on m limit p r e b.ended is h.base.ended;
           counted = h.base.counted;
+          opened = h.base.opened;
         };
         legal = subst (λ q. IsLegal m limit q (es ++ e ∷ [])) same k.legal;
         leads = subst (λ q. replay m limit q (es ++ e ∷ []) ≡ r) same k.leads;

@@ -14,10 +14,12 @@ mod state;
 
 pub use base::Base;
 pub use fault::MakeFault;
+pub use making::Making;
 pub use object_core::Core;
 pub use po_accepted::{Arrival, Ended};
 pub use po_barriers::Order;
 pub use po_calls::{Call, Deadline, End, Place, Ticket};
 pub use po_history::{Event, Volume};
+pub use queueing::Queueing;
 pub use refusal::{Aborted, Refusal};
 pub use start::Start;

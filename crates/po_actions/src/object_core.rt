@@ -505,6 +505,8 @@ impl<U: Unit> Core<U> {
     pub fn headline(&self)
         ensures headline { Headline U.meaning self.now.object }
         ensures tickets { AreIssued self.now }
+        // Where the base is at the place of the first event, no volume is before it.
+        ensures uncut { self.now.object.base.place ≡ self.now.object.making.first_place → AreVolumes U.meaning self.now.object [] }
     {
         self.recorded.recall_invariant();
     }

@@ -4,7 +4,7 @@
 #[derive(Clone, Copy)]
 pub struct Queueing {
     /// How many calls may be queued on an entry, where there is such a limit (D.7).
-    pub(crate) max_length: Option<u64>,
+    pub max_length: Option<u64>,
     /// The place in the history of the event that queues the call.
-    pub(crate) place: u128,
+    pub place: u128,
 }

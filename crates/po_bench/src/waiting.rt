@@ -46,6 +46,7 @@ struct Measures {
     conditional: Measure,
     issue: Measure,
     abort: Measure,
+    abort_seat: Measure,
     tick: Measure,
 }
 
@@ -57,6 +58,7 @@ impl Measures {
             conditional: Measure::new(),
             issue: Measure::new(),
             abort: Measure::new(),
+            abort_seat: Measure::new(),
             tick: Measure::new(),
         }
     }
@@ -78,6 +80,11 @@ impl Measures {
         let start = Instant::now(rt)?;
         let aborted = abort(core, tickets);
         self.abort.add(rt, start, aborted)?;
+        collect(core, tickets);
+        issue(core, tickets, commands);
+        let start = Instant::now(rt)?;
+        let aborted = abort_seats(core, tickets);
+        self.abort_seat.add(rt, start, aborted)?;
         collect(core, tickets);
         Ok(())
     }
@@ -112,6 +119,18 @@ fn abort_one(core: &mut Core<Trap>, ticket: &Ticket) -> bool {
 fn abort(core: &mut Core<Trap>, tickets: &[Ticket]) -> u64 {
     let cancelled = tickets.iter().filter(|ticket| abort_one(core, ticket));
     cancelled.count() as u64
+}
+
+/// What `Hold::abort_seat` does for each ticket of which it knows that it is its seat's latest: looks whether the call waits,
+/// and cancels it. Answers how many it cancelled.
+fn abort_seats(core: &mut Core<Trap>, tickets: &[Ticket]) -> u64 {
+    let mut cancelled = 0u64;
+    for ticket in tickets {
+        if core.is_waiting(ticket.number) && abort_one(core, ticket) {
+            cancelled = cancelled.saturating_add(1);
+        }
+    }
+    cancelled
 }
 
 /// Collects the calls of the tickets.
@@ -154,6 +173,7 @@ pub(crate) fn print<R: Print + Clock + AllocGlobal>(rt: &R, plan: &Plan) -> io::
         ("conditional", few.conditional, many.conditional),
         ("issue", few.issue, many.issue),
         ("abort", few.abort, many.abort),
+        ("abort_seat", few.abort_seat, many.abort_seat),
         ("tick", few.tick, many.tick),
     ] {
         pair(rt, plan, name, (plan.few, few), (plan.many, many))?;

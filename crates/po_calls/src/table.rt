@@ -1,6 +1,6 @@
 //! The table of the calls that aren't collected.
 
-ghost use Rattle.std.specs.Prelude.{ℕ, [], ◌≡◌, ◌<◌, ◌≤◌, ◌+◌, ◌↔◌, Ok, None, Some, OnOk, OnSome, IfNone, IsTrue, option_copied, true};
+ghost use Rattle.std.specs.Prelude.{ℕ, [], ◌≡◌, ◌<◌, ◌≤◌, ◌+◌, ◌↔◌, Ok, None, Some, IfOk, OnOk, OnSome, IfNone, IsTrue, option_copied, true};
 ghost use Rattle.slab.specs.Slab.{get, slab_len, HasRoomFor, Updates};
 ghost use Rattle.po_calls.specs.declared.ticket.Ticket.{Ticket};
 ghost use Rattle.po_calls.specs.declared.call.Call.{Call};
@@ -50,6 +50,19 @@ impl<V: Copy> Table<V> {
         }
     }
 
+    /// A table with no call and with room for so many.
+    pub fn with_capacity(alloc: Global, most: usize) -> Result<Table<V>, AllocError>
+        ensures kept { IfOk result (λ t. (ticket : Ticket) → kept t ticket ≡ None) }
+        ensures vacant { IfOk result (λ t. (key : ℕ) → get t.calls key ≡ None) }
+        ensures numbers { IfOk result (λ t. numbers_of t ≡ []) }
+        ensures len { IfOk result (λ t. slab_len t.calls ≡ 0) }
+        ensures room { IfOk result (λ t. HasRoomFor t.calls most) }
+        ensures last { IfOk result (λ t. t.last ≡ None) }
+    {
+        let calls = Slab::with_capacity(alloc, most)?;
+        Ok(Table { calls, last: None })
+    }
+
     /// Makes room for one more call. No room is lost, also where it fails.
     pub fn reserve_one(&mut self) -> Result<(), AllocError>
         ensures room { OnOk result (HasRoomFor self.new.calls 1) }
@@ -69,6 +82,20 @@ impl<V: Copy> Table<V> {
         ensures { IsTrue result ↔ HasRoomFor self.now.calls 1 }
     {
         self.calls.len() < self.calls.capacity()
+    }
+
+    /// How many calls are kept.
+    pub fn len(&self) -> usize
+        ensures { result ≡ slab_len self.now.calls }
+    {
+        self.calls.len()
+    }
+
+    /// For how many calls there is memory, those that are kept among them. Keys are below it.
+    pub fn capacity(&self) -> usize
+        ensures { result ≡ self.now.calls.capacity }
+    {
+        self.calls.capacity()
     }
 
     /// The greatest number of a call that was put, if one was: a call can be put that has a greater one.

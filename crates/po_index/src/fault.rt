@@ -10,7 +10,7 @@ use thiserror::Error;
 #[derive(Clone, Copy, Debug, PartialEq, Eq, Error)]
 pub enum ShapeFault {
     /// There are more than 4,096 declarations, or they declare more than 4,096 entries (this project's own limit).
-    #[error("too many entries")]
+    #[error("more than 4,096 declarations or entries")]
     TooManyEntries,
     /// There is not enough memory for the shape.
     #[error("out of memory")]
@@ -44,16 +44,16 @@ impl From<AllocError> for ShapeFault {
 #[derive(Clone, Copy, Debug, PartialEq, Eq, Error)]
 pub enum IndexFault {
     /// There is no declaration at this position of the list.
-    #[error("no such entry")]
+    #[error("there is no such entry")]
     NoSuchEntry,
     /// An index was given to a single entry.
-    #[error("not a family of entries")]
+    #[error("an index was given to a single entry")]
     NotAFamily,
     /// A family was named without an index.
-    #[error("the index is missing")]
+    #[error("a family of entries was named without an index")]
     IndexMissing,
     /// The index is outside the family's range.
-    #[error("the index is out of range")]
+    #[error("the index is outside the family's range")]
     BadIndex,
 }
 

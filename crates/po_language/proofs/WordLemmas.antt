@@ -1,5 +1,5 @@
 -- Words and numbers of a line, step by step.
-use Rattle.std.proofs.Common.{◌≡◌, ℕ, zero, suc, ◌+◌, ◌-◌, ◌*◌, ◌^◌, ◌<◌, ◌≤◌, List, [], ◌∷◌, length, get_or, take, drop, refl, sym, ap, ◌∙◌, inl, inr, arith, one-add}
+use Rattle.std.proofs.Common.{◌≡◌, ℕ, zero, suc, ◌+◌, ◌-◌, ◌*◌, ◌^◌, ◌<◌, ◌≤◌, List, [], ◌∷◌, ◌++◌, length, get_or, take, drop, refl, sym, ap, ◌∙◌, inl, inr, arith, one-add}
 use Rattle.std.specs.List.{filter, slice_split, prefix_len, fold}
 use Rattle.std.proofs.lemmas.Bool.{cases_Bool}
 use Rattle.std.proofs.lemmas.List.{take-append-drop}
@@ -69,3 +69,7 @@ digits_at w i h =
 -- a number that the digits so far pass is passed by all
 pub too_high : (w : List ℕ) (i : ℕ) → i < length w → 2 ^ 64 ≤ digits_value (take i w) * 10 + (get_or w i 0 - 48) → 2 ^ 64 ≤ digits_value w
 too_high w i h high = omega (arith, digits_at w i h)
+
+-- the word and what follows it stand behind the spaces
+pub parted : (l r w rest : List ℕ) (n m : ℕ) → r ≡ drop n l → w ≡ take m r → rest ≡ drop m r → l ≡ take n l ++ (w ++ rest)
+parted l r w rest n m er ew erest = rw (ew, erest, take-append-drop m r, er) (sym (take-append-drop n l))

@@ -244,3 +244,25 @@ command_with units begun (w ∷ ws) = if is_comment w then Ok None else command_
 -- the line's command, if it has one; begun is the unit that an earlier line began
 abbrev pub command_of : UnitList → Option UnitChoice → List ℕ → Result (Option Command) FaultKind
 command_of units begun line = command_with units begun (words line)
+
+-- no entry, procedure or function has a name
+abbrev pub no_names : KnownNames
+no_names = record { unit = []; is_sized = false; entries = []; procedures = []; functions = [] }
+
+-- a line's command by its form alone
+abbrev pub form_command : UnitList → Verb → List (List ℕ) → Result Command FaultKind
+form_command units BeginVerb ws = first_command units BeginVerb ws
+form_command units verb ws = later_command no_names verb ws
+
+abbrev pub form_by : UnitList → Option Verb → List (List ℕ) → Result (Option Command) FaultKind
+form_by units None ws = Err UnknownCommand
+form_by units (Some verb) ws = some_command (form_command units verb ws)
+
+abbrev pub form_with : UnitList → List (List ℕ) → Result (Option Command) FaultKind
+form_with units [] = Ok None
+form_with units (w ∷ ws) = if is_comment w then Ok None else form_by units (verb_of w) ws
+
+-- the line's command by its form alone, if it has one: it isn't known which unit is begun, nor any name of its entries,
+-- procedures and functions
+abbrev pub form_of : UnitList → List ℕ → Result (Option Command) FaultKind
+form_of units line = form_with units (words line)

@@ -2,12 +2,16 @@
 #![tactic(auto)]
 
 pub mod command;
+pub mod fault;
 mod operation_line;
 pub mod parse;
+pub mod place;
 mod unit_line;
 pub mod unit_list;
 pub mod words;
 
 pub use crate::command::{Beginning, Command, FaultKind, Operation, UnitChoice};
-pub use crate::parse::command_of;
+pub use crate::fault::{Argument, LineFault, Reason, UnitPart};
+pub use crate::parse::{command_of, form_of};
+pub use crate::place::Place;
 pub use crate::unit_list::UnitList;

@@ -1,13 +1,15 @@
 //! The words of the lines that ask for an operation.
 
-ghost use Rattle.std.specs.Prelude.{◌≡◌, ℕ, List};
+ghost use Rattle.std.specs.Prelude.{◌≡◌, ℕ, List, IfErr};
+ghost use Rattle.std.specs.Result.{result_ok};
 ghost use Rattle.po_language.specs.Words.{words};
 ghost use Rattle.po_language.specs.Commands.{entry_of, operation_number, call_of, timed_of, run_of, read_of, number_alone, alone, operation_of};
-ghost use Rattle.po_language.specs.declared.command.Operation.{Operation};
+ghost use Rattle.po_language.specs.Faults.{kind_of};
 
-use crate::command::Operation;
+use crate::command::{FaultKind, Operation};
+use crate::fault::{Argument, WordFault};
 use crate::parse::Verb;
-use crate::words::{cut_word, entry_word, is_name, number, only_word, two_words};
+use crate::words::{entry_word, is_name, next_word, no_word, number};
 use po_calls::Deadline;
 use po_classic_units::UnitNames;
 use po_index::EntryRef;
@@ -43,82 +45,129 @@ fn function_of(names: &UnitNames, word: &[u8]) -> Option<u16>
     Some(names.function_named(word))
 }
 
-/// A call that the words ask for: an entry and a value.
-fn call_of(names: &UnitNames, deadline: Deadline, arguments: &[u8]) -> Option<Operation>
-    ensures { result ≡ call_of names.now deadline (words arguments.now) }
+/// A call that the words ask for, of which the first has this number: an entry and a value.
+fn call_of(
+    names: &UnitNames,
+    deadline: Deadline,
+    first: usize,
+    arguments: &[u8],
+) -> Result<Operation, WordFault>
+    ensures exact { result_ok result ≡ call_of names.now deadline (words arguments.now) }
+    ensures kind { IfErr result (λ fault. kind_of fault.reason ≡ FaultKind.BadArgument) }
 {
-    let (entry, value) = two_words(arguments)?;
-    match (entry_of(names, entry), number(value)) {
-        (Some(entry), Some(value)) => Some(Operation::Call {
-            entry,
-            value,
-            deadline,
-        }),
-        _ => None,
-    }
+    let second = first.saturating_add(1);
+    let no_entry = WordFault::argument(first, Argument::Entry);
+    let no_value = WordFault::argument(second, Argument::Value);
+    let (entry, rest) = next_word(arguments, no_entry)?;
+    let Some(entry) = entry_of(names, entry) else {
+        return Err(no_entry);
+    };
+    let (value, rest) = next_word(rest, no_value)?;
+    let Some(value) = number(value) else {
+        return Err(no_value);
+    };
+    no_word(
+        rest,
+        WordFault::argument(second.saturating_add(1), Argument::End),
+    )?;
+    Ok(Operation::Call {
+        entry,
+        value,
+        deadline,
+    })
 }
 
 /// A timed call that the words ask for: a deadline, an entry and a value.
-fn timed_of(names: &UnitNames, arguments: &[u8]) -> Option<Operation>
-    ensures { result ≡ timed_of names.now (words arguments.now) }
+fn timed_of(names: &UnitNames, arguments: &[u8]) -> Result<Operation, WordFault>
+    ensures exact { result_ok result ≡ timed_of names.now (words arguments.now) }
+    ensures kind { IfErr result (λ fault. kind_of fault.reason ≡ FaultKind.BadArgument) }
 {
-    let (time, rest) = cut_word(arguments)?;
-    let time = number(time)?;
-    call_of(names, Deadline::At(time), rest)
+    let no_time = WordFault::argument(1, Argument::Time);
+    let (time, rest) = next_word(arguments, no_time)?;
+    let Some(time) = number(time) else {
+        return Err(no_time);
+    };
+    call_of(names, Deadline::At(time), 2, rest)
 }
 
 /// The run of a procedure that the words ask for: a procedure and a value.
-fn run_of(names: &UnitNames, arguments: &[u8]) -> Option<Operation>
-    ensures { result ≡ run_of names.now (words arguments.now) }
+fn run_of(names: &UnitNames, arguments: &[u8]) -> Result<Operation, WordFault>
+    ensures exact { result_ok result ≡ run_of names.now (words arguments.now) }
+    ensures kind { IfErr result (λ fault. kind_of fault.reason ≡ FaultKind.BadArgument) }
 {
-    let (name, value) = two_words(arguments)?;
-    match (procedure_of(names, name), number(value)) {
-        (Some(op), Some(value)) => Some(Operation::Run { op, value }),
-        _ => None,
-    }
+    let no_name = WordFault::argument(1, Argument::Procedure);
+    let (name, rest) = next_word(arguments, no_name)?;
+    let Some(op) = procedure_of(names, name) else {
+        return Err(no_name);
+    };
+    let value = number_alone(2, Argument::Value, rest)?;
+    Ok(Operation::Run { op, value })
 }
 
 /// The read by a function that the words ask for: a function and a value.
-fn read_of(names: &UnitNames, arguments: &[u8]) -> Option<Operation>
-    ensures { result ≡ read_of names.now (words arguments.now) }
+fn read_of(names: &UnitNames, arguments: &[u8]) -> Result<Operation, WordFault>
+    ensures exact { result_ok result ≡ read_of names.now (words arguments.now) }
+    ensures kind { IfErr result (λ fault. kind_of fault.reason ≡ FaultKind.BadArgument) }
 {
-    let (name, value) = two_words(arguments)?;
-    match (function_of(names, name), number(value)) {
-        (Some(op), Some(value)) => Some(Operation::Read { op, value }),
-        _ => None,
-    }
+    let no_name = WordFault::argument(1, Argument::Function);
+    let (name, rest) = next_word(arguments, no_name)?;
+    let Some(op) = function_of(names, name) else {
+        return Err(no_name);
+    };
+    let value = number_alone(2, Argument::Value, rest)?;
+    Ok(Operation::Read { op, value })
 }
 
-/// The number that is the only word.
-fn number_alone(arguments: &[u8]) -> Option<u64>
-    ensures { result ≡ number_alone (words arguments.now) }
+/// The number that is the only word, which has this number in the line.
+fn number_alone(word: usize, form: Argument, arguments: &[u8]) -> Result<u64, WordFault>
+    ensures exact { result_ok result ≡ number_alone (words arguments.now) }
+    ensures kind { IfErr result (λ fault. kind_of fault.reason ≡ FaultKind.BadArgument) }
 {
-    number(only_word(arguments)?)
+    let wanting = WordFault::argument(word, form);
+    let (value, rest) = next_word(arguments, wanting)?;
+    let Some(value) = number(value) else {
+        return Err(wanting);
+    };
+    no_word(
+        rest,
+        WordFault::argument(word.saturating_add(1), Argument::End),
+    )?;
+    Ok(value)
 }
 
 /// The operation, where no words follow.
-fn alone(operation: Operation, arguments: &[u8]) -> Option<Operation>
-    ensures { result ≡ alone operation (words arguments.now) }
+fn alone(operation: Operation, arguments: &[u8]) -> Result<Operation, WordFault>
+    ensures exact { result_ok result ≡ alone operation (words arguments.now) }
+    ensures kind { IfErr result (λ fault. kind_of fault.reason ≡ FaultKind.BadArgument) }
 {
-    match cut_word(arguments) {
-        Some(_) => None,
-        None => Some(operation),
-    }
+    no_word(arguments, WordFault::argument(1, Argument::End))?;
+    Ok(operation)
 }
 
 /// The operation that the words behind a line's first ask for, where that isn't `unit`.
-pub fn operation_of(names: &UnitNames, verb: Verb, arguments: &[u8]) -> Option<Operation>
-    ensures { result ≡ operation_of names.now verb (words arguments.now) }
+pub(crate) fn operation_of(
+    names: &UnitNames,
+    verb: Verb,
+    arguments: &[u8],
+) -> Result<Operation, WordFault>
+    ensures exact { result_ok result ≡ operation_of names.now verb (words arguments.now) }
+    ensures kind { IfErr result (λ fault. kind_of fault.reason ≡ FaultKind.BadArgument) }
 {
     match verb {
-        Verb::Begin => None,
-        Verb::Call => call_of(names, Deadline::Never, arguments),
-        Verb::Cond => call_of(names, Deadline::At(0), arguments),
+        Verb::Begin => Err(WordFault::argument(1, Argument::End)),
+        Verb::Call => call_of(names, Deadline::Never, 1, arguments),
+        Verb::Cond => call_of(names, Deadline::At(0), 1, arguments),
         Verb::Timed => timed_of(names, arguments),
         Verb::Proc => run_of(names, arguments),
         Verb::Func => read_of(names, arguments),
-        Verb::Cancel => Some(Operation::Abort(number_alone(arguments)?)),
-        Verb::Tick => Some(Operation::Tick(number_alone(arguments)?)),
+        Verb::Cancel => {
+            let n = number_alone(1, Argument::CallNumber, arguments)?;
+            Ok(Operation::Abort(n))
+        }
+        Verb::Tick => {
+            let time = number_alone(1, Argument::Time, arguments)?;
+            Ok(Operation::Tick(time))
+        }
         Verb::Final => alone(Operation::Finalize, arguments),
         Verb::Show => alone(Operation::Show, arguments),
     }

@@ -1,13 +1,16 @@
 //! The words of a `unit` line.
 
-ghost use Rattle.std.specs.Prelude.{◌≡◌, IfSome, MatchOption, None};
+ghost use Rattle.std.specs.Prelude.{◌≡◌, IfSome, IfOk, IfErr, MatchResult, Some, None};
+ghost use Rattle.std.specs.Result.{result_ok};
+ghost use Rattle.po_language.specs.Faults.{kind_of};
 ghost use Rattle.po_language.specs.Words.{words};
 ghost use Rattle.po_classic_units.specs.Sizes.{IsSize};
 ghost use Rattle.po_language.specs.Commands.{HasSize, size_of, unit_of, order_of, with_order, limit_of, beginning_of};
 
-use crate::command::{Beginning, UnitChoice};
+use crate::command::{Beginning, FaultKind, UnitChoice};
+use crate::fault::{UnitPart, WordFault};
 use crate::unit_list::UnitList;
-use crate::words::{cut_word, number, two_words};
+use crate::words::{cut_word, next_word, no_word, number};
 use po_barriers::Order;
 
 /// The size of a unit: a number from 1 to 1,024.
@@ -22,19 +25,27 @@ fn size(word: &[u8]) -> Option<u16>
 }
 
 /// The unit that the words begin with, and the words behind it: its size is one of them where it has one.
-fn unit_of<L: UnitList>(arguments: &[u8]) -> Option<(UnitChoice, &[u8])>
-    ensures exact { MatchOption result (unit_of L.listed (words arguments.now) ≡ None)
-        (λ chosen. unit_of L.listed (words arguments.now) ≡ Some (chosen.0, words chosen.1.now)) }
-    ensures valid { IfSome result (λ chosen. HasSize L.listed chosen.0) }
+fn unit_of<L: UnitList>(arguments: &[u8]) -> Result<(UnitChoice, &[u8]), WordFault>
+    ensures exact { MatchResult result
+        (λ chosen. unit_of L.listed (words arguments.now) ≡ Some (chosen.0, words chosen.1.now))
+        (λ _. unit_of L.listed (words arguments.now) ≡ None) }
+    ensures valid { IfOk result (λ chosen. HasSize L.listed chosen.0) }
+    ensures kind { IfErr result (λ fault. kind_of fault.reason ≡ FaultKind.BadUnit) }
 {
-    let (name, rest) = cut_word(arguments)?;
-    let number = L::unit_number(name)?;
+    let no_name = WordFault::unit(1, UnitPart::Name);
+    let no_size = WordFault::unit(2, UnitPart::Size);
+    let (name, rest) = next_word(arguments, no_name)?;
+    let Some(number) = L::unit_number(name) else {
+        return Err(no_name);
+    };
     if !L::names_at(number).is_sized {
-        return Some((UnitChoice { number, size: 0 }, rest));
+        return Ok((UnitChoice { number, size: 0 }, rest));
     }
-    let (word, rest) = cut_word(rest)?;
-    let size = size(word)?;
-    Some((UnitChoice { number, size }, rest))
+    let (word, rest) = next_word(rest, no_size)?;
+    let Some(size) = size(word) else {
+        return Err(no_size);
+    };
+    Ok((UnitChoice { number, size }, rest))
 }
 
 /// The service order of this name.
@@ -65,29 +76,50 @@ fn with_order(arguments: &[u8]) -> (Order, &[u8])
     }
 }
 
-/// The greatest queue length that the words state: none where there are no words.
-fn limit_of(arguments: &[u8]) -> Option<Option<u64>>
-    ensures { result ≡ limit_of (words arguments.now) }
+/// The greatest queue length that the words state, of which the first has this number: none where there are no words.
+fn limit_of(first: usize, arguments: &[u8]) -> Result<Option<u64>, WordFault>
+    ensures exact { result_ok result ≡ limit_of (words arguments.now) }
+    ensures kind { IfErr result (λ fault. kind_of fault.reason ≡ FaultKind.BadUnit) }
 {
-    if cut_word(arguments).is_none() {
-        return Some(None);
-    }
-    let (word, most) = two_words(arguments)?;
+    let Some((word, rest)) = cut_word(arguments) else {
+        return Ok(None);
+    };
     if word != b"max".as_slice() {
-        return None;
+        return Err(WordFault::unit(first, UnitPart::OrderOrMax));
     }
-    Some(Some(number(most)?))
+    let second = first.saturating_add(1);
+    let no_limit = WordFault::unit(second, UnitPart::Limit);
+    let (most, rest) = next_word(rest, no_limit)?;
+    let Some(most) = number(most) else {
+        return Err(no_limit);
+    };
+    let end = WordFault::unit(second.saturating_add(1), UnitPart::End);
+    no_word(rest, end)?;
+    Ok(Some(most))
+}
+
+/// The number of the first word behind an order, by how many bytes stand there and how many stand behind the unit, the
+/// last of whose words is the one before `first`.
+fn word_behind_order(first: usize, behind_unit: usize, behind_order: usize) -> usize {
+    if behind_order < behind_unit {
+        first.saturating_add(1)
+    } else {
+        first
+    }
 }
 
 /// What the words behind `unit` begin.
-pub fn beginning_of<L: UnitList>(arguments: &[u8]) -> Option<Beginning>
-    ensures exact { result ≡ beginning_of L.listed (words arguments.now) }
-    ensures valid { IfSome result (λ beginning. HasSize L.listed beginning.unit) }
+pub(crate) fn beginning_of<L: UnitList>(arguments: &[u8]) -> Result<Beginning, WordFault>
+    ensures exact { result_ok result ≡ beginning_of L.listed (words arguments.now) }
+    ensures valid { IfOk result (λ beginning. HasSize L.listed beginning.unit) }
+    ensures kind { IfErr result (λ fault. kind_of fault.reason ≡ FaultKind.BadUnit) }
 {
-    let (unit, rest) = unit_of::<L>(arguments)?;
-    let (order, rest) = with_order(rest);
-    let max_queue = limit_of(rest)?;
-    Some(Beginning {
+    let (unit, behind_unit) = unit_of::<L>(arguments)?;
+    let (order, rest) = with_order(behind_unit);
+    let first = if unit.size == 0 { 2 } else { 3 };
+    let first = word_behind_order(first, behind_unit.len(), rest.len());
+    let max_queue = limit_of(first, rest)?;
+    Ok(Beginning {
         unit,
         order,
         max_queue,

@@ -1,10 +1,11 @@
 //! The words of a line, and the forms that a word may have.
 
-ghost use Rattle.std.specs.Prelude.{◌≡◌, ◌∷◌, [], MatchOption, ◌≤◌, ◌+◌, ◌*◌, ◌^◌, if◌then◌else◌, nat_lt, None, length};
+ghost use Rattle.std.specs.Prelude.{◌≡◌, ◌≢◌, ℕ, List, ◌∷◌, ◌++◌, [], MatchOption, IfSome, IfOk, OnOk, IfErr, ◌≤◌, ◌+◌, ◌*◌, ◌^◌, if◌then◌else◌, nat_lt, None, length};
 ghost use Rattle.std.specs.List.{prefix_len, list_all};
 ghost use Rattle.std.specs.Char.{is_ascii_digit};
-ghost use Rattle.po_language.specs.Commands.{only_of, pair_of};
 ghost use Rattle.po_language.specs.Words.{words, is_space, is_word_byte, is_name_byte, is_before_index, number_of, digits_value, is_name, index_of, magnitude_of, positive_of, negative_of, entry_parts, bracketed};
+
+use crate::fault::WordFault;
 
 /// How many spaces stand first.
 fn space_count(line: &[u8]) -> usize
@@ -25,8 +26,9 @@ fn word_length(line: &[u8]) -> usize
 /// The first word of the line, and what follows it.
 #[tactic(auto, using(crate::proofs::WordLemmas::first_word, crate::proofs::WordLemmas::no_word, std::proofs::lemmas::Grind::common_steps))]
 pub fn cut_word(line: &[u8]) -> Option<(&[u8], &[u8])>
-    ensures { MatchOption result (words line.now ≡ [])
+    ensures words { MatchOption result (words line.now ≡ [])
         (λ cut. words line.now ≡ cut.0.now ∷ words cut.1.now) }
+    ensures placed { IfSome result (λ cut. (before : List ℕ) × (line.now ≡ before ++ (cut.0.now ++ cut.1.now))) }
 {
     let line = &line[space_count(line)..];
     if line.is_empty() {
@@ -35,28 +37,25 @@ pub fn cut_word(line: &[u8]) -> Option<(&[u8], &[u8])>
     Some(line.split_at(word_length(line)))
 }
 
-/// The only word of the line, where there is just one.
-pub fn only_word(line: &[u8]) -> Option<&[u8]>
-    ensures { MatchOption result (only_of (words line.now) ≡ None)
-        (λ word. only_of (words line.now) ≡ Some word.now) }
+/// The first word of the line, and what follows it; this fault where there is none.
+pub(crate) fn next_word(line: &[u8], fault: WordFault) -> Result<(&[u8], &[u8]), WordFault>
+    ensures ok { IfOk result (λ cut. words line.now ≡ cut.0.now ∷ words cut.1.now) }
+    ensures err { IfErr result (λ wanting. (words line.now ≡ []) × (wanting ≡ fault)) }
 {
-    let (word, rest) = cut_word(line)?;
-    match cut_word(rest) {
-        Some(_) => None,
-        None => Some(word),
+    match cut_word(line) {
+        Some(cut) => Ok(cut),
+        None => Err(fault),
     }
 }
 
-/// The two words of the line, where there are just two.
-pub fn two_words(line: &[u8]) -> Option<(&[u8], &[u8])>
-    ensures { MatchOption result (pair_of (words line.now) ≡ None)
-        (λ pair. pair_of (words line.now) ≡ Some (pair.0.now, pair.1.now)) }
+/// The fault, where a word follows.
+pub(crate) fn no_word(line: &[u8], fault: WordFault) -> Result<(), WordFault>
+    ensures ok { OnOk result (words line.now ≡ []) }
+    ensures err { IfErr result (λ more. (words line.now ≢ []) × (more ≡ fault)) }
 {
-    let (first, rest) = cut_word(line)?;
-    let (second, rest) = cut_word(rest)?;
-    match cut_word(rest) {
-        Some(_) => None,
-        None => Some((first, second)),
+    match cut_word(line) {
+        Some(_) => Err(fault),
+        None => Ok(()),
     }
 }
 

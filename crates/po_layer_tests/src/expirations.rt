@@ -1,4 +1,4 @@
-//! Worked runs of expirations, the limits, and what stays where memory is refused.
+//! A worked run of expirations.
 
 ghost use Rattle.std.specs.Prelude.{◌≡◌, ◌≤◌, [], ◌∷◌, IfOk};
 
@@ -64,78 +64,5 @@ fn due_keys_are_found_in_order_of_arrival(rt: HostRuntime) -> Result<(), Fail> {
     ];
     assert_eq!(rt; due, wanted);
     assert_eq!(rt; (expirations.clock(), expirations.remove(2)), (90, false));
-    Ok(())
-}
-
-// Of several that are due at once the first is the one that arrived first, whatever their times.
-#[test]
-fn keys_due_at_once_are_found_in_order_of_arrival(rt: HostRuntime) -> Result<(), Fail> {
-    let mut expirations = worked(rt.alloc())?;
-    expirations.append(5, 20, 55);
-    let due = [
-        take_due(&mut expirations, 60),
-        take_due(&mut expirations, 60),
-        take_due(&mut expirations, 60),
-        take_due(&mut expirations, 60),
-        take_due(&mut expirations, 60),
-    ];
-    let wanted = [Some(4), Some(0), Some(2), Some(5), None];
-    assert_eq!(rt; due, wanted);
-    assert_eq!(rt; take_due(&mut expirations, 90), Some(7));
-    Ok(())
-}
-
-// Of the keys that are due and of those that aren't some are removed.
-#[test]
-fn removes_due_keys_and_others(rt: HostRuntime) -> Result<(), Fail> {
-    let mut expirations = worked(rt.alloc())?;
-    let before = due_at(&mut expirations, 20);
-    let removed = [
-        expirations.remove(4),
-        expirations.remove(0),
-        expirations.remove(7),
-    ];
-    assert_eq!(rt;
-        (before, removed, due_at(&mut expirations, 20)),
-        (Some(0), [true, true, true], Some(2))
-    );
-    Ok(())
-}
-
-#[test]
-fn adds_keys_that_are_due(rt: HostRuntime) -> Result<(), Fail> {
-    let mut expirations = Expirations::new(rt.alloc())?;
-    expirations.reserve(1)?;
-    expirations.append(0, 1, u64::MAX);
-    expirations.rise(u64::MAX - 1);
-    let before = expirations.first_due();
-    expirations.append(1, 2, u64::MAX - 1);
-    let due = [
-        before,
-        take_due(&mut expirations, 0),
-        take_due(&mut expirations, 0),
-        take_due(&mut expirations, u64::MAX),
-    ];
-    assert_eq!(rt; due, [None, Some(1), None, Some(0)]);
-    Ok(())
-}
-
-// With an allocation refused, the first call for more keys fails.
-#[test]
-fn keeps_all_where_memory_is_refused(rt: HostRuntime) -> Result<(), Fail> {
-    let mut expirations = worked(rt.alloc())?;
-    let too_many = expirations.reserve(usize::MAX);
-    let more = expirations.reserve(1000);
-    assert_eq!(rt; too_many, Err(AllocError));
-    if more.is_err() {
-        expirations.reserve(1000)?;
-    }
-    expirations.append(1000, 30, 7);
-    let due = [
-        take_due(&mut expirations, 20),
-        take_due(&mut expirations, 20),
-        take_due(&mut expirations, 20),
-    ];
-    assert_eq!(rt; due, [Some(0), Some(2), Some(1000)]);
     Ok(())
 }

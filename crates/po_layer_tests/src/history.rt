@@ -1,8 +1,7 @@
-//! A worked run of a history with two cuts, and what stays where memory is refused.
+//! A worked run of a history with two cuts.
 
 use po_calls::{Deadline, End};
 use po_history::{Event, History};
-use std::process::Abort;
 use std::test::Fail;
 
 /// A simple call with this number on entry 2.
@@ -73,39 +72,4 @@ fn runs_on_after_cuts(rt: HostRuntime) -> Result<(), Fail> {
         [None, Some(End::Completed(7)), None, None, None, None]
     );
     Ok(())
-}
-
-/// A history that looks as it did: one event, and one more owed.
-fn assert_untouched(rt: &impl Abort, history: &History<i64>) {
-    assert_eq!(rt;
-        (
-            history.events(),
-            history.owed(),
-            history.place(),
-            history.outcome(0)
-        ),
-        ([Event::Tick(4)].as_slice(), 1, 1, None)
-    );
-}
-
-/// Passes with each allocation refused in turn.
-#[test]
-fn stays_where_memory_is_refused(rt: HostRuntime) {
-    let Ok(mut history) = History::<i64>::new(rt.alloc(), 0, 0) else {
-        return;
-    };
-    if history.reserve_event().is_err() {
-        assert_eq!(rt; history.owed(), 1);
-        return;
-    }
-    history.push_owed(Event::Tick(4));
-    assert_untouched(&rt, &history);
-    if history.reserve_for(3).is_err() {
-        return assert_untouched(&rt, &history);
-    }
-    history.release(6);
-    if history.cut().is_err() {
-        return assert_untouched(&rt, &history);
-    }
-    assert_eq!(rt; (history.events().len(), history.first_place()), (0, 1));
 }

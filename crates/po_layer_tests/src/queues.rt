@@ -1,4 +1,4 @@
-//! Worked runs of queues, the limits, and what stays where memory is refused.
+//! A worked run of queues.
 
 ghost use Rattle.std.specs.Prelude.{◌≡◌, ◌≤◌, [], ◌∷◌, IfOk};
 
@@ -55,28 +55,6 @@ fn text_of(alloc: Global, queues: &Queues) -> Result<String, Fail> {
     Ok(text)
 }
 
-#[test]
-fn keys_leave_in_order_of_arrival(rt: HostRuntime) -> Result<(), Fail> {
-    let mut queues = worked(rt.alloc())?;
-    assert_eq!(rt;
-        text_of(rt.alloc(), &queues)?.as_str(),
-        "0: 2 11 5 2; 2: 4 10 0 7 3 4; "
-    );
-    let taken = [
-        queues.take_first(2),
-        queues.take_first(2),
-        queues.take_first(0),
-        queues.take_first(1),
-        queues.take_first(2),
-    ];
-    assert_eq!(rt; taken, [Some(0), Some(7), Some(5), None, Some(3)]);
-    assert_eq!(rt;
-        text_of(rt.alloc(), &queues)?.as_str(),
-        "0: 1 18 2; 2: 1 19 4; "
-    );
-    Ok(())
-}
-
 // In the middle, at the head, at the end, and what isn't queued. A removed key is new on another entry.
 #[test]
 fn keys_are_removed_anywhere(rt: HostRuntime) -> Result<(), Fail> {
@@ -101,54 +79,5 @@ fn keys_are_removed_anywhere(rt: HostRuntime) -> Result<(), Fail> {
         [queues.stamp(3), queues.stamp(7), queues.stamp(usize::MAX)],
         [Some(14), None, None]
     );
-    Ok(())
-}
-
-#[test]
-fn busy_entries_are_found_over_words(rt: HostRuntime) -> Result<(), Fail> {
-    let mut queues = Queues::new(rt.alloc(), 4096)?;
-    queues.reserve(3)?;
-    let none = queues.next_busy(0);
-    queues.append(4095, 0, 1);
-    queues.append(127, 1, 2);
-    queues.append(64, 2, 3);
-    queues.append(63, 3, 4);
-    let found = [
-        none,
-        queues.next_busy(0),
-        queues.next_busy(63),
-        queues.next_busy(64),
-        queues.next_busy(65),
-        queues.next_busy(128),
-        queues.next_busy(4096),
-    ];
-    let wanted = [
-        None,
-        Some(63),
-        Some(63),
-        Some(64),
-        Some(127),
-        Some(4095),
-        None,
-    ];
-    assert_eq!(rt; found, wanted);
-    Ok(())
-}
-
-// With the sixth allocation refused, the first call for more keys fails.
-#[test]
-fn keeps_all_where_memory_is_refused(rt: HostRuntime) -> Result<(), Fail> {
-    let mut queues = worked(rt.alloc())?;
-    let too_many = queues.reserve(usize::MAX);
-    let more = queues.reserve(1000);
-    assert_eq!(rt;
-        (too_many, queues.counts()),
-        (Err(AllocError), [2, 0, 4].as_slice())
-    );
-    if more.is_err() {
-        queues.reserve(1000)?;
-    }
-    queues.append(1, 1000, 30);
-    assert_eq!(rt; queues.first(1), Some((1000, 30)));
     Ok(())
 }

@@ -133,8 +133,9 @@ fn writes_faults(rt: HostRuntime) -> Result<(), Fail> {
     }
     assert_eq!(rt;
         text.as_str(),
-        "1 too many entries; 2 out of memory; \
-         1 no such entry; 2 not a family of entries; 3 the index is missing; 4 the index is out of range; "
+        "1 more than 4,096 declarations or entries; 2 out of memory; \
+         1 there is no such entry; 2 an index was given to a single entry; \
+         3 a family of entries was named without an index; 4 the index is outside the family's range; "
     );
     Ok(())
 }

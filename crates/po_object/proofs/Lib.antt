@@ -1,3 +1,5 @@
+pub mod Asking
+pub mod Clock
 pub mod Counting
 pub mod LatestKept
 pub mod Refused

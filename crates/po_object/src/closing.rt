@@ -1,17 +1,17 @@
 //! How an object is closed, and what is left of it.
 
-ghost use Rattle.std.specs.Prelude.{◌≡◌, ◌+◌, ◌^◌, ◌<◌, ◌≤◌, IfOk, IfErr, IfSome, IfNone, OnOk, length, vec_len, slice_index, slice_set, sum_by};
+ghost use Rattle.std.specs.Prelude.{◌≡◌, ◌↔◌, true, ◌+◌, ◌^◌, ◌<◌, ◌≤◌, IfOk, IfErr, IfSome, IfNone, OnOk, length, vec_len, slice_index, slice_set, sum_by};
 ghost use Rattle.po_object.specs.Seats.{OneEach, IsMissing, AreBySeat, ArePlaced, AreCounts};
 ghost use Rattle.po_object.specs.Faults.{KeepsAll};
 ghost use Rattle.po_object.specs.Closing.{IsClosed};
-ghost use Rattle.po_receipts.specs.Answers.{HasClosingTotals};
+ghost use Rattle.po_receipts.specs.Answers.{HasClosingTotals, NonePending};
 
 use crate::fault::CloseFault;
 use crate::hold::{Hold, Pass};
 use crate::ledgers::{CallLedger, Division};
 use crate::object::Object;
 use po_actions::Core;
-use po_receipts::Spent;
+use po_receipts::{Spent, none_pending};
 use po_unit::Unit;
 use std::marker::Model;
 use std::sync::ledger::{Ledger, Share};
@@ -48,8 +48,15 @@ impl<U: Unit> Closed<U> {
         self.passes.as_slice()
     }
 
-    /// What holds of every closed object: the pass of a seat stands at the seat's place, and in the whole history as many
-    /// calls were issued, and as many procedures ran, as the passes counted.
+    /// Whether no pass has a call that was accepted and has no receipt. The calls of `Object` leave none behind.
+    pub fn none_pending(&self) -> bool
+        ensures { (result ≡ true) ↔ NonePending self.now.passes }
+    {
+        none_pending(self.passes())
+    }
+
+    /// What holds of every closed object: the pass of a seat stands at the seat's place; in the whole history as many calls
+    /// were issued, and as many procedures ran, as the passes counted; and since the last cut seats alone asked for them.
     pub fn closing_totals(&self)
         ensures { IsClosed self.now }
     {

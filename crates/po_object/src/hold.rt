@@ -1,19 +1,20 @@
 //! What lies behind an object's lock, with the pass by which callers come to it.
 
-ghost use Rattle.std.specs.Prelude.{◌≡◌, ◌+◌, ◌⊎◌, ◌∷◌, ◌++◌, [], None, Some, find, length, unwrap_or, List, IfOk, IfErr, IfSome, IfNone, IsSome, OnOk, OnErr, OnSome, MatchResult};
+ghost use Rattle.std.specs.Prelude.{ℕ, ◌≡◌, ◌≤◌, ◌+◌, ◌⊎◌, ◌∷◌, ◌++◌, [], None, Some, find, length, unwrap_or, List, IfOk, IfErr, IfSome, IfNone, IsSome, OnOk, OnErr, OnSome, MatchResult};
 ghost use Rattle.po_accepted.specs.Tickets.{number_at, SetsTicket};
 ghost use Rattle.po_accepted.specs.WaitingCalls.{is_of};
 ghost use Rattle.po_accepted.specs.Finding.{IsFound};
 ghost use Rattle.po_history.specs.Histories.{VolumeView};
 ghost use Rattle.po_history.specs.declared.event.Event.{Event};
 ghost use Rattle.po_actions.specs.Tickets.{CoreView, end_of_ticket};
-ghost use Rattle.po_actions.specs.View.{base_state};
+ghost use Rattle.po_actions.specs.View.{base_state, next_place};
 ghost use Rattle.po_actions.specs.Cutting.{cut, cut_off, Leads, KeepsArrivals, KeepsVolumes, procedures_run, AreVolumes};
 ghost use Rattle.po_actions.specs.Commands.{issue_of, reply_of};
 ghost use Rattle.po_actions.specs.ProtectedAction.{IsProtectedAction, IsAbortOf, after_action, after_abort, abort_answer};
 ghost use Rattle.po_actions.specs.Refusals.{entry_of, issue_refusal, run_refusal, finalized_refusal, cut_refusal};
 ghost use Rattle.po_actions.specs.declared.refusal.Refusal.{Refusal};
 ghost use Rattle.po_receipts.specs.Passes.{PassView};
+ghost use Rattle.po_receipts.specs.Answers.{AskedBySeats};
 ghost use Rattle.po_object.specs.Filing.{IsFinished, asking, running};
 ghost use Rattle.po_object.specs.Holds.{IsCounted};
 ghost use Rattle.po_object.specs.LatestCalls.{NoneIssued};
@@ -31,8 +32,8 @@ use std::sync::ledger::{Book, Ledger, Share};
 /// The core of an object, with the books of its ledgers. Contracts see it as its core, so the headline holds of it.
 ///
 /// A hold of the lock is one command of the core, or a look at it. In its whole history the core has issued as many calls as
-/// the passes have in their tallies, and run as many procedures. By what is known of each seat's latest call, its waiting one
-/// is found at flat cost.
+/// the passes have in their tallies, and run as many procedures; seats alone asked for them. By what is known of each seat's
+/// latest call, its waiting one is found at flat cost.
 #[derive(Drop)]
 pub struct Hold<U: Unit, C: CallLedger, P: Ledger> {
     core: Core<U>,
@@ -46,6 +47,7 @@ pub struct Hold<U: Unit, C: CallLedger, P: Ledger> {
 impl<U: Unit, C: CallLedger, P: Ledger> Model for Hold<U, C, P> {
     ghost use Rattle.std.specs.Prelude.{◌≡◌, ◌+◌, length};
     ghost use Rattle.po_actions.specs.Tickets.{CoreView};
+    ghost use Rattle.po_receipts.specs.Answers.{AskedBySeats};
     ghost use Rattle.po_object.specs.Holds.{IsCounted};
     ghost use Rattle.po_object.specs.LatestCalls.{IsTrueOfAll};
 
@@ -60,6 +62,7 @@ impl<U: Unit, C: CallLedger, P: Ledger> Model for Hold<U, C, P> {
       shape : h.core.object.making.shape ≡ C.shape;
       latest : IsTrueOfAll h.latest h.core.object.state;
       seats : length h.latest + 1 ≡ C.parts;
+      asked : AskedBySeats (length h.latest) h.core.object.events;
     } };
 }
 
@@ -76,6 +79,8 @@ impl<U: Unit + Drop, C: CallLedger, P: Ledger> Hold<U, C, P> {
         ensures procedures { OnOk result (procedures_run self.new.object ≡ procedures_run self.old.object) }
         ensures joins { IfOk result (λ volume. (volumes : List (VolumeView U.Value)) →
             AreVolumes U.meaning self.old.object volumes → AreVolumes U.meaning self.new.object (volumes ++ volume ∷ [])) }
+        // Seats alone asked for what is in the volume.
+        ensures asked { IfOk result (λ volume. (seats : ℕ) → C.parts ≡ seats + 1 → AskedBySeats seats volume.events) }
         ensures allowed { OnOk result (cut_refusal self.old.object ≡ None) }
         ensures refused { IfErr result (λ r.
             r ≡ unwrap_or (cut_refusal self.old.object) Refusal.OutOfMemory) }
@@ -95,7 +100,7 @@ impl<U: Unit, C: CallLedger, P: Ledger> Hold<U, C, P> {
         last_procedures: Share<P>,
         latest: LatestCalls,
     ) -> Hold<U, C, P>
-        requires fresh { (core.object.state.next ≡ core.object.making.first_number) × (procedures_run core.object ≡ 0) }
+        requires fresh { next_place core.object ≡ core.object.making.first_place }
         requires shape { core.object.making.shape ≡ C.shape }
         requires totals { (calls.total ≡ 0) × (procedures.total ≡ 0) }
         requires parts { (last_calls.parts ≡ 1) × (last_procedures.parts ≡ 1) }
@@ -240,6 +245,7 @@ impl<U: Unit, C: CallLedger, P: Ledger> Hold<U, C, P> {
           object = after_action U.meaning self.old.object (Event.Tick t);
         }) }
         ensures clock { IfOk result (λ clock. clock ≡ self.new.object.state.clock) }
+        ensures raised { IfOk result (λ clock. t ≤ clock) }
         ensures volumes { OnOk result (KeepsVolumes U.meaning self.old.object self.new.object) }
         ensures action { OnOk result (
             IsProtectedAction U.meaning self.old.object self.new.object (Event.Tick t)) }
@@ -299,6 +305,7 @@ impl<U: Unit, C: CallLedger, P: Ledger> Hold<U, C, P> {
         ensures totals { IsCounted result.0.object result.1.total result.2.total }
         ensures parts { (result.3.parts ≡ 1) × (result.4.parts ≡ 1) }
         ensures amounts { (result.3.amount ≡ 0) × (result.4.amount ≡ 0) }
+        ensures asked { (seats : ℕ) → C.parts ≡ seats + 1 → AskedBySeats seats result.0.object.events }
     {
         let Hold {
             core,

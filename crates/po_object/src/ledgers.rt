@@ -18,8 +18,10 @@ impl CallLedger for Brand {
 
 /// That a ledger is cut into a part for each seat, and one more, which the object keeps.
 #[derive(Drop)]
-pub(crate) struct Division<L: Ledger> {
-    pub(crate) seats: u16,
-    pub(crate) of: PhantomData<L>,
-    pub(crate) ghost whole: { L.parts ≡ seats + 1 },
+pub struct Division<L: Ledger> {
+    /// How many seats there are.
+    pub seats: u16,
+    /// The ledger.
+    pub of: PhantomData<L>,
+    pub ghost whole: { L.parts ≡ seats + 1 },
 }

@@ -5,12 +5,12 @@ mod closing;
 mod fault;
 pub mod hold;
 mod latest;
-mod ledgers;
+pub mod ledgers;
 mod object;
 mod opening;
 mod pass;
 mod reconciliation;
-mod seat;
+pub mod seat;
 
 pub use closing::Closed;
 pub use fault::{CloseFault, OpenFault};

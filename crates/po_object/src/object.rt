@@ -1,11 +1,13 @@
 //! An object that threads share: its core behind a lock, and where the callers of its seats wait.
 
-ghost use Rattle.std.specs.Prelude.{◌≡◌, None, Some, IfOk, IfErr, OnOk, OnErr, IsSome};
+ghost use Rattle.std.specs.Prelude.{◌≡◌, ◌+◌, ◌≤◌, None, Some, IfOk, IfErr, OnOk, OnErr, IsSome};
 ghost use Rattle.po_index.specs.Numbering.{flat_number};
 ghost use Rattle.po_calls.specs.declared.call.Deadline.TheVariants.{Never, At};
 ghost use Rattle.po_actions.specs.Refusals.{entry_of, entry_refusal, if_unindexed};
 ghost use Rattle.po_actions.specs.declared.refusal.Refusal.{Refusal};
+ghost use Rattle.po_receipts.specs.Answers.{AskedBySeats};
 ghost use Rattle.po_object.specs.Filing.{IsFinished, IsCalled, running};
+ghost use Rattle.po_object.specs.Replies.{IsFunctionReply, IsProcedureReply};
 ghost use Rattle.po_object.specs.Refused.{IsCallRefusal, IsProcedureRefusal, IsFunctionRefusal, IsTickRefusal, IsCutRefusal};
 
 use crate::hold::{Hold, Pass};
@@ -20,8 +22,9 @@ use std::marker::Model;
 use std::sync::ledger::Ledger;
 use std::sync::{RwLock, RwLockReadGuard, RwLockWriteGuard, Wait};
 
-/// How often a thread tries to get the lock before it queues for it.
-const TRIES: u32 = 8;
+/// How often a thread tries to get the lock before it queues for it. Nobody gets the lock by trying while one is queued, so
+/// that queueing slows down all threads.
+const TRIES: u32 = 64;
 
 /// A protected object (9.4) that any number of threads call. Contracts see it as its number of seats.
 ///
@@ -57,8 +60,11 @@ impl<U: Unit + Drop, C: CallLedger, P: Ledger> Object<U, C, P> {
     ///
     /// Refused 8 and 9, also on a finalized object.
     pub fn cut<R: Wait>(&self, rt: &R) -> Result<Volume<U::Value>, Refusal>
+        // Seats of this object alone asked for the calls and procedures that are in the volume.
+        ensures asked { IfOk result (λ volume. AskedBySeats self.now volume.events) }
         ensures refused { IfErr result IsCutRefusal }
     {
+        self.recall_parts();
         let mut hold = self.change(rt);
         let volume = hold.cut()?;
         Ok(volume)
@@ -143,6 +149,7 @@ impl<U: Unit, C: CallLedger, P: Ledger> Object<U, C, P> {
         value: U::Value,
     ) -> Result<Result<U::Value, u32>, Refusal>
         requires { pass.old.pending ≡ None }
+        ensures reply { IfOk result (λ reply. IsProcedureReply U.meaning op value reply) }
         ensures ran { IfOk result (λ reply. pass.new ≡ running pass.old op value reply) }
         ensures refused { IfErr result IsProcedureRefusal }
         ensures unchanged { OnErr result (pass.new ≡ pass.old) }
@@ -164,6 +171,7 @@ impl<U: Unit, C: CallLedger, P: Ledger> Object<U, C, P> {
         op: u16,
         value: U::Value,
     ) -> Result<Result<U::Value, u32>, Refusal>
+        ensures reply { IfOk result (λ reply. IsFunctionReply U.meaning op value reply) }
         ensures refused { IfErr result IsFunctionRefusal }
     {
         self.look(rt).core().read(op, value)
@@ -173,6 +181,7 @@ impl<U: Unit, C: CallLedger, P: Ledger> Object<U, C, P> {
     ///
     /// Refused as `Core::tick` is.
     pub fn tick<R: Wait>(&self, rt: &R, t: u64) -> Result<u64, Refusal>
+        ensures raised { IfOk result (λ clock. t ≤ clock) }
         ensures refused { IfErr result IsTickRefusal }
     {
         let mut hold = self.change(rt);
@@ -223,6 +232,13 @@ impl<U: Unit, C: CallLedger, P: Ledger> Object<U, C, P> {
             Some(hold) => Ok(Some(hold.core().count(entry)?)),
             None => Ok(None),
         }
+    }
+
+    /// The ledger of calls has a part for each seat, and one more.
+    fn recall_parts(&self)
+        ensures { C.parts ≡ self.now + 1 }
+    {
+        let _calls = &self.calls;
     }
 
     /// Takes the lock for a change. It is tried for several times before it is waited for, since sleeping is dear.

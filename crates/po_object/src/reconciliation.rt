@@ -1,6 +1,6 @@
 //! Reconciliation: whether the history of a closed object says what its callers were answered.
 
-ghost use Rattle.std.specs.Prelude.{◌≡◌, ◌↔◌, IsOk};
+ghost use Rattle.std.specs.Prelude.{◌≡◌, ◌⊎◌, ◌↔◌, [], IsOk};
 ghost use Rattle.po_actions.specs.ObjectState.{opening_state};
 ghost use Rattle.po_actions.specs.Cutting.{AreVolumes, Leads};
 ghost use Rattle.po_receipts.specs.Agreement.{IsAgreed, IsFaultOf, history_of};
@@ -28,18 +28,23 @@ pub fn reconcile<U: Unit>(
     compare(closed.core(), closed.passes(), volumes)
 }
 
-/// What it means that `reconcile` answers `Agreed`, where the volumes are those of the object's cuts and no pass has a call
-/// pending: every answer that a caller got is the history's answer to that caller's own call, each once and in the caller's
-/// order; these are the answers of the serial object; and the history has no other calls and procedures.
+/// What it means that `reconcile` answers `Agreed`: every answer that a caller got is the history's answer to that caller's
+/// own call, each once and in the caller's order; these are the answers of the serial object; the history has no other
+/// calls and procedures; and no pass has a call pending.
+///
+/// Where the history was never cut, nothing else is asked for. Else the volumes have to be those of the object's cuts, and
+/// no pass may have a call pending, which `Closed::none_pending` tells.
 pub fn every_answer<U: Unit>(closed: &Closed<U>, volumes: &[Volume<U::Value>])
     requires agreed { IsAgreed closed.now.core closed.now.passes volumes.now }
-    requires filed { NonePending closed.now.passes }
-    requires volumes { AreVolumes U.meaning closed.now.core.object volumes.now }
+    requires cut { (volumes.now ≡ []) ⊎ (AreVolumes U.meaning closed.now.core.object volumes.now × NonePending closed.now.passes) }
     ensures own { AnswersAreOwn closed.now.core.object.state.ended (history_of closed.now.core volumes.now) closed.now.passes }
+    // The volumes, or none, are the history before the base.
+    ensures volumes { AreVolumes U.meaning closed.now.core.object volumes.now }
     // The whole history replays from the opening as serial protected actions of one thread, and the calls end so.
     ensures serial { Leads U.meaning closed.now.core.object.making (history_of closed.now.core volumes.now)
         (opening_state closed.now.core.object.making.opening closed.now.core.object.making.first_number) closed.now.core.object.state }
     ensures none_other { HasNoOthers (history_of closed.now.core volumes.now) closed.now.passes }
+    ensures none_pending { NonePending closed.now.passes }
 {
     closed.closing_totals();
     po_receipts::every_answer(closed.core(), closed.passes(), volumes);

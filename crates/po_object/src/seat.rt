@@ -2,13 +2,16 @@
 
 ghost use Rattle.std.specs.Prelude.{◌≤◌};
 
+use crossbeam_utils::CachePadded;
 use crossbeam_utils::sync::Unparker;
-use crossbeam_utils::{Backoff, CachePadded};
 use std::sync::atomic::{AtomicU64, Ordering};
+use std::{hint, thread};
 
-/// How often a caller looks for the end of its call before it sleeps. After the first few looks it gives up the processor
-/// at each.
-const LOOKS: u32 = 60;
+/// How often a caller looks for the end of its call before it sleeps. Sleeping and waking is much dearer than looks.
+const LOOKS: u32 = 100;
+
+/// After so many of these looks it gives up the processor at each: whoever is to end the call may need it.
+const QUICK_LOOKS: u32 = 8;
 
 /// The seat's call waits, and its caller looks for its end.
 const WAITS: u64 = 0;
@@ -21,13 +24,14 @@ const SLEEPS: u64 = 2;
 
 /// The waiting place of a seat. No proof rests on what it says: a caller looks under the lock before it believes it.
 #[derive(Drop)]
-pub(crate) struct Seat {
+pub struct Seat {
     flag: CachePadded<AtomicU64>,
     place: Unparker,
 }
 
 impl Seat {
-    pub(crate) fn new(place: Unparker) -> Seat {
+    /// The place of a seat whose call waits, with the end by which its caller is woken.
+    pub fn new(place: Unparker) -> Seat {
         Seat {
             flag: CachePadded::new(AtomicU64::new(WAITS)),
             place,
@@ -35,29 +39,32 @@ impl Seat {
     }
 
     /// Says that the seat's call waits. The lock is held.
-    pub(crate) fn wait(&self) {
+    pub fn wait(&self) {
         self.flag.store(WAITS, Ordering::SeqCst);
     }
 
     /// Says that the seat's call has ended, and whether its caller sleeps. The lock is held.
-    pub(crate) fn end(&self) -> bool {
+    pub fn end(&self) -> bool {
         self.flag.swap(ENDED, Ordering::SeqCst) == SLEEPS
     }
 
     /// Wakes the seat's caller.
-    pub(crate) fn wake(&self) {
+    pub fn wake(&self) {
         self.place.unpark();
     }
 
     /// Looks for a while whether the seat's call has ended, and else says that its caller sleeps. Says whether it has
     /// ended.
-    pub(crate) fn look(&self) -> bool {
-        let backoff = Backoff::new();
-        for _ in 0..LOOKS {
+    pub fn look(&self) -> bool {
+        for turn in 0..LOOKS {
             if self.flag.load(Ordering::SeqCst) == ENDED {
                 return true;
             }
-            backoff.snooze();
+            if turn < QUICK_LOOKS {
+                hint::spin_loop();
+            } else {
+                thread::yield_now();
+            }
         }
         self.flag
             .compare_exchange(WAITS, SLEEPS, Ordering::SeqCst, Ordering::SeqCst)
@@ -70,14 +77,15 @@ const MANY: usize = 4;
 
 /// The seats whose callers sleep and have to be woken.
 #[derive(Drop)]
-pub(crate) struct Sleepers {
+pub struct Sleepers {
     seats: [u16; MANY],
     len: usize,
     ghost within: { len ≤ 4 },
 }
 
 impl Sleepers {
-    pub(crate) fn new() -> Sleepers {
+    /// None yet.
+    pub fn new() -> Sleepers {
         Sleepers {
             seats: [0; MANY],
             len: 0,
@@ -85,7 +93,7 @@ impl Sleepers {
     }
 
     /// Adds a seat, and says whether there was room for it.
-    pub(crate) fn add(&mut self, seat: u16) -> bool {
+    pub fn add(&mut self, seat: u16) -> bool {
         if self.len >= MANY {
             return false;
         }
@@ -94,7 +102,8 @@ impl Sleepers {
         true
     }
 
-    pub(crate) fn seats(&self) -> &[u16] {
+    /// The seats that were added.
+    pub fn seats(&self) -> &[u16] {
         &self.seats[..self.len]
     }
 }

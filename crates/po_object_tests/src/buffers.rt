@@ -16,7 +16,7 @@ use std::sync::ledger::{Blank, Ledger};
 use std::test::Fail;
 
 /// A core of an empty buffer.
-fn empty_buffer<R: AllocGlobal>(rt: &R, capacity: u16) -> Result<Core<Buffer>, Fail>
+pub fn empty_buffer<R: AllocGlobal>(rt: &R, capacity: u16) -> Result<Core<Buffer>, Fail>
     requires { IsSize capacity }
 {
     let unit = Buffer::new(rt.alloc(), capacity)?;
@@ -135,11 +135,6 @@ fn each_kind_of_call(rt: HostRuntime) -> Result<(), Fail> {
 #[test]
 fn no_call_to_cancel(rt: HostRuntime) -> Result<(), Fail> {
     on_buffer(&rt, 1, 1, Scene::NoneWaits)
-}
-
-#[test]
-fn cuts_between_calls(rt: HostRuntime) -> Result<(), Fail> {
-    on_buffer(&rt, 2, 1, Scene::Cuts)
 }
 
 #[test]

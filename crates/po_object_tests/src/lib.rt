@@ -5,3 +5,5 @@
 mod buffers;
 #[cfg(test)]
 mod scenes;
+#[cfg(test)]
+mod volumes;

@@ -4,20 +4,20 @@ use po_actions::{Deadline, End, Refusal};
 use po_classic_units::Buffer;
 use po_index::EntryRef;
 use po_object::hold::Pass;
-use po_object::{Agreed, CallLedger, Closed, Object, Receipt, reconcile};
+use po_object::{Agreed, CallLedger, Closed, Object, Receipt, every_answer, reconcile};
 use std::process::Abort;
 use std::sync::Wait;
 use std::sync::ledger::Ledger;
 use std::test::Fail;
 
 /// The entry Put.
-const PUT: EntryRef = EntryRef {
+pub const PUT: EntryRef = EntryRef {
     entry: 0,
     index: None,
 };
 
 /// The entry Get.
-const GET: EntryRef = EntryRef {
+pub const GET: EntryRef = EntryRef {
     entry: 1,
     index: None,
 };
@@ -31,8 +31,6 @@ pub enum Scene {
     EachKind,
     /// Attempts to cancel where no call waits.
     NoneWaits,
-    /// Two cuts, with a call behind each.
-    Cuts,
     /// Nothing.
     Idle,
 }
@@ -51,7 +49,6 @@ pub fn play<C: CallLedger, P: Ledger, R: Abort + Wait>(
         Scene::OneCall => one_call(rt, object, pass),
         Scene::EachKind => each_kind(rt, object, pass),
         Scene::NoneWaits => none_waits(rt, object),
-        Scene::Cuts => cuts(rt, object, pass),
         Scene::Idle => Ok(()),
     }
 }
@@ -61,7 +58,6 @@ pub fn look<R: Abort>(rt: &R, closed: &Closed<Buffer>, scene: Scene) -> Result<(
     let (events, receipts) = match scene {
         Scene::OneCall => (1, 1),
         Scene::EachKind => (9, 4),
-        Scene::Cuts => (1, 3),
         Scene::NoneWaits | Scene::Idle => (0, 0),
     };
     assert_eq!(rt; closed.core().events().len(), events);
@@ -73,14 +69,17 @@ pub fn look<R: Abort>(rt: &R, closed: &Closed<Buffer>, scene: Scene) -> Result<(
         seat = pass.seat().saturating_add(1);
     }
     assert_eq!(rt; filed, receipts);
-    if !matches!(scene, Scene::Cuts) {
-        assert_eq!(rt; reconcile(closed, &[]), Ok(Agreed));
+    let verdict = reconcile(closed, &[]);
+    assert_eq!(rt; verdict, Ok(Agreed));
+    if verdict.is_ok() {
+        every_answer(closed, &[]);
     }
+    assert!(rt; closed.none_pending());
     Ok(())
 }
 
 /// Asks a call for its answer. The deadline 0 makes it a conditional one.
-fn ask<C: CallLedger, P: Ledger, R: Abort + Wait>(
+pub fn ask<C: CallLedger, P: Ledger, R: Abort + Wait>(
     rt: &R,
     object: &Object<Buffer, C, P>,
     pass: &mut Pass<u64, C, P>,
@@ -209,26 +208,5 @@ fn none_waits<C: CallLedger, P: Ledger, R: Abort + Wait>(
 ) -> Result<(), Fail> {
     assert_eq!(rt; object.abort_seat(rt, 0), Err(Refusal::NoCall));
     assert_eq!(rt; object.abort_seat(rt, 9), Err(Refusal::NoCall));
-    Ok(())
-}
-
-/// The volumes run on from place 0, and a call behind them has its own event.
-fn cuts<C: CallLedger, P: Ledger, R: Abort + Wait>(
-    rt: &R,
-    object: &Object<Buffer, C, P>,
-    pass: &mut Pass<u64, C, P>,
-) -> Result<(), Fail> {
-    for place in 0..2 {
-        assert_eq!(rt;
-            ask(rt, object, pass, PUT, place, Deadline::Never),
-            Ok(End::Completed(place))
-        );
-        let volume = object.cut(rt)?;
-        assert_eq!(rt; (volume.first_place(), volume.events().len()), (place, 1));
-    }
-    assert_eq!(rt;
-        ask(rt, object, pass, GET, 0, Deadline::Never),
-        Ok(End::Completed(0))
-    );
     Ok(())
 }

@@ -1,5 +1,5 @@
 -- Where receipts and closing totals agree with the history, it has no other calls and procedures.
-use Rattle.std.proofs.Common.{◌≡◌, ◌==◌, ◌<◌, ◌≤◌, ◌+◌, ℕ, zero, suc, List, [], ◌∷◌, length, take, refl, sym, ap, subst, ◌∙◌, arith, Option, Some, None, Bool, true, false, cond, get_or}
+use Rattle.std.proofs.Common.{◌≡◌, ◌==◌, ◌<◌, ◌≤◌, ◌+◌, ℕ, zero, suc, List, [], ◌∷◌, length, take, refl, sym, ap, subst, ◌∙◌, arith, Option, Some, None, Bool, true, false, cond, get_or, ◌⊎◌, inl, inr}
 use Rattle.std.specs.List.{All, slice_get, count_by, sum_by}
 use Rattle.std.specs.Option.{IfSome}
 use Rattle.std.specs.Prelude.{nat_lt, is_some}
@@ -12,9 +12,10 @@ use Rattle.std.proofs.lemmas.Option.{slice_get-get_or}
 use Rattle.po_unit.specs.Meaning.{Meaning}
 use Rattle.po_history.specs.declared.event.Event.{Event}
 use Rattle.po_history.specs.declared.event.Event.TheVariants.{Issue, Ran, Abort, Tick, Final, Serve, Break, Expire}
-use Rattle.po_history.specs.Histories.{VolumeView, joined}
+use Rattle.po_history.specs.Histories.{VolumeView, RunOn, joined}
 use Rattle.po_accepted.specs.declared.ended.Ended.{Ended}
 use Rattle.po_actions.specs.Base.{is_issue, is_ran}
+use Rattle.po_actions.specs.View.{View}
 use Rattle.po_actions.specs.ObjectState.{ObjectState, opening_state}
 use Rattle.po_actions.specs.Step.{replay, IsLegal}
 use Rattle.po_actions.specs.Public.{NamesPublic}
@@ -23,12 +24,13 @@ use Rattle.po_actions.specs.Cutting.{AreVolumes, Leads}
 use Rattle.po_actions.specs.Headline.{Headline}
 use Rattle.po_actions.proofs.Runs.{replay-append, legal-append}
 use Rattle.po_actions.proofs.Counting.{replay-next}
+use Rattle.po_receipts.specs.declared.asked.Asked.{Asked}
 use Rattle.po_receipts.specs.declared.receipt.Receipt.{Receipt}
 use Rattle.po_receipts.specs.declared.receipt.Receipt.TheVariants as R
 use Rattle.po_receipts.specs.Passes.{PassView, fresh, IsTallied, is_call, is_procedure, unfiled}
 use Rattle.po_receipts.specs.Receipts.{is_asked_by}
 use Rattle.po_receipts.specs.Agreement.{AllAgree, history_of}
-use Rattle.po_receipts.specs.Answers.{asker_of, HasNoOthers, NonePending, HasClosingTotals}
+use Rattle.po_receipts.specs.Answers.{asker_of, AskedBySeats, HasNoOthers, NonePending, HasClosingTotals}
 use Rattle.po_receipts.proofs.OwnAnswers.{as_many}
 
 -- what a test counts
@@ -68,6 +70,11 @@ asker_below limit (Some seat) same = one_below (nat_lt seat limit) refl same
     one_below : (b : Bool) → nat_lt seat limit ≡ b → one_if b ≡ 1 → seat < limit
     one_below true is same = ltb-true seat limit is
     one_below false is same = absurd (omega (arith, same))
+
+-- one of the first seats is counted as one
+below_is : (limit : ℕ) (o : Option ℕ) → IfSome o (λ seat. seat < limit) → one_if (is_below limit o) ≡ one_if (is_some o)
+below_is limit None h = refl
+below_is limit (Some seat) h = let under : seat < limit = h in grind (arith, nat_tests)
 
 module _ {V : Type 0} where
   -- whether the event is a call or a procedure of one of the first seats
@@ -138,6 +145,17 @@ module _ {V : Type 0} where
       (asker_below limit (asker_of event) (omega (arith, same, a, b, here, rest)))
       (all_below limit events (omega (arith, same, a, b, here, rest)))
 
+  -- where each is of one of the first seats, they are as many as all
+  below_all : (limit : ℕ) (events : List (Event V)) → AskedBySeats limit events → count_by (asked_below limit) events ≡ count_by is_asked events
+  below_all limit [] h = refl
+  below_all limit (event ∷ events) h =
+      let P = λ (x : Event V). IfSome (asker_of x) (λ seat. seat < limit) in
+      let a = sum_by-cons (λ x. one_if (asked_below limit x)) event events in
+      let b = sum_by-cons (λ x. one_if (is_asked x)) event events in
+      let here = below_is limit (asker_of event) (All-head P event events h) in
+      let rest = below_all limit events (All-tail P event events h) in
+      omega (arith, a, b, here, rest)
+
   -- an event that is asked for is a call or a procedure
   asked_kinds : (event : Event V) → one_if (is_asked event) ≡ one_if (is_issue event) + one_if (is_ran event)
   asked_kinds (Issue n owner e v deadline) = refl
@@ -177,26 +195,52 @@ module _ {V : Type 0} where
   abbrev receipts_in : PassView V → ℕ
   receipts_in pass = length pass.receipts
 
-  -- where no call is pending, the tallies of a pass are its receipts
-  pass_tallied : (pass : PassView V) → IsTallied pass → pass.pending ≡ None → receipts_in pass ≡ pass.calls + pass.procedures
-  pass_tallied pass tallied none =
+  -- how many calls of a pass have no receipt yet
+  abbrev waits_in : PassView V → ℕ
+  waits_in pass = unfiled pass.pending
+
+  -- the tallies of a pass are its receipts, and the call that has none yet
+  pass_tallied : (pass : PassView V) → IsTallied pass → receipts_in pass + waits_in pass ≡ pass.calls + pass.procedures
+  pass_tallied pass tallied =
       let kinds = length_kinds pass.receipts in
       let calls = tallied.calls in
       let procedures = tallied.procedures in
-      let filed : unfiled pass.pending ≡ 0 = ap unfiled none in
-      omega (arith, kinds, calls, procedures, filed)
+      omega (arith, kinds, calls, procedures)
 
-  -- and those of all passes are all receipts
-  all_tallied : (passes : List (PassView V)) → All IsTallied passes → NonePending passes
-      → sum_by receipts_in passes ≡ sum_by (λ pass. pass.calls) passes + sum_by (λ pass. pass.procedures) passes
-  all_tallied [] tallied none = refl
-  all_tallied (pass ∷ passes) tallied none =
+  -- and those of all passes are all receipts, and all calls that have none yet
+  all_tallied : (passes : List (PassView V)) → All IsTallied passes
+      → sum_by receipts_in passes + sum_by waits_in passes ≡ sum_by (λ pass. pass.calls) passes + sum_by (λ pass. pass.procedures) passes
+  all_tallied [] tallied = refl
+  all_tallied (pass ∷ passes) tallied =
       let a = sum_by-cons receipts_in pass passes in
       let b = sum_by-cons (λ (p : PassView V). p.calls) pass passes in
       let d = sum_by-cons (λ (p : PassView V). p.procedures) pass passes in
-      let here = pass_tallied pass (All-head IsTallied pass passes tallied) (All-head (λ p. p.pending ≡ None) pass passes none) in
-      let rest = all_tallied passes (All-tail IsTallied pass passes tallied) (All-tail (λ p. p.pending ≡ None) pass passes none) in
-      omega (arith, a, b, d, here, rest)
+      let e = sum_by-cons waits_in pass passes in
+      let here = pass_tallied pass (All-head IsTallied pass passes tallied) in
+      let rest = all_tallied passes (All-tail IsTallied pass passes tallied) in
+      omega (arith, a, b, d, e, here, rest)
+
+  -- where no pass has a call pending, none waits for its receipt
+  none_waits : (passes : List (PassView V)) → NonePending passes → sum_by waits_in passes ≡ 0
+  none_waits [] none = refl
+  none_waits (pass ∷ passes) none =
+      let a = sum_by-cons waits_in pass passes in
+      let here : waits_in pass ≡ 0 = ap unfiled (All-head (λ p. p.pending ≡ None) pass passes none) in
+      let rest = none_waits passes (All-tail (λ p. p.pending ≡ None) pass passes none) in
+      omega (arith, a, here, rest)
+
+  none_there : (pending : Option (Asked V)) → unfiled pending ≡ 0 → pending ≡ None
+  none_there None none = refl
+  none_there (Some asked) none = absurd (omega (arith, none))
+
+  -- and where none waits, no pass has a call pending
+  none_pend : (passes : List (PassView V)) → sum_by waits_in passes ≡ 0 → NonePending passes
+  none_pend [] none = All-nil (λ p. p.pending ≡ None)
+  none_pend (pass ∷ passes) none =
+      let a = sum_by-cons waits_in pass passes in
+      All-cons (λ p. p.pending ≡ None) pass passes
+      (none_there pass.pending (omega (arith, a, none)))
+      (none_pend passes (omega (arith, a, none)))
 
 module _ {V : Type 0} (ended : List (Ended V)) (history : List (Event V)) (passes : List (PassView V)) where
   -- the receipts of the first seats are as many as their calls and procedures
@@ -219,13 +263,19 @@ module _ {V : Type 0} (ended : List (Ended V)) (history : List (Event V)) (passe
       let all : sum_by receipts_in (take (limit + 1) passes) ≡ count_by (asked_below (limit + 1)) history = omega (arith, many, split, one, rest, more) in
       subst (λ n. sum_by receipts_in (take n passes) ≡ count_by (asked_below n) history) (sym last) all
 
+  -- the receipts are as many as the calls and procedures of the seats
+  receipts_are : AllAgree ended history passes → sum_by receipts_in passes ≡ count_by (asked_below (length passes)) history
+  receipts_are agree =
+      let all : take (length passes) passes ≡ passes = take_all (length passes) passes (omega arith) in
+      sym (ap (sum_by receipts_in) all) ∙ count_first agree (length passes) (omega arith)
+
   -- where the calls and procedures are as many as the receipts, there are no others
   no_others : AllAgree ended history passes → count_by is_asked history ≡ sum_by receipts_in passes → HasNoOthers history passes
-  no_others agree total =
-      let all : take (length passes) passes ≡ passes = take_all (length passes) passes (omega arith) in
-      let same : sum_by receipts_in passes ≡ count_by (asked_below (length passes)) history =
-      sym (ap (sum_by receipts_in) all) ∙ count_first agree (length passes) (omega arith) in
-      all_below (length passes) history (sym same ∙ sym total)
+  no_others agree total = all_below (length passes) history (sym (receipts_are agree) ∙ sym total)
+
+  -- and where there are no others, they are as many as the receipts
+  as_receipts : AllAgree ended history passes → HasNoOthers history passes → count_by is_asked history ≡ sum_by receipts_in passes
+  as_receipts agree none = sym (below_all (length passes) history none) ∙ sym (receipts_are agree)
 
 module _ {S V : Type 0} (m : Meaning S V) (core : CoreView S V) (passes : List (PassView V)) (volumes : List (VolumeView V)) where
   abbrev start : ObjectState S V
@@ -264,20 +314,36 @@ module _ {S V : Type 0} (m : Meaning S V) (core : CoreView S V) (passes : List (
       let procedures = totals.procedures in
       omega (arith, ran, based, procedures)
 
-  -- so it has as many of both as there are receipts
-  total_of : AreVolumes m core.object volumes → Headline m core.object → All IsTallied passes → NonePending passes
-      → HasClosingTotals core passes
-      → count_by is_asked (history_of core volumes) ≡ sum_by receipts_in passes
-  total_of are headline tallied none totals =
+  -- so it has as many of both as there are receipts, and calls that have none yet
+  total_of : AreVolumes m core.object volumes → Headline m core.object → All IsTallied passes → HasClosingTotals core passes
+      → count_by is_asked (history_of core volumes) ≡ sum_by receipts_in passes + sum_by waits_in passes
+  total_of are headline tallied totals =
       let kinds = count_kinds (history_of core volumes) in
       let calls = calls_counted are headline totals in
       let procedures = procedures_counted are totals in
-      let filed = all_tallied passes tallied none in
+      let filed = all_tallied passes tallied in
       omega (arith, kinds, calls, procedures, filed)
 
-  pub none_other : AreVolumes m core.object volumes → Headline m core.object → All IsTallied passes → NonePending passes
-      → HasClosingTotals core passes
+  -- where no call is pending, there are no others; and where there are no others, none is pending
+  pub filed_alone : AreVolumes m core.object volumes → Headline m core.object → All IsTallied passes → HasClosingTotals core passes
       → AllAgree core.object.state.ended (history_of core volumes) passes
-      → HasNoOthers (history_of core volumes) passes
-  none_other are headline tallied none totals agree =
-      no_others core.object.state.ended (history_of core volumes) passes agree (total_of are headline tallied none totals)
+      → NonePending passes ⊎ HasNoOthers (history_of core volumes) passes
+      → HasNoOthers (history_of core volumes) passes × NonePending passes
+  filed_alone are headline tallied totals agree (inl none) =
+      let waits = none_waits passes none in
+      let total = total_of are headline tallied totals in
+      (no_others core.object.state.ended (history_of core volumes) passes agree (omega (arith, waits, total)), none)
+  filed_alone are headline tallied totals agree (inr none) =
+      let receipts = as_receipts core.object.state.ended (history_of core volumes) passes agree none in
+      let total = total_of are headline tallied totals in
+      (none, none_pend passes (omega (arith, receipts, total)))
+
+-- where there is no gap, no volumes are those that were cut off
+pub cut_off_before : {S V : Type 0} (m : Meaning S V) (view : View S V) (volumes : List (VolumeView V))
+    → (view.base.place ≡ view.making.first_place → AreVolumes m view [])
+    → RunOn view.making.first_place volumes view.base.place
+    → (volumes ≡ []) ⊎ AreVolumes m view volumes
+    → AreVolumes m view volumes
+cut_off_before m view volumes uncut whole (inl none) =
+    subst (AreVolumes m view) (sym none) (uncut (sym (subst (λ l. RunOn view.making.first_place l view.base.place) none whole)))
+cut_off_before m view volumes uncut whole (inr are) = are

@@ -37,9 +37,13 @@ module _ {V : Type 0} where
   asker_of (Ran owner op v reply) = Some owner
   asker_of other = None
 
+  -- Each call and each procedure of the history was asked for by one of so many seats.
+  abbrev pub AskedBySeats : ℕ → List (Event V) → Type 0
+  AskedBySeats seats history = All (λ event. IfSome (asker_of event) (λ seat. seat < seats)) history
+
   -- The history has no other calls and procedures than those that the seats of these passes asked for.
   abbrev pub HasNoOthers : List (Event V) → List (PassView V) → Type 0
-  HasNoOthers history passes = All (λ event. IfSome (asker_of event) (λ seat. seat < length passes)) history
+  HasNoOthers history passes = AskedBySeats (length passes) history
 
   -- No pass has a call that was accepted and has no receipt yet.
   abbrev pub NonePending : List (PassView V) → Type 0

@@ -1,6 +1,6 @@
 //! What follows where receipts and history agree.
 
-ghost use Rattle.std.specs.Prelude.{◌≡◌, All, count_by, sum_by};
+ghost use Rattle.std.specs.Prelude.{◌≡◌, ◌↔◌, true, ◌⊎◌, [], All, count_by, sum_by};
 ghost use Rattle.po_actions.specs.Base.{is_issue, is_ran};
 ghost use Rattle.po_actions.specs.ObjectState.{opening_state};
 ghost use Rattle.po_actions.specs.Cutting.{AreVolumes, Leads};
@@ -23,8 +23,9 @@ pub fn own_answers<U: Unit>(
     ensures { AnswersAreOwn core.now.object.state.ended (history_of core.now volumes.now) passes.now }
 {}
 
-/// Where besides the volumes are those that were cut off from this object's history, and the passes are all that it had,
-/// with no call pending, these are the answers of the serial object, and the history has no other calls and procedures.
+/// Where besides the passes are all that the object had, and the volumes are those that were cut off from its history, or
+/// there are none, these are the answers of the serial object. Where no pass has a call pending, the history has no other
+/// calls and procedures; and where it has no others, no pass has a call pending.
 pub fn every_answer<U: Unit>(
     core: &Core<U>,
     passes: &[Spent<U::Value>],
@@ -32,16 +33,31 @@ pub fn every_answer<U: Unit>(
 )
     requires agreed { IsAgreed core.now passes.now volumes.now }
     requires totals { HasClosingTotals core.now passes.now }
-    requires filed { NonePending passes.now }
-    requires volumes { AreVolumes U.meaning core.now.object volumes.now }
+    requires filed { NonePending passes.now ⊎ HasNoOthers (history_of core.now volumes.now) passes.now }
+    requires volumes { (volumes.now ≡ []) ⊎ AreVolumes U.meaning core.now.object volumes.now }
     ensures own { AnswersAreOwn core.now.object.state.ended (history_of core.now volumes.now) passes.now }
+    // The volumes, or none, are the history before the base.
+    ensures volumes { AreVolumes U.meaning core.now.object volumes.now }
     // The whole history replays from the opening as serial protected actions of one thread, and the calls end so.
     ensures serial { Leads U.meaning core.now.object.making (history_of core.now volumes.now)
         (opening_state core.now.object.making.opening core.now.object.making.first_number) core.now.object.state }
     ensures none_other { HasNoOthers (history_of core.now volumes.now) passes.now }
+    ensures none_pending { NonePending passes.now }
 {
     core.headline();
     recall_tallies(passes);
+}
+
+/// Whether no pass has a call that was accepted and has no receipt yet.
+pub fn none_pending<V: Copy>(passes: &[Spent<V>]) -> bool
+    ensures { (result ≡ true) ↔ NonePending passes.now }
+{
+    for pass in passes {
+        if pass.pending().is_some() {
+            return false;
+        }
+    }
+    true
 }
 
 /// Where the closing totals hold, and the volumes are those that were cut off from this object's history, as many calls were

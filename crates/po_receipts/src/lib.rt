@@ -14,6 +14,6 @@ mod spent;
 pub use asked::Asked;
 pub use comparison::{Agreed, compare};
 pub use fault::ReconcileFault;
-pub use laws::{closing_counts, every_answer, own_answers};
+pub use laws::{closing_counts, every_answer, none_pending, own_answers};
 pub use receipt::Receipt;
 pub use spent::Spent;

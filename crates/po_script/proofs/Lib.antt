@@ -9,3 +9,6 @@ pub mod Refused
 pub mod ShowLemmas
 pub mod CollectLemmas
 pub mod CountLemmas
+pub mod FactLemmas
+pub mod KeptFacts
+pub mod SureLemmas

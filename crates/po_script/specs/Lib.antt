@@ -1,6 +1,8 @@
 pub mod Lines
 pub mod Operations
 pub mod Units
+pub mod Facts
+pub mod SureRefusals
 pub mod Session
 pub mod Tickets
 pub mod OverStd

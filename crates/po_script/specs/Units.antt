@@ -3,7 +3,8 @@ use Rattle.std.specs.Prelude.{ℕ, zero, suc, ◌⊎◌, List, Option}
 use Rattle.std.proofs.Common.{inl, inr}
 use Rattle.po_index.specs.declared.decl.Decl.{Decl}
 use Rattle.po_barriers.specs.declared.order.Order.{Order}
-use Rattle.po_unit.specs.Meaning.{Meaning}
+use Rattle.po_unit.specs.Meaning.{Meaning, IsLawful}
+use Rattle.po_actions.specs.declared.refusal.Refusal.{Refusal}
 use Rattle.po_actions.specs.Making.{Making}
 use Rattle.po_actions.specs.View.{View, opening_view}
 use Rattle.po_classic_units.specs.ScriptUnit.{KnownUnit}
@@ -11,7 +12,7 @@ use Rattle.po_language.specs.Units.{UnitList}
 use Rattle.po_language.specs.Units.UnitList.{last as last_name, before as name_before}
 use Rattle.po_language.specs.declared.command.Beginning.{Beginning}
 use Rattle.po_language.specs.declared.command.Operation.{Operation}
-use Rattle.po_script.specs.Operations.{after_operation, operation_lines}
+use Rattle.po_script.specs.Operations.{refusal_of, after_operation, operation_lines}
 
 -- the units of scripts, in an order: one, or one before others; what scripts know of each, and what it means
 pub data ScriptUnits : Type 1 where
@@ -22,6 +23,11 @@ pub data ScriptUnits : Type 1 where
 abbrev pub listed : ScriptUnits → UnitList
 listed (last S unit m) = last_name unit.names
 listed (before S unit m units) = name_before unit.names (listed units)
+
+-- Each of the units meets the laws of a unit.
+abbrev pub AreLawful : ScriptUnits → Type 0
+AreLawful (last S unit m) = IsLawful m
+AreLawful (before S unit m units) = IsLawful m × AreLawful units
 
 -- an object of one of the units
 abbrev pub Object : ScriptUnits → Type 0
@@ -50,6 +56,12 @@ abbrev pub made_at : (units : ScriptUnits) → ℕ → Beginning → Object unit
 made_at (last S unit m) n beginning = made unit beginning
 made_at (before S unit m units) zero beginning = inl (made unit beginning)
 made_at (before S unit m units) (suc n) beginning = inr (made_at units n beginning)
+
+-- the refusal that the operation meets
+abbrev pub refusal_on : (units : ScriptUnits) → Object units → Operation → Option Refusal
+refusal_on (last S unit m) view operation = refusal_of m view operation
+refusal_on (before S unit m units) (inl view) operation = refusal_of m view operation
+refusal_on (before S unit m units) (inr object) operation = refusal_on units object operation
 
 -- the object after an operation
 abbrev pub after_on : (units : ScriptUnits) → Object units → Operation → Object units

@@ -64,7 +64,10 @@ impl<O: ScriptObject> Interpreter<O> {
             (W.failed writer.old || W.stuck writer.old) (W.failed writer.new || W.stuck writer.new)) }
     {
         let command = match command_of::<O>(self.begun, line) {
-            Err(kind) => return Err(RunFault::Script { line: number, kind }),
+            Err(fault) => {
+                let kind = fault.kind();
+                return Err(RunFault::Script { line: number, kind });
+            }
             Ok(None) => return Ok(()),
             Ok(Some(command)) => command,
         };

@@ -1,6 +1,7 @@
 //! Scripts: lines of commands to a protected object are carried out, and answered by lines.
 #![tactic(auto)]
 
+pub mod facts;
 pub mod fault;
 mod interpreter;
 mod lines;
@@ -14,9 +15,11 @@ pub mod source;
 mod tickets;
 pub mod units;
 
+pub use crate::facts::UnitFacts;
 pub use crate::fault::RunFault;
 pub use crate::over_std::OverStd;
 pub use crate::run::run_script;
 pub use crate::sink::Sink;
 pub use crate::source::{IoFailed, Source};
+pub use crate::units::{ScriptObject, Units};
 pub use po_language::FaultKind;

@@ -2,6 +2,7 @@
 
 ghost use Rattle.std.specs.Prelude.{◌≡◌, [], IfOk, OnOk, OnErr, string_bytes};
 
+use crate::facts::{UnitFacts, facts_of};
 use crate::object::Object;
 use po_classic_units::{
     Allocator, Broadcast, Buffer, Meeting, Pulse, Relay, ScriptUnit, Signal, Trap, UnitNames,
@@ -28,7 +29,8 @@ pub trait ScriptObject: UnitList + Drop {
     ghost use Rattle.po_classic_units.specs.Sizes.{IsSizeWhere};
     ghost use Rattle.po_language.specs.Units.{names_at};
     ghost use Rattle.po_script.specs.Operations.{IsEither};
-    ghost use Rattle.po_script.specs.Units.{ScriptUnits, Object as ObjectOf, listed, made_at, after_on, lines_on};
+    ghost use Rattle.po_script.specs.Facts.{facts_at};
+    ghost use Rattle.po_script.specs.Units.{ScriptUnits, Object as ObjectOf, listed, AreLawful, made_at, after_on, lines_on};
 
     /// The units of the list.
     ghost units: { ScriptUnits };
@@ -41,6 +43,11 @@ pub trait ScriptObject: UnitList + Drop {
         requires { IsSizeWhere (names_at (listed units) number).is_sized beginning.unit.size }
         ensures { IfOk result (λ it. object it ≡ made_at units number beginning) };
 
+    /// What is known of an object of the unit with this number and of this size, whatever it is used for.
+    fn facts(alloc: Global, number: u16, size: u16) -> Result<UnitFacts, AllocError>
+        requires { IsSizeWhere (names_at (listed units) number).is_sized size }
+        ensures { IfOk result (λ facts. facts ≡ facts_at units number size) };
+
     /// Carries out the operation, and puts the lines that answer it into the empty reply.
     fn operate(&mut self, operation: Operation, reply: &mut String) -> Result<(), AllocError>
         requires { string_bytes reply.old ≡ [] }
@@ -50,6 +57,9 @@ pub trait ScriptObject: UnitList + Drop {
 
     /// The names of the list are those of its units.
     ghost same_list: { Self.listed ≡ listed units };
+
+    /// Each unit of the list meets the laws of a unit.
+    ghost lawful: { AreLawful units };
 }
 
 /// The object of one unit, or of one of the others.
@@ -111,11 +121,17 @@ impl<U: ScriptUnit> ScriptObject for Object<U> {
         Object::new(alloc, beginning)
     }
 
+    fn facts(alloc: Global, _number: u16, size: u16) -> Result<UnitFacts, AllocError> {
+        facts_of::<U>(alloc, size)
+    }
+
     fn operate(&mut self, operation: Operation, reply: &mut String) -> Result<(), AllocError> {
         Object::operate(self, operation, reply)
     }
 
     ghost same_list = { refl };
+
+    ghost lawful = { U.lawful };
 }
 
 impl<U: ScriptUnit, R: ScriptObject> ScriptObject for OneOf<U, R> {
@@ -135,6 +151,13 @@ impl<U: ScriptUnit, R: ScriptObject> ScriptObject for OneOf<U, R> {
         }
     }
 
+    fn facts(alloc: Global, number: u16, size: u16) -> Result<UnitFacts, AllocError> {
+        match number.checked_sub(1) {
+            None => facts_of::<U>(alloc, size),
+            Some(rest) => R::facts(alloc, rest, size),
+        }
+    }
+
     fn operate(&mut self, operation: Operation, reply: &mut String) -> Result<(), AllocError> {
         match self {
             OneOf::This(object) => object.operate(operation, reply),
@@ -143,4 +166,6 @@ impl<U: ScriptUnit, R: ScriptObject> ScriptObject for OneOf<U, R> {
     }
 
     ghost same_list = { ap (name_before U.known.names) R.same_list };
+
+    ghost lawful = { (U.lawful, R.lawful) };
 }

@@ -3,8 +3,8 @@
 ghost use Rattle.std.specs.Prelude.{◌≡◌, ◌+◌};
 
 use crate::opened::{Opened, buffer_core, close_and_print, open};
-use crate::team::{TURNS, Team};
-use crate::threads::{Work, call, start};
+use crate::team::Team;
+use crate::threads::{Work, call, sees_waiting, start};
 use po_actions::Core;
 use po_classic_units::Buffer;
 use po_index::EntryRef;
@@ -21,20 +21,6 @@ const PUT: u16 = 0;
 
 /// The entry that takes a value from the buffer.
 const GET: u16 = 1;
-
-/// Looks for a call that waits on the entry Get.
-fn sees_waiter<C: CallLedger, P: Ledger>(object: &Object<Buffer, C, P>) -> bool {
-    let get = EntryRef {
-        entry: GET,
-        index: None,
-    };
-    for _ in 0..TURNS {
-        if object.try_count(get) == Ok(Some(1)) {
-            return true;
-        }
-    }
-    false
-}
 
 /// Lets the other thread's call go, and prints both answers.
 fn release<
@@ -78,7 +64,11 @@ fn wait_beside<
         theirs,
         Work::Calls(GET, 1),
     )?;
-    if !sees_waiter(&*object) {
+    let get = EntryRef {
+        entry: GET,
+        index: None,
+    };
+    if !sees_waiting(&*object, get, 1) {
         return println!(rt; "no call is seen to wait");
     }
     let theirs = release(&rt, &*object, &mut mine, waiter)?;

@@ -4,7 +4,9 @@
 //! and comparing the receipts of all callers with the history.
 #![tactic(auto)]
 
+mod cancelled;
 mod cuts;
+mod finalized;
 mod held_lock;
 mod opened;
 mod seats;
@@ -19,6 +21,8 @@ fn main(rt: HostRuntime) -> io::Result<()> {
     held_lock::run(rt)?;
     side_by_side::run(rt)?;
     cuts::run(rt)?;
+    finalized::run(rt)?;
+    cancelled::run(rt)?;
     seats::run(&rt, 0)?;
     seats::run(&rt, u16::MAX)
 }

@@ -1,6 +1,6 @@
 //! The threads that use an object.
 
-use crate::team::Team;
+use crate::team::{TURNS, Team};
 use po_actions::{End, Refusal};
 use po_index::EntryRef;
 use po_object::hold::Pass;
@@ -14,8 +14,10 @@ use std::thread::{self, JoinHandle, Threads};
 /// What a thread does once its team starts.
 #[derive(Clone, Copy)]
 pub(crate) enum Work {
-    /// Calls this single entry so often.
+    /// Calls this single entry so often, with the values from 0 on.
     Calls(u16, u64),
+    /// Calls this single entry once, with this value.
+    Call(u16, u64),
     /// Calls the function with this value, which is to give it back.
     Function(u64),
 }
@@ -34,6 +36,20 @@ pub(crate) fn call<U: Unit<Value = u64>, C: CallLedger, P: Ledger, R: Wait>(
     Some(object.call(rt, pass, EntryRef { entry, index: None }, value))
 }
 
+/// Looks until so many calls are seen to wait on the entry.
+pub(crate) fn sees_waiting<U: Unit<Value = u64>, C: CallLedger, P: Ledger>(
+    object: &Object<U, C, P>,
+    entry: EntryRef,
+    calls: u64,
+) -> bool {
+    for _ in 0..TURNS {
+        if object.try_count(entry) == Ok(Some(calls)) {
+            return true;
+        }
+    }
+    false
+}
+
 /// Does the work, counts what was answered as it should be, and gives the pass back.
 fn carry_out<U: Unit<Value = u64>, C: CallLedger, P: Ledger, R: Wait>(
     rt: &R,
@@ -50,6 +66,11 @@ fn carry_out<U: Unit<Value = u64>, C: CallLedger, P: Ledger, R: Wait>(
                 if let Some(Ok(End::Completed(_))) = call(rt, object, &mut pass, entry, value) {
                     team.count();
                 }
+            }
+        }
+        Work::Call(entry, value) => {
+            if let Some(Ok(End::Completed(_))) = call(rt, object, &mut pass, entry, value) {
+                team.count();
             }
         }
         Work::Function(value) => {

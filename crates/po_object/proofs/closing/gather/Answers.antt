@@ -56,4 +56,4 @@ invariant_of-result g c =
     let ran = sym (c.audit-2.ensures.whole (omega (arith, some, p1, w2, eq))) ∙ k.procedures in
     let totals = closing-totals c.take_apart-core.result.0 c.args.calls.now.seats _ _ c.args.passes.items c.collect-spent.result.items some len c.requires.one_each k.placed c.take_apart-core.ensures.totals made ran in
     let most : c.args.calls.now.seats ≤ 65_535 = search (rules, common_steps) in
-    is-closed c.take_apart-core.result.0 c.args.calls.now.seats c.args.passes.items c.collect-spent.result.items most len c.requires.one_each k.placed totals
+    is-closed c.take_apart-core.result.0 c.args.calls.now.seats c.args.passes.items c.collect-spent.result.items most len c.requires.one_each k.placed totals (c.take_apart-core.ensures.asked c.args.calls.now.seats w)

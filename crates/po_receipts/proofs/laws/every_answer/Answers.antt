@@ -10,10 +10,13 @@ returns g c =
     let passes = c.args.passes.now in
     let volumes = c.args.volumes.now in
     let agree = c.requires.agreed.agree in
-    let are = c.requires.volumes in
     let headline = c.headline.ensures.headline in
+    let are = lemmas.cut_off_before m core.object volumes c.headline.ensures.uncut c.requires.agreed.whole c.requires.volumes in
+    let alone = lemmas.filed_alone m core passes volumes are headline c.recall_tallies.ensures c.requires.totals agree c.requires.filed in
     record {
       own = own_answers core.object.state.ended (history_of core volumes) passes agree;
+      volumes = are;
       serial = lemmas.whole_leads m core passes volumes are headline;
-      none_other = lemmas.none_other m core passes volumes are headline c.recall_tallies.ensures c.requires.filed c.requires.totals agree;
+      none_other = alone.0;
+      none_pending = alone.1;
     }

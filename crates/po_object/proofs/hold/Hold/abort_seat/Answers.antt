@@ -1,5 +1,6 @@
 use Rattle.std.proofs.Common.{◌∙◌, sym}
 use Rattle.po_accepted.specs.WaitingCalls.{is_of}
+use Rattle.po_object.proofs.Asking.{asked-abort_of}
 use Rattle.po_object.proofs.Counting.{counted-abort_of, abort-shape}
 use Rattle.po_object.proofs.LatestKept.{known-abort_of}
 use Rattle.po_object.proofs.Waits.{found-unrefused}
@@ -21,4 +22,5 @@ invariant_of-self-2 g c =
       shape = abort-shape g.U.Unit.meaning _ _ _ _ c.in_ok-aborted.ensures.action ∙ c.self.invariant.shape;
       latest = known-abort_of g.U.Unit.meaning _ _ _ _ c.in_ok-aborted.ensures.action c.self.invariant.latest;
       seats = c.self.invariant.seats;
+      asked = asked-abort_of g.U.Unit.meaning _ _ _ _ _ c.in_ok-aborted.ensures.action c.self.invariant.asked;
     }

@@ -1,15 +1,22 @@
-use Rattle.std.proofs.Common.{◌∙◌, sym, arith}
+use Rattle.std.proofs.Common.{◌≡◌, ◌∙◌, sym, arith, length}
+use Rattle.po_actions.specs.Cutting.{procedures_run}
 use Rattle.po_object.proofs.LatestKept.{true-first}
 use Rattle.po_object.proofs.hold.Hold.new.Goals as goal
 
 pub invariant_of-result : goal.invariant_of-result
 invariant_of-result g c =
     let r = c.requires in
+    let view = c.args.core.object in
+    let sound = c.headline.ensures.headline.sound in
+    let next : view.state.next ≡ view.making.first_number = omega (arith, sound.counted, sound.low, r.fresh) in
+    let ran : procedures_run view ≡ 0 = omega (arith, sound.counted, sound.low, r.fresh) in
+    let none : length view.events ≡ 0 = omega (arith, sound.begun, r.fresh) in
     record {
-      counted = record { issued = omega (arith, r.fresh.0, r.totals.0); ran = r.fresh.1 ∙ sym r.totals.1 };
+      counted = record { issued = omega (arith, next, r.totals.0); ran = ran ∙ sym r.totals.1 };
       parts = r.parts;
       amounts = r.amounts;
       shape = r.shape;
-      latest = true-first _ _ _ c.headline.ensures.headline.sound.placed r.fresh.0 r.latest.1;
+      latest = true-first _ _ _ sound.placed next r.latest.1;
       seats = r.seats;
+      asked = λ i d lt. absurd (omega (arith, none, lt));
     }

@@ -1,0 +1,3 @@
+pub mod BoundedSteps
+pub mod Live
+pub mod TicketSteps

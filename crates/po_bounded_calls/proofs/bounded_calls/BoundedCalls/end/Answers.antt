@@ -1,0 +1,48 @@
+use Rattle.std.proofs.Common.{◌≡◌, ◌<◌, Some, refl, sym, ap, ◌∙◌, arith, subst, ◌++◌, ◌∷◌, [], append_assoc}
+use Rattle.std.specs.List.{All}
+use Rattle.std.proofs.lemmas.List.Elements.{All-push}
+use Rattle.po_calls.specs.Calls.{waiting_call, IsAbove}
+use Rattle.po_accepted.specs.Ending.{ended_as}
+use Rattle.po_accepted.specs.Calls.{IsQueued, IsKeptWell, call_at, key_of, of_key, hands}
+use Rattle.po_accepted.proofs.HandSteps.{dropped}
+use Rattle.po_accepted.proofs.KeptSteps.{kept_call, kept_ended, key_below, waiting_indexed}
+use Rattle.po_bounded_calls.proofs.bounded_calls.BoundedCalls.end.Goals as goal
+
+pub invariant_of-self : goal.invariant_of-self
+invariant_of-self g c =
+    let s = c.self.inside in let i = c.self.invariant in
+    let f = call_at s.table.calls in let ix = key_of s.first s.keys.items in
+    let call = c.args.call in
+    let k = c.in-Some.key in
+    let is = c.in-Some.is in
+    let hand = rw (← c.self.view_is) at c.requires in
+    let at : f k ≡ Some call = ap (of_key f) (sym is) ∙ hand in
+    let u = c.finish.ensures.updates call (kept_call s.table k call.number call at refl) in
+    let queued = dropped f ix (call_at c.finish.new.self.calls) s.queues k (ap waiting_call u.changed) (λ j ne. ap waiting_call (u.others j ne)) (subst (IsQueued f ix s.queues) is i.queued) in
+    let items = sym c.then-self-inside.ensures in let items_end = c.then-self-inside.ensures in
+    let below : call.number < s.next = omega (arith, i.numbers, key_below s.first s.keys.items call.number k (waiting_indexed s.table.calls k call ix s.ended.items at i.kept)) in
+    record {
+      queued = queued.0;
+      kept = subst (IsKeptWell c.finish.new.self.calls ix) items (kept_ended s.table.calls c.finish.new.self.calls k call c.args.end ix s.ended.items at u i.kept);
+      last = subst (λ last. IsAbove last (s.next)) (sym c.finish.ensures.room.last) i.last;
+      numbers = i.numbers;
+      ended_before = subst (All (λ x. x.number < s.next)) items (All-push (λ x. x.number < s.next) s.ended.items (ended_as c.args.end call) i.ended_before below);
+      shown = items_end ∙ ap (λ l. l ++ ended_as c.args.end call ∷ []) i.shown ∙ append_assoc s.before.items s.ended_now.items (ended_as c.args.end call ∷ []) ∙ ap (λ l. s.before.items ++ l) (sym c.push_reserved.ensures.items);
+      few = omega (arith, i.few, c.finish.ensures.room.len);
+      room = omega (arith, i.room, c.finish.ensures.room.capacity);
+      reserved = omega (arith, i.reserved, c.finish.ensures.room.capacity);
+      for_ended = omega (arith, i.for_ended, ap hands is, c.push_reserved.ensures.len, c.push_reserved.ensures.capacity);
+      for_all = omega (arith, i.for_all, c.push_reserved.ensures.capacity);
+    }
+
+pub returns : goal.returns
+returns g c =
+    let s = c.self.inside in let i = c.self.invariant in
+    let f = call_at s.table.calls in let ix = key_of s.first s.keys.items in
+    let call = c.args.call in
+    let k = c.in-Some.key in
+    let hand = rw (← c.self.view_is) at c.requires in
+    let at : f k ≡ Some call = ap (of_key f) (sym c.in-Some.is) ∙ hand in
+    let u = c.finish.ensures.updates call (kept_call s.table k call.number call at refl) in
+    let queued = dropped f ix (call_at c.finish.new.self.calls) s.queues k (ap waiting_call u.changed) (λ j ne. ap waiting_call (u.others j ne)) (subst (IsQueued f ix s.queues) c.in-Some.is i.queued) in
+    rw (c.then-self-inside.ensures, ← c.self.view_is) (rw (queued.1, c.finish.ensures.numbers) refl)

@@ -1,0 +1,35 @@
+use Rattle.std.proofs.Common.{refl, sym, ◌∙◌}
+use Rattle.po_accepted.specs.Calls.{call_at, key_of}
+use Rattle.po_accepted.proofs.HandSteps.{no_hand, oldest_taken, not_none}
+use Rattle.po_bounded_calls.proofs.BoundedSteps.{taken_in_hand}
+use Rattle.po_bounded_calls.proofs.bounded_calls.BoundedCalls.take_oldest.Goals as goal
+
+pub invariant_of-self : goal.invariant_of-self
+invariant_of-self g c =
+    let s = c.self.inside in let i = c.self.invariant in
+    let f = call_at s.table.calls in let ix = key_of s.first s.keys.items in
+    let r = rw (← c.self.view_is) at c.requires.hand in
+    let none = no_hand f ix s.queues s.hand i.queued r in
+    let taken = oldest_taken f ix s.queues s.hand c.in_ok-key.key c.recall_invariant.ensures i.queued (sym c.in_ok-key.ensures) in
+    rw c.remove.ensures.others (taken_in_hand s.table s.queues s.keys.items s.ended.items s.before.items s.ended_now s.first s.next s.hand s.most c.in_ok-key.key c.recall_invariant.ensures taken.has none i)
+
+pub returns-clause-found : goal.returns-clause-found
+returns-clause-found g c =
+    let s = c.self.inside in let i = c.self.invariant in
+    let f = call_at s.table.calls in let ix = key_of s.first s.keys.items in
+    let taken = oldest_taken f ix s.queues s.hand c.in_ok-key.key c.recall_invariant.ensures i.queued (sym c.in_ok-key.ensures) in
+    rw (← c.self.view_is) (c.in_hand.ensures ∙ taken.found)
+
+pub returns-clause-taken : goal.returns-clause-taken
+returns-clause-taken g c =
+    let s = c.self.inside in let i = c.self.invariant in
+    let f = call_at s.table.calls in let ix = key_of s.first s.keys.items in
+    let taken = oldest_taken f ix s.queues s.hand c.in_ok-key.key c.recall_invariant.ensures i.queued (sym c.in_ok-key.ensures) in
+    rw (c.in_hand.ensures, c.remove.ensures.others, ← c.self.view_is) (rw (taken.waiting, taken.places) refl)
+
+pub returns-clause-none_placed : goal.returns-clause-none_placed
+returns-clause-none_placed g c =
+    let s = c.self.inside in let i = c.self.invariant in
+    let f = call_at s.table.calls in let ix = key_of s.first s.keys.items in
+    let taken = oldest_taken f ix s.queues s.hand c.in_ok-key.key c.recall_invariant.ensures i.queued (sym c.in_ok-key.ensures) in
+    rw c.in_hand.ensures (not_none _ (f c.in_ok-key.key) taken.is_call)

@@ -1,0 +1,4 @@
+pub mod Finals
+pub mod LatestKept
+pub mod Rooms
+pub mod Shared

@@ -1,0 +1,15 @@
+use Rattle.std.proofs.Common.{◌≡◌, ◌+◌, ◌≤◌, vec_len, vec_capacity}
+use Rattle.po_object.specs.Seats.{AreFresh}
+use Rattle.po_bounded_object.proofs.opening.hand_out.Given as goal
+
+abbrev pub invariant-loop-seat : goal.invariant-loop-seat
+invariant-loop-seat g l = record {
+  parkers : vec_len l.parkers + l.seat ≡ l.seats;
+  calls : l.last_calls.parts + l.seat ≡ l.seats + 1;
+  procedures : l.last_procedures.parts + l.seat ≡ l.seats + 1;
+  last : l.last_free.parts + l.seat ≡ l.seats + 1;
+  none : (l.last_calls.amount ≡ 0) × (l.last_procedures.amount ≡ 0) × (l.last_free.amount ≡ 0);
+  free : l.free.total ≡ l.seat;
+  passes : AreFresh l.seat l.passes.items;
+  room : l.seats ≤ vec_capacity l.passes;
+}

@@ -1,0 +1,5 @@
+pub mod Holds
+pub mod Closing
+pub mod Refused
+pub mod Faults
+pub mod LatestCalls

@@ -1,0 +1,195 @@
+//! How an object is closed, and what is left of it.
+
+ghost use Rattle.std.specs.Prelude.{◌≡◌, ◌+◌, ◌^◌, ◌<◌, ◌≤◌, IfOk, IfErr, IfSome, IfNone, OnOk, length, vec_len, slice_index, slice_set, sum_by};
+ghost use Rattle.po_object.specs.Seats.{OneEach, IsMissing, AreBySeat, ArePlaced, AreCounts};
+ghost use Rattle.po_object.specs.Closing.{IsClosed};
+ghost use Rattle.po_machine.specs.MachineView.{core_of};
+ghost use Rattle.po_receipts.specs.Answers.{HasClosingTotals};
+ghost use Rattle.po_bounded_object.specs.Faults.{KeepsAll};
+ghost use Rattle.po_bounded_object.specs.Closing.{closed_of};
+
+use crate::fault::CloseFault;
+use crate::hold::{BoundedHold, BoundedPass};
+use crate::object::BoundedObject;
+use crate::spent::BoundedSpent;
+use po_machine::Machine;
+use po_object::CallLedger;
+use po_object::ledgers::Division;
+use po_unit::Unit;
+use std::marker::Model;
+use std::sync::ledger::{Ledger, Share};
+
+/// An object that was closed: nobody can call it any more. Contracts see it as its machine and its passes.
+#[derive(Drop)]
+pub struct BoundedClosed<U: Unit> {
+    machine: Machine<U>,
+    passes: Vec<BoundedSpent<U::Value>>,
+}
+
+impl<U: Unit> Model for BoundedClosed<U> {
+    ghost use Rattle.po_object.specs.Closing.{IsClosed};
+    ghost use Rattle.po_bounded_object.specs.Closing.{BoundedClosedView, closed_of as as_closed};
+
+    ghost Value = { BoundedClosedView U U.Value };
+
+    ghost view = { λ c. record { machine = c.machine; passes = c.passes.items } };
+
+    ghost invariant = { λ c. IsClosed (as_closed (record { machine = c.machine; passes = c.passes.items })) };
+}
+
+impl<U: Unit> BoundedClosed<U> {
+    /// The machine.
+    pub fn machine(&self) -> &Machine<U>
+        ensures { result.now ≡ self.now.machine }
+    {
+        &self.machine
+    }
+
+    /// The passes, by rising seat.
+    pub fn passes(&self) -> &[BoundedSpent<U::Value>]
+        ensures { result.now ≡ self.now.passes }
+    {
+        self.passes.as_slice()
+    }
+
+    /// What holds of every closed object: the pass of a seat stands at the seat's place; in the whole history as many calls
+    /// were issued, and as many procedures ran, as the passes counted; and seats alone asked for them.
+    pub fn closing_totals(&self)
+        ensures { IsClosed (closed_of self.now) }
+    {
+        let _ = &self.machine;
+    }
+}
+
+impl<U: Unit, C: CallLedger, P: Ledger, F: Ledger> BoundedObject<U, C, P, F> {
+    /// Closes the object, where each seat has exactly one of the passes. No memory is taken.
+    ///
+    /// Else the fault names the lowest seat that hasn't, and hands the object and the passes back.
+    pub fn close(
+        self,
+        passes: Vec<BoundedPass<U::Value, C, P, F>>,
+    ) -> Result<BoundedClosed<U>, CloseFault<U, C, P, F>>
+        ensures one_each { OnOk result (OneEach self passes.items × (length passes.items ≡ self)) }
+        ensures by_seat { IfOk result (λ closed. AreBySeat self passes.items closed.passes) }
+        ensures totals { IfOk result (λ closed. HasClosingTotals (core_of closed.machine) closed.passes) }
+        ensures fault { IfErr result (λ fault. KeepsAll self passes.items fault) }
+    {
+        let mut object = self;
+        if let Some(seat) = object.missing(&passes) {
+            return Err(CloseFault::PassMissing {
+                seat,
+                object,
+                passes,
+            });
+        }
+        let BoundedObject {
+            hold,
+            seats: _seats,
+            calls,
+            procedures,
+            room,
+            counts: _counts,
+        } = object;
+        let closed = gather(hold.into_inner(), room, passes, &calls, &procedures);
+        Ok(closed)
+    }
+}
+
+impl<U: Unit, C: CallLedger, P: Ledger, F: Ledger> BoundedObject<U, C, P, F> {
+    /// The lowest seat that hasn't exactly one of the passes.
+    fn missing(&mut self, passes: &Vec<BoundedPass<U::Value, C, P, F>>) -> Option<u16>
+        ensures same { self.new ≡ self.old }
+        ensures some { IfSome result (λ s. IsMissing self.old passes.now.items s) }
+        ensures none { IfNone result (OneEach self.old passes.now.items) }
+    {
+        count(&mut self.counts, passes);
+        for seat in 0..self.calls.seats {
+            if self.counts[seat as usize] != 1 {
+                return Some(seat);
+            }
+        }
+        None
+    }
+}
+
+/// Counts the passes of each seat.
+fn count<V: Copy, C: Ledger, P: Ledger, F: Ledger>(
+    counts: &mut Vec<usize>,
+    passes: &Vec<BoundedPass<V, C, P, F>>,
+)
+    ensures { AreCounts (vec_len counts.old) passes.now.items counts.new.items }
+{
+    counts.as_mut_slice().fill(0);
+    for i in 0..passes.len() {
+        count_one(counts, passes[i].seat());
+    }
+}
+
+/// Counts one pass more of the seat, if there is such a seat.
+fn count_one(counts: &mut Vec<usize>, seat: u16)
+    requires { seat < vec_len counts.old → slice_index counts.old.items seat + 1 < 2 ^ 64 }
+    ensures within { seat < vec_len counts.old →
+        counts.new.items ≡ slice_set counts.old.items seat (slice_index counts.old.items seat + 1) }
+    ensures past { vec_len counts.old ≤ seat → counts.new.items ≡ counts.old.items }
+{
+    let seat = seat as usize;
+    if seat < counts.len() {
+        counts[seat] += 1;
+    }
+}
+
+/// Takes the machine out, with the passes by rising seat.
+fn gather<U: Unit, C: CallLedger, P: Ledger, F: Ledger>(
+    hold: BoundedHold<U, C, P, F>,
+    room: Vec<BoundedSpent<U::Value>>,
+    passes: Vec<BoundedPass<U::Value, C, P, F>>,
+    calls: &Division<C>,
+    procedures: &Division<P>,
+) -> BoundedClosed<U>
+    requires room { vec_len room ≡ calls.now.seats }
+    requires seats { procedures.now.seats ≡ calls.now.seats }
+    requires one_each { OneEach calls.now.seats passes.items }
+    ensures length { length passes.items ≡ calls.now.seats }
+    ensures by_seat { AreBySeat calls.now.seats passes.items result.passes }
+    ensures totals { HasClosingTotals (core_of result.machine) result.passes }
+{
+    let (machine, mut calls_book, mut procedures_book, mut made, mut ran) = hold.take_apart();
+    let _seats = procedures.seats;
+    let spent = collect(calls.seats, room, passes, &mut made, &mut ran);
+    calls_book.audit(&mut made);
+    procedures_book.audit(&mut ran);
+    BoundedClosed {
+        machine,
+        passes: spent,
+    }
+}
+
+/// Puts each pass into the room of its seat, and its parts of the ledgers to these.
+fn collect<V: Copy, C: Ledger, P: Ledger, F: Ledger>(
+    seats: u16,
+    room: Vec<BoundedSpent<V>>,
+    passes: Vec<BoundedPass<V, C, P, F>>,
+    made: &mut Share<C>,
+    ran: &mut Share<P>,
+) -> Vec<BoundedSpent<V>>
+    requires room { vec_len room ≡ seats }
+    requires parts { (made.old.parts ≡ 1) × (ran.old.parts ≡ 1) }
+    requires bound { 1 ≤ C.parts }
+    requires amounts { (made.old.amount ≡ 0) × (ran.old.amount ≡ 0) }
+    ensures room { vec_len result ≡ seats }
+    ensures parts { (made.new.parts ≡ length passes.items + 1) × (ran.new.parts ≡ length passes.items + 1) }
+    ensures bound { made.new.parts ≤ C.parts }
+    ensures calls { made.new.amount ≡ sum_by (λ pass. pass.calls) passes.items }
+    ensures procedures { ran.new.amount ≡ sum_by (λ pass. pass.procedures) passes.items }
+    ensures placed { ArePlaced seats passes.items result.items }
+{
+    let mut room = room;
+    for pass in passes {
+        let seat = pass.seat() as usize;
+        let spent = pass.spend(made, ran);
+        if seat < room.len() {
+            room[seat] = spent;
+        }
+    }
+    room
+}

@@ -1,0 +1,191 @@
+//! Threads that share a bounded buffer whose memory is all taken at the opening.
+//!
+//! Two producers put 100,000 values each into a buffer for four, and two consumers get 100,000 each. Then the object is
+//! closed, and its closing totals are told. What is printed is the same in every run.
+#![tactic(auto)]
+
+ghost use Rattle.std.specs.Prelude.{◌≡◌, ◌≤◌, ◌+◌, IfOk};
+
+use anyhow::{Result, bail};
+use po_actions::{Order, Start};
+use po_bounded_object::hold::BoundedPass;
+use po_bounded_object::{BoundedClosed, BoundedObject, CallLedger};
+use po_classic_units::{Buffer, ScriptUnit};
+use po_index::EntryRef;
+use po_machine::Machine;
+use std::alloc::{AllocError, Global};
+use std::io::Print;
+use std::marker::Brand;
+use std::sync::ledger::{Blank, Ledger};
+use std::sync::{Arc, Wait};
+use std::thread::{self, JoinHandle, Threads};
+
+/// How many values the buffer has room for.
+const CAPACITY: u16 = 4;
+
+/// How many values a producer puts, and a consumer gets.
+const VALUES: u64 = 100_000;
+
+/// Two producers and two consumers.
+const SEATS: u16 = 4;
+
+/// How many calls may be uncollected at once: one of each seat.
+const MOST: usize = 4;
+
+/// How many parts each ledger has: one for each seat, and one that the object keeps.
+const PARTS: u64 = 5;
+
+/// The entry Put of the buffer.
+const PUT: EntryRef = EntryRef {
+    entry: 0,
+    index: None,
+};
+
+/// The entry Get of the buffer.
+const GET: EntryRef = EntryRef {
+    entry: 1,
+    index: None,
+};
+
+/// From where the machine starts: calls from 1, events from 0, and no greatest length of a queue.
+const START: Start = Start {
+    first_number: 1,
+    first_place: 0,
+    max_queue: None,
+};
+
+/// A machine over an empty buffer, with memory for a call of each seat.
+fn empty_buffer(alloc: Global) -> Result<Machine<Buffer>>
+    ensures { IfOk result (λ machine. machine.most ≡ MOST) }
+{
+    let buffer = Buffer::new(alloc, CAPACITY)?;
+    let shape = buffer.shape(alloc)?;
+    let machine = Machine::start(alloc, buffer, shape, Order::Textual, START, MOST)?;
+    Ok(machine)
+}
+
+/// Calls the entry so many times, with the values from 0 on, and gives the pass back.
+///
+/// A caller that is refused finalizes the object, so that no other waits for what it doesn't do.
+fn call_often<C: CallLedger, P: Ledger, F: Ledger, R: Wait>(
+    rt: &R,
+    object: &BoundedObject<Buffer, C, P, F>,
+    mut pass: BoundedPass<u64, C, P, F>,
+    entry: EntryRef,
+    times: u64,
+) -> BoundedPass<u64, C, P, F> {
+    if pass.pending() {
+        return pass;
+    }
+    for value in 0..times {
+        if object.call(rt, &mut pass, entry, value).is_err() {
+            let _ended = object.finalize(rt);
+            break;
+        }
+    }
+    pass
+}
+
+/// Starts a thread that calls the entry so many times.
+fn start<
+    C: CallLedger + Send + Sync + 'static,
+    P: Ledger + Send + Sync + 'static,
+    F: Ledger + Send + Sync + 'static,
+    R: Threads + Wait + Copy + Send + 'static,
+>(
+    rt: R,
+    object: Arc<BoundedObject<Buffer, C, P, F>>,
+    pass: BoundedPass<u64, C, P, F>,
+    entry: EntryRef,
+    times: u64,
+) -> Result<JoinHandle<BoundedPass<u64, C, P, F>>, AllocError> {
+    let job = move || -> BoundedPass<u64, C, P, F> {
+        call_often(&rt, &*object, pass, entry, times)
+    };
+    Ok(thread::spawn(&rt, job)?)
+}
+
+/// Has a thread call for each pass: those of even seats put, the others get. Gives the passes back.
+fn call_all<
+    C: CallLedger + Send + Sync + 'static,
+    P: Ledger + Send + Sync + 'static,
+    F: Ledger + Send + Sync + 'static,
+    R: Threads + Wait + AllocGlobal + Copy + Send + 'static,
+>(
+    rt: R,
+    object: &Arc<BoundedObject<Buffer, C, P, F>>,
+    passes: Vec<BoundedPass<u64, C, P, F>>,
+) -> Result<Vec<BoundedPass<u64, C, P, F>>, AllocError> {
+    let mut running = Vec::new(rt.alloc());
+    for pass in passes {
+        let entry = if pass.seat() % 2 == 0 { PUT } else { GET };
+        running.push(start(rt, Arc::try_clone(object)?, pass, entry, VALUES)?)?;
+    }
+    let mut back = Vec::new(rt.alloc());
+    for thread in running {
+        back.push(thread.join(&rt))?;
+    }
+    Ok(back)
+}
+
+/// Opens an object over the machine, has threads call it, and closes it.
+fn use_object<
+    C: CallLedger + Send + Sync + 'static,
+    P: Ledger + Send + Sync + 'static,
+    F: Ledger + Send + Sync + 'static,
+    R: Threads + Wait + AllocGlobal + Copy + Send + 'static,
+>(
+    rt: R,
+    machine: Machine<Buffer>,
+    calls: Blank,
+    procedures: Blank,
+    free: Blank,
+) -> Result<BoundedClosed<Buffer>>
+    requires shape { machine.object.making.shape ≡ C.shape }
+    requires most { SEATS ≤ machine.most }
+    requires calls { (calls.name ≡ C.name) × (calls.parts ≡ C.parts) × (calls.parts ≡ SEATS + 1) }
+    requires procedures { (procedures.name ≡ P.name) × (procedures.parts ≡ P.parts) × (procedures.parts ≡ SEATS + 1) }
+    requires free { (free.name ≡ F.name) × (free.parts ≡ F.parts) × (free.parts ≡ SEATS + 1) }
+{
+    let opened = BoundedObject::<Buffer, C, P, F>::open(
+        rt.alloc(),
+        machine,
+        SEATS,
+        calls,
+        procedures,
+        free,
+    );
+    let (object, passes) = opened?;
+    let object = Arc::new(rt.alloc(), object)?;
+    let passes = call_all(rt, &object, passes)?;
+    let Ok(object) = Arc::try_unwrap(object) else {
+        bail!("a thread still has the object");
+    };
+    match object.close(passes) {
+        Ok(closed) => Ok(closed),
+        Err(fault) => bail!("{fault}"),
+    }
+}
+
+/// How many calls were accepted, as the passes counted them.
+fn counted(closed: &BoundedClosed<Buffer>) -> u64 {
+    let mut calls = 0u64;
+    for pass in closed.passes() {
+        calls = calls.saturating_add(pass.calls());
+    }
+    calls
+}
+
+fn main(rt: HostRuntime) -> Result<()> {
+    let machine = empty_buffer(rt.alloc())?;
+    let (calls, procedures, free) = (Blank::new(PARTS), Blank::new(PARTS), Blank::new(PARTS));
+    let closed = use_object::<Brand, Brand, Brand, HostRuntime>(
+        rt, machine, calls, procedures, free,
+    )?;
+    let issued = closed.machine().next().saturating_sub(START.first_number);
+    println!(rt;
+        "{issued} calls were issued, and {} were counted",
+        counted(&closed)
+    )?;
+    Ok(())
+}

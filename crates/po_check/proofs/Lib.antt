@@ -1,0 +1,4 @@
+pub mod CheckLemmas
+pub mod EarlyEnds
+pub mod FirstFault
+pub mod WarningLemmas

@@ -1,0 +1,18 @@
+use Rattle.std.proofs.lemmas.Result.{err_from_is_err_and}
+use Rattle.po_check.proofs.CheckLemmas.{finish_ends}
+use Rattle.po_check.proofs.EarlyEnds.{finish_early}
+use Rattle.po_check.proofs.check.Check.finish.Goals as goal
+
+pub returns-clause-ok : goal.returns-clause-ok
+returns-clause-ok g c = λ bytes start s.
+    let k = rw c.as_slice.ensures.value at c.in_ok-check.ensures in
+    finish_ends g.O.ScriptObject.units _ _ _ _ _ _ _ bytes start _ _ s c.args.self.now.few (k.verdict s.facts_are) (k.told s.facts_are)
+
+pub returns-clause-err : goal.returns-clause-err
+returns-clause-err g c = λ bytes start s. tt
+
+pub returns-in_err-check-clause-err : goal.returns-in_err-check-clause-err
+returns-in_err-check-clause-err g c = λ bytes start s.
+    let p = err_from_is_err_and c.from_residual.result c.from_residual.ensures.1 in
+    let k = rw c.as_slice.ensures.value at c.in_err-check.ensures.err in
+    rw (p.1, p.2) (k.0, finish_early g.O.ScriptObject.units _ _ _ _ _ _ bytes start _ _ s c.args.self.now.few (k.1 s.facts_are))

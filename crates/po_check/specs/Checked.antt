@@ -1,0 +1,45 @@
+-- How far a check has come.
+use Rattle.std.specs.Prelude.{ℕ, ◌≡◌, ◌+◌, ◌<◌, ◌⊎◌, Bool, true, false, List, length, take, Option, Some, None}
+use Rattle.po_script.specs.Script.{cut}
+use Rattle.po_script.specs.Facts.{Facts, facts_at}
+use Rattle.po_script.specs.Units.{ScriptUnits}
+use Rattle.po_check.specs.declared.known.Known.{Known}
+use Rattle.po_check.specs.declared.known.Known.TheVariants.{Nothing, Begun, Unclear}
+use Rattle.po_check.specs.declared.claim.Claim.{Claim}
+use Rattle.po_check.specs.declared.verdict.Verdict.{Verdict}
+use Rattle.po_check.specs.Claims.{known_behind, whole_claims, claims_of, verdict_of}
+use Rattle.po_check.specs.Reports.{Tells, TellsFirst}
+use Rattle.po_check.specs.declared.fault.CheckFault.{CheckFault}
+use Rattle.po_check.specs.declared.fault.CheckFault.TheVariants.{Read}
+
+-- the facts of the unit that is known, if one is
+abbrev pub facts_known : ScriptUnits → Known → Option Facts
+facts_known units Nothing = None
+facts_known units (Begun unit) = Some (facts_at units unit.number unit.size)
+facts_known units Unclear = None
+
+-- The check has read these bytes, and said what is to be said of all their whole lines; what the report was told at the
+-- start, and now.
+pub record StandsBy (units : ScriptUnits) (line : List ℕ) (number total : ℕ) (known : Known) (verdict : Verdict) (facts : Option Facts)
+    (bytes : List ℕ) (start now : Option (List Claim)) : Type 0 where
+  pub line_is : line ≡ take 4097 (cut bytes).rest
+  pub number_is : number ≡ length (cut bytes).full + 1
+  pub total_is : total ≡ length bytes
+  pub known_is : known ≡ known_behind units Nothing (cut bytes).full
+  pub facts_are : facts ≡ facts_known units known
+  pub verdict_is : verdict ≡ verdict_of (whole_claims units bytes)
+  pub told : Tells start now (whole_claims units bytes)
+
+-- What a check of these bytes came to: the reader's end was reached, or a byte stands behind the most that a script may have;
+-- no read failed; the report was told what is to be said of the bytes, and the verdict is clean exactly where that is nothing.
+pub record IsChecked (units : ScriptUnits) (verdict : Verdict) (bytes : List ℕ) (start now : Option (List Claim)) (ended failed : Bool) : Type 0 where
+  pub whole : (ended ≡ true) ⊎ (67108864 < length bytes)
+  pub read : failed ≡ false
+  pub told : Tells start now (claims_of units bytes)
+  pub verdict_is : verdict ≡ verdict_of (claims_of units bytes)
+
+-- What a check that read these bytes came to, where it ended early. Where a read failed, the report was told what is to be
+-- said of their whole lines. Where the report or memory failed, it was told the first of what is to be said of the bytes.
+abbrev pub EndsEarly : ScriptUnits → CheckFault → List ℕ → Option (List Claim) → Option (List Claim) → Bool → Type 0
+EndsEarly units Read bytes start now failed = (failed ≡ true) × Tells start now (whole_claims units bytes)
+EndsEarly units fault bytes start now failed = (failed ≡ false) × TellsFirst start now (claims_of units bytes)

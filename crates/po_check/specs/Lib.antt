@@ -1,0 +1,5 @@
+pub mod Claims
+pub mod Warnings
+pub mod Reports
+pub mod Checked
+pub mod Check

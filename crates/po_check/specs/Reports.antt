@@ -1,0 +1,32 @@
+-- What a report was told.
+use Rattle.std.specs.Prelude.{ℕ, ◌≡◌, List, [], ◌∷◌, ◌++◌, Option, Some, None}
+use Rattle.std.specs.Option.{option_map}
+use Rattle.po_check.specs.declared.claim.Claim.{Claim}
+use Rattle.po_check.specs.declared.claim.Claim.TheVariants.{HasFault, IsRefused}
+use Rattle.po_check.specs.declared.finding.Finding.{Finding}
+use Rattle.po_check.specs.declared.finding.Found.{Found}
+use Rattle.po_check.specs.declared.finding.Found.TheVariants.{Fault, Refused}
+use Rattle.po_language.specs.Faults.{kind_of}
+
+-- It was told these claims after what it was told before, where it says what it was told; one that doesn't never does.
+abbrev pub Tells : Option (List Claim) → Option (List Claim) → List Claim → Type 0
+Tells old new claims = new ≡ option_map (λ before. before ++ claims) old
+
+-- It was told the first of these claims after what it was told before, and none of the later ones.
+abbrev pub TellsFirst : Option (List Claim) → Option (List Claim) → List Claim → Type 0
+TellsFirst old new claims =
+    (first : List Claim) × (later : List Claim) × (claims ≡ first ++ later) × Tells old new first
+
+-- what is said of line n by what is found there
+abbrev pub claim_by : ℕ → Found → Claim
+claim_by n (Fault fault) = HasFault n (kind_of fault.reason)
+claim_by n (Refused operation refusal) = IsRefused n refusal
+
+-- what a finding says
+abbrev pub claim_of : Finding → Claim
+claim_of finding = claim_by finding.number finding.found
+
+-- what is said of line n by what is found there, if anything is
+abbrev pub claims_of_found : ℕ → Option Found → List Claim
+claims_of_found n None = []
+claims_of_found n (Some found) = claim_by n found ∷ []

@@ -1,0 +1,13 @@
+//! What a check says of a line.
+
+use po_actions::Refusal;
+use po_language::FaultKind;
+
+/// What a check says of a line. Lines are numbered from 1.
+#[derive(Clone, Copy, Debug, PartialEq, Eq)]
+pub enum Claim {
+    /// This line has this fault.
+    HasFault { line: u64, kind: FaultKind },
+    /// The command of this line is sure to be refused, with this refusal, whatever was carried out before it.
+    IsRefused { line: u64, refusal: Refusal },
+}

@@ -1,0 +1,47 @@
+//! What a check finds in a line.
+
+ghost use Rattle.std.specs.Prelude.{◌≡◌};
+ghost use Rattle.po_check.specs.Reports.{claim_of};
+
+use crate::claim::Claim;
+use crate::known::Known;
+use po_actions::Refusal;
+use po_language::{LineFault, Operation};
+
+/// What is found in a line.
+#[derive(Clone, Copy, Debug, PartialEq, Eq)]
+pub enum Found {
+    /// A fault.
+    Fault(LineFault),
+    /// An operation that is sure to be refused.
+    Refused(Operation, Refusal),
+}
+
+/// What a check finds in a line.
+#[derive(Clone, Copy, Debug, PartialEq, Eq)]
+pub struct Finding {
+    /// The number of the line, from 1.
+    pub number: u64,
+    /// What is known of the unit that is begun.
+    pub known: Known,
+    /// What is found.
+    pub found: Found,
+}
+
+impl Finding {
+    /// What it says of the line.
+    pub fn claim(&self) -> Claim
+        ensures { result ≡ claim_of self.now }
+    {
+        match self.found {
+            Found::Fault(fault) => Claim::HasFault {
+                line: self.number,
+                kind: fault.kind(),
+            },
+            Found::Refused(_, refusal) => Claim::IsRefused {
+                line: self.number,
+                refusal,
+            },
+        }
+    }
+}

@@ -1,0 +1,4 @@
+pub mod FirstDue
+pub mod MachineHistories
+pub mod Owed
+pub mod Views

@@ -1,0 +1,12 @@
+use Rattle.std.proofs.Common.{sym, subst}
+use Rattle.po_actions.specs.ObjectState.{IsAtRest}
+use Rattle.po_actions.proofs.TicketLemmas.{issued_collected}
+use Rattle.po_machine.specs.MachineView.{core_of}
+use Rattle.po_machine.proofs.Views.{left_core}
+use Rattle.po_machine.proofs.machine.Machine.collect.Goals as goal
+
+pub invariant_of-self : goal.invariant_of-self
+invariant_of-self g c = record {
+  rest = subst (λ view. IsAtRest g.U.Unit.meaning view.state) (sym c.collect.ensures.object) c.self.invariant.rest;
+  issued = issued_collected (core_of c.self.inside.traced) (core_of c.collect.new.self) c.collect.result c.args.ticket.key c.collect.ensures.object c.collect.ensures.taken (left_core c.collect.result c.self.inside.traced c.collect.new.self c.collect.ensures.left) c.self.invariant.issued;
+}

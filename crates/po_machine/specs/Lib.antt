@@ -1,0 +1,4 @@
+pub mod MachineState
+pub mod MachineHistory
+pub mod MachineView
+pub mod MachineRefusals

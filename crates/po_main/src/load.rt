@@ -1,0 +1,64 @@
+//! `pobj stress`: many threads call one object, and all that they were answered is compared with its history.
+
+ghost use Rattle.std.specs.Prelude.{◌≤◌};
+ghost use Rattle.po_stress.specs.declared.runs.TheConstants.{MOST_THREADS, MOST_CALLS};
+
+use crate::command_line::refuse_load;
+use crate::fault::Fault;
+use crate::watch::Watch;
+use po_script::{OverStd, RunFault};
+use po_stress::{Progress, Report, StressFault, StressUnit, stress_watched};
+use std::io::{self, BufWriter, Eprint, Print, Write};
+use std::sync::{Arc, Wait};
+use std::thread::Threads;
+
+/// What a run is asked to do.
+#[derive(Clone, Copy)]
+pub(crate) struct Load {
+    pub(crate) unit: StressUnit,
+    pub(crate) threads: u16,
+    pub(crate) calls: u32,
+    pub(crate) ghost threads_within: { (1 ≤ threads) × (threads ≤ MOST_THREADS) },
+    pub(crate) ghost calls_within: { (1 ≤ calls) × (calls ≤ MOST_CALLS) },
+}
+
+/// Writes the line of the report to standard output, and gives the status.
+fn write<R: Print + AllocGlobal>(rt: &R, report: &Report) -> Result<u8, RunFault> {
+    let Ok(output) = BufWriter::new(rt.alloc(), io::writer(rt)) else {
+        return Err(RunFault::Memory);
+    };
+    let mut writer = OverStd::new(output);
+    let written = report.write(&mut writer);
+    match (written, writer.into_inner().flush()) {
+        (Ok(status), Ok(())) => Ok(status),
+        _ => Err(RunFault::Write),
+    }
+}
+
+/// Carries the run out, writes its line, and gives the status. On a terminal it shows meanwhile how far the run has come.
+pub(crate) fn run<R: Print + Eprint + Threads + Wait + AllocGlobal + Copy + Send + 'static>(
+    rt: R,
+    load: Load,
+    terminal: bool,
+) -> Result<u8, Fault> {
+    let Ok(progress) = Arc::new(rt.alloc(), Progress::new()) else {
+        return Err(Fault::Run(RunFault::Memory, None));
+    };
+    let watch = if terminal {
+        Watch::start(rt, &progress)
+    } else {
+        None
+    };
+    let reported = stress_watched(rt, &progress, load.unit, load.threads, load.calls);
+    if let Some(watch) = watch {
+        watch.stop(&rt);
+    }
+    match reported {
+        Ok(report) => Ok(write(&rt, &report)?),
+        Err(StressFault::OutOfMemory) => Err(Fault::Run(RunFault::Memory, None)),
+        Err(fault) => {
+            let reason = format!(in rt.alloc(); "{fault}")?;
+            Err(Fault::from(refuse_load(rt.alloc(), reason.as_str())?))
+        }
+    }
+}

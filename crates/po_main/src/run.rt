@@ -1,0 +1,82 @@
+//! `pobj run`: a script from standard input is carried out on a protected object.
+
+ghost use Rattle.std.specs.Prelude.{◌≡◌, false};
+
+use crate::explain::explain;
+use crate::fault::Fault;
+use crate::keeping::Keeping;
+use crate::terminals::Terminals;
+use po_script::{OverStd, RunFault, Source, run_script};
+use std::alloc::Global;
+use std::io::{self, BufWriter, Eprint, Input, Print, Write};
+
+/// What is said to somebody who types a script.
+const HINT: &str =
+    "pobj: each line is carried out when it is ended; Ctrl-D at its beginning ends the script";
+
+/// Carries out the script that the source gives. Every answer has been written when it ends well.
+fn carry_out<S: Source, W: Write + Drop>(
+    alloc: Global,
+    source: &mut S,
+    output: W,
+) -> Result<(), RunFault>
+    requires { (S.failed source.old ≡ false) × (S.ended source.old ≡ false) }
+{
+    let mut writer = OverStd::new(output);
+    let ran = run_script(alloc, source, &mut writer);
+    match writer.into_inner().flush() {
+        Ok(()) => ran,
+        Err(_) => Err(RunFault::Write),
+    }
+}
+
+/// Carries out the script that the source gives: to somebody who types it each answer is written at once.
+fn answer<R: Print + AllocGlobal, S: Source>(
+    rt: &R,
+    source: &mut S,
+    terminals: Terminals,
+) -> Result<(), RunFault>
+    requires { (S.failed source.old ≡ false) × (S.ended source.old ≡ false) }
+{
+    let alloc = rt.alloc();
+    if terminals.input {
+        return carry_out(alloc, source, io::writer(rt));
+    }
+    match BufWriter::new(alloc, io::writer(rt)) {
+        Ok(output) => carry_out(alloc, source, output),
+        Err(_) => Err(RunFault::Memory),
+    }
+}
+
+/// Carries out the script on standard input, keeps it, and says of a fault in words what is wrong.
+fn run_explained<R: Input + Print + AllocGlobal>(
+    rt: &R,
+    terminals: Terminals,
+) -> Result<(), Fault> {
+    let alloc = rt.alloc();
+    let mut source = Keeping::new(alloc, OverStd::new(rt.reader()));
+    let Err(fault) = answer(rt, &mut source, terminals) else {
+        return Ok(());
+    };
+    let explanation = match fault {
+        RunFault::Script { line, .. } => explain(alloc, source.given(), line),
+        _ => None,
+    };
+    Err(Fault::Run(fault, explanation))
+}
+
+/// Carries out the script on standard input. Where standard error is a terminal, the script is kept, so that a fault can be
+/// said in words too.
+pub(crate) fn run<R: Input + Print + Eprint + AllocGlobal>(
+    rt: &R,
+    terminals: Terminals,
+) -> Result<(), Fault> {
+    if !terminals.errors {
+        answer(rt, &mut OverStd::new(rt.reader()), terminals)?;
+        return Ok(());
+    }
+    if terminals.input {
+        let _ = eprintln!(rt; "{HINT}");
+    }
+    run_explained(rt, terminals)
+}

@@ -1,0 +1,73 @@
+-- Who asked for the calls and procedures of a history: seats alone, after each command.
+use Rattle.std.proofs.Common.{◌≡◌, ◌⊎◌, inl, inr, ℕ, ◌+◌, ◌<◌, List, [], ◌∷◌, ◌++◌, refl, subst, sym, arith, Bool, true, false, Option, Some, None}
+use Rattle.std.specs.Option.{IfSome}
+use Rattle.std.proofs.lemmas.List.Elements.{All-nil, All-cons, All-append, All-weaker}
+use Rattle.po_unit.specs.Meaning.{Meaning}
+use Rattle.po_calls.specs.declared.call.Call.{Call}
+use Rattle.po_history.specs.declared.event.Event.{Event}
+use Rattle.po_history.specs.declared.event.Event.TheVariants.{Issue, Ran, Abort, Tick, Final, Serve, Break, Expire}
+use Rattle.po_history.specs.Histories.{VolumeView}
+use Rattle.po_accepted.specs.Finding.{IsFound}
+use Rattle.po_actions.specs.Step.{step}
+use Rattle.po_actions.specs.Pick.{last_from}
+use Rattle.po_actions.specs.View.{View}
+use Rattle.po_actions.specs.Tickets.{CoreView}
+use Rattle.po_actions.specs.ProtectedAction.{IsProtectedAction, IsAbortOfCall}
+use Rattle.po_actions.specs.Cutting.{cut}
+use Rattle.po_actions.proofs.Counting.{is_neither, picks-neither}
+use Rattle.po_receipts.specs.Passes.{PassView}
+use Rattle.po_receipts.specs.Agreement.{history_of}
+use Rattle.po_receipts.specs.Answers.{asker_of, AskedBySeats, HasNoOthers, NonePending}
+
+module _ {V : Type 0} (seats : ℕ) where
+  -- a seat asked for the event, if anyone did
+  abbrev pub BySeat : Event V → Type 0
+  BySeat event = IfSome (asker_of event) (λ seat. seat < seats)
+
+  neither_asked : (event : Event V) → is_neither event ≡ true → BySeat event
+  neither_asked (Issue n owner e v d) h = absurd (let r : ⊥ = cc in r)
+  neither_asked (Ran owner op v reply) h = absurd (let r : ⊥ = cc in r)
+  neither_asked (Abort n) h = tt
+  neither_asked (Tick t) h = tt
+  neither_asked Final h = tt
+  neither_asked (Serve e) h = tt
+  neither_asked (Break e) h = tt
+  neither_asked (Expire n) h = tt
+
+module _ {S V : Type 0} (m : Meaning S V) (seats : ℕ) where
+  -- seats alone ask in a protected action if one asked for its own event
+  pub asked-action : (old new : View S V) (own : Event V) → IsProtectedAction m old new own → BySeat seats own → AskedBySeats seats old.events → AskedBySeats seats new.events
+  asked-action old new own a by h =
+      let limit = old.making.max_queue in
+      let neither = picks-neither m limit old.making.order (last_from old.base.last (old.events ++ own ∷ [])) (step m limit old.state own) a.inner a.picks in
+      let inner = All-weaker (λ e. is_neither e ≡ true) (BySeat seats) (neither_asked seats) a.inner neither in
+      subst (AskedBySeats seats) (sym a.events) (All-append (BySeat seats) old.events (own ∷ a.inner) h (All-cons (BySeat seats) own a.inner by inner))
+
+  asked-mark : (old new : View S V) (n : ℕ) (x : Call V) (sealed aborted : Bool) → x.sealed ≡ sealed → x.aborted ≡ aborted → IsAbortOfCall m old new n x → AskedBySeats seats old.events → AskedBySeats seats new.events
+  asked-mark old new n x false aborted s t a h = asked-action old new (Abort n) (a.cancelled s) tt h
+  asked-mark old new n x true false s t a h = asked-action old new (Abort n) (a.marked s t).0 tt h
+  asked-mark old new n x true true s t a h = subst (λ (view : View S V). AskedBySeats seats view.events) (sym (a.kept s t)) h
+
+  -- nobody asks in an attempt to cancel a call
+  pub asked-abort_of : (old new : View S V) (n : ℕ) (o : Option (Call V)) → IsFound (IsAbortOfCall m old new n) o → AskedBySeats seats old.events → AskedBySeats seats new.events
+  asked-abort_of old new n None a h = absurd a
+  asked-abort_of old new n (Some x) a h = asked-mark old new n x x.sealed x.aborted refl refl a h
+
+  -- behind a cut there is no event
+  pub asked-cut : (old new : View S V) → new ≡ cut m old → AskedBySeats seats new.events
+  asked-cut old new is = subst (λ (view : View S V). AskedBySeats seats view.events) (sym is) (All-nil (BySeat {V = V} seats))
+
+-- so many seats, by the ledger's parts
+pub asked-of : {V : Type 0} (parts seats more : ℕ) (events : List (Event V)) → seats + 1 ≡ parts → parts ≡ more + 1 → AskedBySeats seats events → AskedBySeats more events
+asked-of parts seats more events is same h = subst (λ n. AskedBySeats n events) (let e : seats ≡ more = omega arith in e) h
+
+module _ {S V : Type 0} (core : CoreView S V) (passes : List (PassView V)) where
+  -- without volumes nobody else asked; with them, no pass has a call pending
+  pub alone : {A : Type 0} (volumes : List (VolumeView V)) → (volumes ≡ []) ⊎ (A × NonePending passes) → HasNoOthers core.object.events passes → NonePending passes ⊎ HasNoOthers (history_of core volumes) passes
+  alone volumes (inl none) h = inr (subst (λ l. HasNoOthers (history_of core l) passes) (sym none) h)
+  alone volumes (inr cut) h = inl cut.1
+
+-- of the two conditions of volumes, the first
+pub first_of : {A B C : Type 0} → A ⊎ (B × C) → A ⊎ B
+first_of (inl a) = inl a
+first_of (inr both) = inr both.0

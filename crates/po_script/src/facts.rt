@@ -1,0 +1,114 @@
+//! What is known of an object of a script, whatever it is used for.
+
+ghost use Rattle.std.specs.Prelude.{◌≡◌, ◌≢◌, List, IfOk, Err, None};
+ghost use Rattle.po_actions.specs.Refusals.{entry_refusal};
+ghost use Rattle.po_classic_units.specs.Sizes.{IsSizeWhere};
+ghost use Rattle.po_index.specs.declared.fault.ShapeFault.{ShapeFault};
+ghost use Rattle.po_language.specs.declared.command.Command.{Command};
+ghost use Rattle.po_script.specs.Facts.{facts_of, operation_refusal, sure_refusal, RefusesSurely};
+ghost use Rattle.po_script.specs.SureRefusals.{RefusesBehind};
+
+use crate::units::ScriptObject;
+use po_actions::Refusal;
+use po_classic_units::ScriptUnit;
+use po_index::{EntryRef, Shape, ShapeFault};
+use po_language::Operation;
+use po_unit::Unit;
+use std::alloc::{AllocError, Global};
+use std::marker::Model;
+
+/// What a unit of its size declares: its entries (9.5.2), and how many procedures and functions it has (9.5.1). An object of
+/// the unit keeps them as long as it is there.
+#[derive(Drop)]
+pub struct UnitFacts {
+    shape: Shape,
+    procedure_count: u16,
+    function_count: u16,
+}
+
+impl Model for UnitFacts {
+    ghost use Rattle.po_script.specs.Facts.{Facts};
+
+    ghost Value = { Facts };
+
+    ghost view = { λ f. record { shape = f.shape; procedure_count = f.procedure_count; function_count = f.function_count } };
+}
+
+/// The refusal of a call from outside on the entry, whatever the object was used for.
+fn entry_refusal(shape: &Shape, entry: EntryRef) -> Option<Refusal>
+    ensures { result ≡ entry_refusal shape.now entry None }
+{
+    let Some(declared) = shape.decl(entry.entry) else {
+        return Some(Refusal::NoSuchEntry);
+    };
+    if !declared.public {
+        return Some(Refusal::PrivateEntry);
+    }
+    match shape.flat(entry) {
+        Ok(_) => None,
+        Err(fault) => Some(Refusal::from(fault)),
+    }
+}
+
+/// The refusal of an operation with this number, where there are so many.
+fn operation_refusal(count: u16, op: u16) -> Option<Refusal>
+    ensures { result ≡ operation_refusal count op }
+{
+    if count <= op {
+        return Some(Refusal::NoSuchOperation);
+    }
+    None
+}
+
+impl UnitFacts {
+    /// The refusal that the operation meets whatever was carried out before it: 1, 2 or 3 of a call, 4 of a procedure or a
+    /// function. Where there is none, the operation may still be refused for what the object then is.
+    pub fn refusal(&self, operation: Operation) -> Option<Refusal>
+        ensures { result ≡ sure_refusal self.now operation }
+    {
+        match operation {
+            Operation::Call { entry, .. } => entry_refusal(&self.shape, entry),
+            Operation::Run { op, .. } => operation_refusal(self.procedure_count, op),
+            Operation::Read { op, .. } => operation_refusal(self.function_count, op),
+            _ => None,
+        }
+    }
+
+    /// The declarations of the entries (9.5.2).
+    pub fn shape(&self) -> &Shape
+        ensures { result.now ≡ self.now.shape }
+    {
+        &self.shape
+    }
+}
+
+/// An operation with such a refusal is refused by each object with these facts, and answered by the line of that refusal.
+pub fn refused_by<U: Unit<Value = u64>>(facts: &UnitFacts, operation: Operation) -> Option<Refusal>
+    ensures exact { result ≡ sure_refusal facts.now operation }
+    ensures refused { RefusesSurely U.meaning facts.now operation }
+{
+    facts.refusal(operation)
+}
+
+/// Behind whatever commands, an operation with such a refusal by the facts of the unit that they began is refused. Nothing runs.
+pub fn refused_behind<O: ScriptObject>()
+    ensures { (commands : List Command) → RefusesBehind O.units commands }
+{}
+
+/// The facts of the objects of a unit of this size.
+pub(crate) fn facts_of<U: ScriptUnit>(alloc: Global, size: u16) -> Result<UnitFacts, AllocError>
+    requires { IsSizeWhere U.known.names.is_sized size }
+    ensures { IfOk result (λ facts. facts ≡ facts_of U.known U.meaning size) }
+{
+    let unit = U::made(alloc, size)?;
+    let shape = match unit.shape(alloc) {
+        Ok(shape) => shape,
+        Err(ShapeFault::OutOfMemory) => return Err(AllocError),
+        Err(ShapeFault::TooManyEntries) => unreachable!(),
+    };
+    Ok(UnitFacts {
+        shape,
+        procedure_count: unit.procedures(),
+        function_count: unit.functions(),
+    })
+}

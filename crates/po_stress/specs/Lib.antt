@@ -1,0 +1,5 @@
+pub mod Units
+pub mod Counts
+pub mod Pieces
+pub mod Reports
+pub mod Runs

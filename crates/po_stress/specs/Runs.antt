@@ -1,0 +1,31 @@
+-- What a report of a run says (this project's own).
+use Rattle.std.specs.Prelude.{ℕ, ◌≡◌, ◌*◌, All, IsOk, length}
+use Rattle.po_unit.specs.Meaning.{Meaning}
+use Rattle.po_actions.specs.Headline.{Headline}
+use Rattle.po_classic_units.specs.Buffer.{buffer_meaning}
+use Rattle.po_classic_units.specs.Allocator.{allocator_meaning}
+use Rattle.po_classic_units.specs.Meeting.{meeting_meaning}
+use Rattle.po_object.specs.Closing.{ClosedView, IsClosed}
+use Rattle.po_stress.specs.Reports.{IsReportOf, AddUpTo}
+use Rattle.po_stress.specs.declared.report.Report.{Report}
+use Rattle.po_stress.specs.declared.unit.StressUnit.{StressUnit}
+use Rattle.po_stress.specs.declared.unit.StressUnit.TheVariants.{Buffer, Allocator, Meeting, Race}
+
+-- The report is on an object of a unit with this meaning that had so many seats and was closed: its history replays as serial
+-- protected actions of one thread, and as many calls were issued as the passes counted. Each thread's pass counted all calls
+-- that the thread was to make; so where all answers agree with the history, the numbers add up to the calls of all threads.
+pub record IsRun {S V : Type 0} (m : Meaning S V) (threads calls : ℕ) (report : Report) : Type 0 where
+  pub closed : ClosedView S V
+  pub seats : length closed.passes ≡ threads
+  pub tallies : All (λ pass. pass.calls ≡ calls) closed.passes
+  pub totals : IsClosed closed
+  pub headline : Headline m closed.core.object
+  pub told : IsReportOf closed report
+  pub sums : IsOk report.verdict → AddUpTo (threads * calls) report
+
+-- The report is on an object of the unit that had so many seats, from each of which so many calls were made, and was closed.
+abbrev pub IsRunOf : StressUnit → ℕ → ℕ → Report → Type 0
+IsRunOf Buffer threads calls report = IsRun buffer_meaning threads calls report
+IsRunOf Race threads calls report = IsRun buffer_meaning threads calls report
+IsRunOf Allocator threads calls report = IsRun allocator_meaning threads calls report
+IsRunOf Meeting threads calls report = IsRun meeting_meaning threads calls report

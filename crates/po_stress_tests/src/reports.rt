@@ -1,0 +1,50 @@
+//! Reports made by hand, and sinks that don't take all of a line.
+
+use crate::sinks::Narrow;
+use po_object::{Agreed, ReconcileFault};
+use po_stress::Report;
+use std::io::{self, Print, Write};
+
+/// A report with this verdict.
+fn report(verdict: Result<Agreed, ReconcileFault>) -> Report {
+    Report {
+        issued: 3,
+        completed: 1,
+        cancelled: 2,
+        program_error: 0,
+        verdict,
+    }
+}
+
+/// Prints what a sink takes of a report's line, where it has room for so many bytes, and what `write` answers.
+fn print_line<R: Print + AllocGlobal>(
+    rt: &R,
+    report: &Report,
+    room: usize,
+    fails: bool,
+) -> io::Result<()> {
+    let mut sink = Narrow::new(rt.alloc(), room, fails);
+    let answer = report.write(&mut sink);
+    io::writer(rt).write_all(sink.bytes.as_slice())?;
+    println!(rt; "{answer:?}")
+}
+
+/// Prints the lines of all kinds of reports, and of sinks that end in the middle of one.
+pub(crate) fn print_all<R: Print + AllocGlobal>(rt: &R) -> io::Result<()> {
+    let agreed = report(Ok(Agreed));
+    print_line(rt, &agreed, 1000, true)?;
+    print_line(
+        rt,
+        &report(Err(ReconcileFault::Mismatch { seat: 1, place: 0 })),
+        1000,
+        true,
+    )?;
+    print_line(
+        rt,
+        &report(Err(ReconcileFault::Gap { place: 5 })),
+        1000,
+        true,
+    )?;
+    print_line(rt, &agreed, 20, true)?;
+    print_line(rt, &agreed, 20, false)
+}

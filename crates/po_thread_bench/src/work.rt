@@ -1,0 +1,83 @@
+//! What the threads of a round do over and over.
+
+/// What threads do over and over.
+#[derive(Clone, Copy)]
+pub(crate) enum Work {
+    /// Lock and unlock a mutex.
+    Mutex,
+    /// Put values into a buffer of 4 over a mutex and two condition variables (threads with an even number), or get them.
+    Monitor,
+    /// Run a procedure, while no call waits.
+    Procedure,
+    /// Call a function.
+    Function,
+    /// Call an entry that is open.
+    Entry,
+    /// Put values into a buffer of 4 (threads with an even number), or get them.
+    Buffer,
+    /// Ask an allocator of 3 for one, two or three pieces, and give them back.
+    Allocator,
+    /// Wait for all other threads.
+    Meeting,
+}
+
+impl Work {
+    /// The word for it.
+    pub(crate) fn name(self) -> &'static str {
+        match self {
+            Work::Mutex => "mutex",
+            Work::Monitor => "monitor",
+            Work::Procedure => "procedure",
+            Work::Function => "function",
+            Work::Entry => "entry",
+            Work::Buffer => "buffer",
+            Work::Allocator => "allocator",
+            Work::Meeting => "meeting",
+        }
+    }
+
+    /// The work with this word.
+    pub(crate) fn named(word: &str) -> Option<Work> {
+        match word {
+            "mutex" => Some(Work::Mutex),
+            "monitor" => Some(Work::Monitor),
+            "procedure" => Some(Work::Procedure),
+            "function" => Some(Work::Function),
+            "entry" => Some(Work::Entry),
+            "buffer" => Some(Work::Buffer),
+            "allocator" => Some(Work::Allocator),
+            "meeting" => Some(Work::Meeting),
+            _ => None,
+        }
+    }
+}
+
+/// What one thread of a round does.
+#[derive(Clone, Copy)]
+pub(crate) struct Job {
+    pub(crate) work: Work,
+    /// The thread's number, from 0 on.
+    pub(crate) thread: u64,
+    /// How often it does the work.
+    pub(crate) turns: u64,
+}
+
+/// What all threads of a round do.
+#[derive(Clone, Copy)]
+pub(crate) struct Task {
+    pub(crate) work: Work,
+    pub(crate) threads: u16,
+    /// How often each thread does the work.
+    pub(crate) turns: u64,
+}
+
+impl Task {
+    /// What the thread with this number does.
+    pub(crate) fn job(self, thread: u16) -> Job {
+        Job {
+            work: self.work,
+            thread: u64::from(thread),
+            turns: self.turns,
+        }
+    }
+}
