@@ -7,7 +7,7 @@ use crate::check::{CHECK, check_command, file_of};
 use crate::fault::Fault;
 use crate::load::Load;
 use clap::error::ErrorKind;
-use clap::{Arg, ArgMatches, Command, Error};
+use clap::{Arg, ArgAction, ArgMatches, Command, Error};
 use po_stress::{MOST_CALLS, MOST_THREADS, StressUnit};
 use std::alloc::{AllocError, Global};
 use std::env::{Env, args};
@@ -93,6 +93,11 @@ Then the object is closed, and one line says how many calls were issued and how 
 
 It ends with `agreed` where every answer that a thread got is the history's own. Else the line
 is `mismatch seat S place P` or `gap place P`, and the status is 3.
+
+With --bounded the object's memory is fixed when it is opened, so that no history is kept, and
+no answer can be compared. The line ends with `agreed` where as many calls were issued, as the
+object counted, as ended, as the threads counted. Else it ends with `differ`, and the status
+is 3.
 
 On a terminal a long run shows how many calls have ended.";
 
@@ -189,6 +194,7 @@ fn load_of(matches: &ArgMatches) -> Result<Load, &'static str> {
         unit,
         threads,
         calls,
+        is_bounded: matches.get_flag("bounded"),
     })
 }
 
@@ -214,6 +220,10 @@ fn stress_command<'a>(alloc: Global, name: &'a str) -> Result<Command<'a>, Alloc
         .value_name("N")
         .required(true)
         .help("How often each of them calls: 1 to 100000");
+    let bounded = Arg::new(alloc, "bounded")
+        .long("bounded")
+        .action(ArgAction::SetTrue)
+        .help("Fixes the object's memory when it is opened, and compares numbers alone");
     Command::new(alloc, name)
         .about(
             "Has many threads call one object, and compares what they were answered with its history",
@@ -221,7 +231,8 @@ fn stress_command<'a>(alloc: Global, name: &'a str) -> Result<Command<'a>, Alloc
         .after_help(LOADS)
         .arg(unit)?
         .arg(threads)?
-        .arg(calls)
+        .arg(calls)?
+        .arg(bounded)
 }
 
 /// What the words of the command line ask for.

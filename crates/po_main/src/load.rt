@@ -1,4 +1,4 @@
-//! `pobj stress`: many threads call one object, and all that they were answered is compared with its history.
+//! `pobj stress`: many threads call one object, and what they were answered is compared with its history, or its numbers.
 
 ghost use Rattle.std.specs.Prelude.{◌≤◌};
 ghost use Rattle.po_stress.specs.declared.runs.TheConstants.{MOST_THREADS, MOST_CALLS};
@@ -6,8 +6,10 @@ ghost use Rattle.po_stress.specs.declared.runs.TheConstants.{MOST_THREADS, MOST_
 use crate::command_line::refuse_load;
 use crate::fault::Fault;
 use crate::watch::Watch;
-use po_script::{OverStd, RunFault};
-use po_stress::{Progress, Report, StressFault, StressUnit, stress_watched};
+use po_script::{IoFailed, OverStd, RunFault, Sink};
+use po_stress::{
+    Progress, Report, StressFault, StressUnit, Totals, stress_bounded, stress_watched,
+};
 use std::io::{self, BufWriter, Eprint, Print, Write};
 use std::sync::{Arc, Wait};
 use std::thread::Threads;
@@ -18,20 +20,59 @@ pub(crate) struct Load {
     pub(crate) unit: StressUnit,
     pub(crate) threads: u16,
     pub(crate) calls: u32,
+    pub(crate) is_bounded: bool,
     pub(crate) ghost threads_within: { (1 ≤ threads) × (threads ≤ MOST_THREADS) },
     pub(crate) ghost calls_within: { (1 ≤ calls) × (calls ≤ MOST_CALLS) },
 }
 
-/// Writes the line of the report to standard output, and gives the status.
-fn write<R: Print + AllocGlobal>(rt: &R, report: &Report) -> Result<u8, RunFault> {
+/// What a run came to.
+#[derive(Clone, Copy)]
+enum Told {
+    /// All answers were compared with the history.
+    Answers(Report),
+    /// The memory was fixed, and the numbers were compared.
+    Numbers(Totals),
+}
+
+impl Told {
+    /// Writes its line, and gives the status.
+    fn write<W: Sink>(&self, writer: &mut W) -> Result<u8, IoFailed> {
+        match self {
+            Told::Answers(report) => report.write(writer),
+            Told::Numbers(totals) => totals.write(writer),
+        }
+    }
+}
+
+/// Writes the line of a run to standard output, and gives the status.
+fn write<R: Print + AllocGlobal>(rt: &R, told: &Told) -> Result<u8, RunFault> {
     let Ok(output) = BufWriter::new(rt.alloc(), io::writer(rt)) else {
         return Err(RunFault::Memory);
     };
     let mut writer = OverStd::new(output);
-    let written = report.write(&mut writer);
+    let written = told.write(&mut writer);
     match (written, writer.into_inner().flush()) {
         (Ok(status), Ok(())) => Ok(status),
         _ => Err(RunFault::Write),
+    }
+}
+
+/// Carries the run out.
+fn carry_out<R: Threads + Wait + AllocGlobal + Copy + Send + 'static>(
+    rt: R,
+    progress: &Arc<Progress>,
+    load: Load,
+) -> Result<Told, StressFault> {
+    let Load {
+        unit,
+        threads,
+        calls,
+        is_bounded,
+    } = load;
+    if is_bounded {
+        Ok(Told::Numbers(stress_bounded(rt, progress, unit, threads, calls)?))
+    } else {
+        Ok(Told::Answers(stress_watched(rt, progress, unit, threads, calls)?))
     }
 }
 
@@ -49,12 +90,12 @@ pub(crate) fn run<R: Print + Eprint + Threads + Wait + AllocGlobal + Copy + Send
     } else {
         None
     };
-    let reported = stress_watched(rt, &progress, load.unit, load.threads, load.calls);
+    let told = carry_out(rt, &progress, load);
     if let Some(watch) = watch {
         watch.stop(&rt);
     }
-    match reported {
-        Ok(report) => Ok(write(&rt, &report)?),
+    match told {
+        Ok(told) => Ok(write(&rt, &told)?),
         Err(StressFault::OutOfMemory) => Err(Fault::Run(RunFault::Memory, None)),
         Err(fault) => {
             let reason = format!(in rt.alloc(); "{fault}")?;

@@ -23,7 +23,7 @@ use Rattle.po_stress.specs.Counts.{is_answered_as, issues_ended}
 use Rattle.po_stress.specs.declared.counting.Ending.TheVariants.{Done, GivenUp, Failed}
 
 -- what a test counts
-abbrev one_if : Bool → ℕ
+abbrev pub one_if : Bool → ℕ
 one_if b = cond b 1 0
 
 -- where the filed items are those that are due for the items of a list that pass a test, one is due for each of these

@@ -4,6 +4,11 @@ use Rattle.std.specs.Io.KnownBytes.{Appends}
 use Rattle.std.proofs.KnownBytes.{Appends-trans}
 use Rattle.po_stress.specs.Reports.{TakesPart}
 
+-- what holds at an error
+pub on_err : {A E : Type 0} (r : Result A E) (X : Type 0) → X → OnErr r X
+on_err (Ok a) X x = tt
+on_err (Err e) X x = x
+
 -- so many bytes from the front of a line are a part of it
 pub part_of : {A E : Type 0} (r : Result A E) (old new : Option (List ℕ)) (line : List ℕ) (B : Type 0) → OnErr r ((count : ℕ) × Appends old new (take count line) × B) → OnErr r (TakesPart old new line × B)
 part_of (Ok a) old new line B h = tt

@@ -9,6 +9,7 @@ use Rattle.po_receipts.specs.declared.fault.ReconcileFault.{ReconcileFault}
 use Rattle.po_receipts.specs.declared.fault.ReconcileFault.TheVariants.{Gap, Mismatch}
 use Rattle.po_object.specs.Closing.{ClosedView}
 use Rattle.po_stress.specs.Counts.{issues_ended}
+use Rattle.po_stress.specs.Totals.{line_with}
 use Rattle.po_stress.specs.declared.counting.Ending.TheVariants.{Done, GivenUp, Failed}
 use Rattle.po_stress.specs.declared.report.Report.{Report}
 
@@ -30,11 +31,7 @@ pub record AddUpTo (calls : ℕ) (r : Report) : Type 0 where
 -- the line of a run whose answers agree with the history
 abbrev pub counts_line : Report → List ℕ
 counts_line r =
-    flat_map (λ part. part) (codes "issued " ∷ decimal r.issued
-    ∷ codes " completed " ∷ decimal r.completed
-    ∷ codes " cancelled " ∷ decimal r.cancelled
-    ∷ codes " program_error " ∷ decimal r.program_error
-    ∷ codes " agreed\n" ∷ [])
+    line_with (codes " agreed\n") (record { issued = r.issued; completed = r.completed; cancelled = r.cancelled; program_error = r.program_error })
 
 -- the line of a run whose history has a gap at this place
 abbrev pub gap_line : ℕ → List ℕ

@@ -1,16 +1,11 @@
 //! What the threads of a run do.
 
-ghost use Rattle.std.specs.Prelude.{◌≡◌, None, OnOk, OnErr};
-
+use crate::loaded::Loaded;
 use crate::progress::Progress;
 use crate::unit::StressUnit;
 use po_actions::Refusal;
 use po_index::EntryRef;
-use po_object::hold::Pass;
-use po_object::{CallLedger, Object};
-use po_unit::Unit;
 use std::sync::Wait;
-use std::sync::ledger::Ledger;
 
 /// The first entry of a unit: Put of a buffer, Request of an allocator, Wait of a meeting.
 const FIRST: EntryRef = EntryRef {
@@ -53,93 +48,76 @@ fn pieces(seat: u16, j: u32) -> u64 {
     1 + (u64::from(seat) + u64::from(j)) % 3
 }
 
-/// Makes the seat's call with this number, counted from 0, and of an allocator the release that follows it.
-fn call_once<U: Unit<Value = u64>, C: CallLedger, P: Ledger, R: Wait>(
+/// Makes the caller's call with this number, counted from 0, and of an allocator the release that follows it.
+fn call_once<O: Loaded, R: Wait>(
     rt: &R,
-    object: &Object<U, C, P>,
-    pass: &mut Pass<u64, C, P>,
+    object: &O,
+    caller: &mut O::Caller,
     job: Job,
     j: u32,
-) -> Result<(), Refusal>
-    requires { pass.old.pending ≡ None }
-    ensures { pass.new.pending ≡ None }
-{
+) -> Result<(), Refusal> {
+    let seat = O::seat_of(caller);
     match job.unit {
         StressUnit::Buffer => {
-            let (entry, value) = job.exchange(pass.seat(), j);
-            object.call(rt, pass, entry, value)?;
+            let (entry, value) = job.exchange(seat, j);
+            object.enter(rt, caller, entry, value)
         }
         StressUnit::Allocator => {
-            let many = pieces(pass.seat(), j);
-            object.call(rt, pass, FIRST, many)?;
-            let _released = object.procedure(rt, pass, RELEASE, many)?;
+            let many = pieces(seat, j);
+            object.enter(rt, caller, FIRST, many)?;
+            object.run_procedure(rt, caller, RELEASE, many)
         }
-        StressUnit::Meeting => {
-            object.call(rt, pass, FIRST, u64::from(j))?;
-        }
+        StressUnit::Meeting => object.enter(rt, caller, FIRST, u64::from(j)),
         StressUnit::Race => {
-            let (entry, value) = job.exchange(pass.seat(), j);
-            object.timed(rt, pass, entry, value, u64::from(j) + 1)?;
+            let (entry, value) = job.exchange(seat, j);
+            object.enter_before(rt, caller, entry, value, u64::from(j) + 1)
         }
     }
-    Ok(())
 }
 
 /// Ends the run where a thread was refused: it notes that memory was wanting, and finalizes the object, so that no other
 /// thread waits for what this one doesn't do. Where the object is finalized already, another thread has done so.
-pub(crate) fn give_up<U: Unit, C: CallLedger, P: Ledger, R: Wait>(
+pub(crate) fn give_up<O: Loaded, R: Wait>(
     rt: &R,
-    object: &Object<U, C, P>,
+    object: &O,
     progress: &Progress,
     refusal: Refusal,
 ) {
     if refusal != Refusal::Finalized {
         progress.note_want();
-        let _ended = object.finalize(rt);
+        object.end_all(rt);
     }
 }
 
-/// Makes all calls of a seat, and gives its pass back.
-pub(crate) fn call_all<U: Unit<Value = u64>, C: CallLedger, P: Ledger, R: Wait>(
+/// Makes all calls of a caller, and gives it back.
+pub(crate) fn call_all<O: Loaded, R: Wait>(
     rt: &R,
-    object: &Object<U, C, P>,
+    object: &O,
     progress: &Progress,
-    mut pass: Pass<u64, C, P>,
+    mut caller: O::Caller,
     job: Job,
-) -> Pass<u64, C, P> {
-    if pass.pending() {
-        return pass;
-    }
+) -> O::Caller {
     for j in 0..job.calls {
-        if let Err(refusal) = call_once(rt, object, &mut pass, job, j) {
+        if let Err(refusal) = call_once(rt, object, &mut caller, job, j) {
             give_up(rt, object, progress, refusal);
             break;
         }
         progress.count();
     }
-    pass
+    caller
 }
 
 /// Raises the clock to this time, and attempts to cancel the call of each seat, in turn.
-fn disturb_once<U: Unit, C: CallLedger, P: Ledger, R: Wait>(
-    rt: &R,
-    object: &Object<U, C, P>,
-    time: u64,
-) -> Result<(), Refusal> {
-    object.tick(rt, time)?;
-    for seat in 0..object.seats() {
-        let _attempted = object.abort_seat(rt, seat);
+fn disturb_once<O: Loaded, R: Wait>(rt: &R, object: &O, time: u64) -> Result<(), Refusal> {
+    object.raise_clock(rt, time)?;
+    for seat in 0..object.seat_count() {
+        object.cancel_seat(rt, seat);
     }
     Ok(())
 }
 
 /// Raises the clock to 1, 2 and so on, and after each attempts to cancel the call of each seat.
-pub(crate) fn disturb<U: Unit, C: CallLedger, P: Ledger, R: Wait>(
-    rt: &R,
-    object: &Object<U, C, P>,
-    progress: &Progress,
-    ticks: u32,
-) {
+pub(crate) fn disturb<O: Loaded, R: Wait>(rt: &R, object: &O, progress: &Progress, ticks: u32) {
     for n in 0..ticks {
         if let Err(refusal) = disturb_once(rt, object, u64::from(n) + 1) {
             give_up(rt, object, progress, refusal);

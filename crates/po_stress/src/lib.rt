@@ -2,20 +2,28 @@
 //! history.
 #![tactic(auto)]
 
+mod bounded;
+mod bounded_run;
+mod bounded_threads;
 mod counting;
+mod ends;
 mod fault;
 mod job;
+mod loaded;
 mod piece;
 mod progress;
+mod recorded;
+mod recorded_run;
+mod recorded_threads;
 mod report;
-mod run;
 mod runs;
 mod sums;
-mod threads;
+mod totals;
 mod unit;
 
 pub use fault::StressFault;
 pub use progress::Progress;
 pub use report::Report;
-pub use runs::{MOST_CALLS, MOST_THREADS, stress, stress_watched};
+pub use runs::{MOST_CALLS, MOST_THREADS, stress, stress_bounded, stress_watched};
+pub use totals::Totals;
 pub use unit::StressUnit;

@@ -7,16 +7,17 @@ ghost use Rattle.po_stress.specs.Reports.{IsReportOf, AddUpTo, TakesPart, counts
 use crate::counting::{Ending, ended, issued};
 use crate::piece::{Piece, write_pieces};
 use crate::sums::recall_sums;
+use crate::totals::Totals;
 use po_actions::Volume;
 use po_object::{Agreed, Closed, ReconcileFault, reconcile};
 use po_script::{IoFailed, Sink};
 use po_unit::Unit;
 
 /// The status where all answers agree with the history.
-const GOOD: u8 = 0;
+pub(crate) const GOOD: u8 = 0;
 
 /// The status where they don't.
-const MISMATCH: u8 = 3;
+pub(crate) const MISMATCH: u8 = 3;
 
 /// What a run came to: the numbers of calls, as the history of the closed object has them, and whether what the threads were
 /// answered agrees with it.
@@ -89,18 +90,13 @@ impl Report {
         ensures err { OnErr result (TakesPart (W.taken writer.old) (W.taken writer.new) (counts_line self.now)
             × ((W.failed writer.new || W.stuck writer.new) ≡ true)) }
     {
-        let pieces = [
-            Piece::Words("issued "),
-            Piece::Number(self.issued),
-            Piece::Words(" completed "),
-            Piece::Number(self.completed),
-            Piece::Words(" cancelled "),
-            Piece::Number(self.cancelled),
-            Piece::Words(" program_error "),
-            Piece::Number(self.program_error),
-            Piece::Words(" agreed\n"),
-        ];
-        write_pieces(writer, &pieces)
+        let totals = Totals {
+            issued: self.issued,
+            completed: self.completed,
+            cancelled: self.cancelled,
+            program_error: self.program_error,
+        };
+        totals.write_with(writer, " agreed\n")
     }
 }
 

@@ -6,17 +6,22 @@ ghost use Rattle.po_classic_units.specs.Buffer.{buffer_meaning};
 ghost use Rattle.po_classic_units.specs.Allocator.{allocator_meaning};
 ghost use Rattle.po_classic_units.specs.Meeting.{meeting_meaning};
 ghost use Rattle.po_stress.specs.Runs.{IsRun, IsRunOf};
+ghost use Rattle.po_stress.specs.BoundedRuns.{IsBoundedRun, IsBoundedRunOf};
 ghost use Rattle.po_stress.specs.Units.{is_paired};
 
+use crate::bounded_run::run_bounded;
 use crate::fault::StressFault;
 use crate::job::Job;
 use crate::progress::Progress;
+use crate::recorded_run::run;
 use crate::report::Report;
-use crate::run::run;
+use crate::totals::Totals;
 use crate::unit::StressUnit;
-use po_actions::{Core, Order};
+use po_actions::{Core, Order, Start};
 use po_classic_units::{Allocator, Buffer, Meeting, ScriptUnit};
-use std::alloc::{AllocError, Global};
+use po_machine::Machine;
+use po_unit::Unit;
+use std::alloc::AllocError;
 use std::marker::Brand;
 use std::sync::ledger::Blank;
 use std::sync::{Arc, Wait};
@@ -37,81 +42,45 @@ const RACE_CAPACITY: u16 = 2;
 /// How many pieces the allocator of a run has.
 const PIECES: u16 = 3;
 
-/// A core over the unit, whose calls are numbered from 1.
-fn core_of<U: ScriptUnit + Drop>(alloc: Global, unit: U) -> Result<Core<U>, AllocError> {
-    let shape = unit.shape(alloc).map_err(|_| AllocError)?;
-    Core::new(alloc, unit, shape, Order::Textual, 1).map_err(|_| AllocError)
-}
+/// The number of the first call, the place of the first event, and no greatest length of a queue.
+const START: Start = Start {
+    first_number: 1,
+    first_place: 0,
+    max_queue: None,
+};
 
-/// A run over a buffer with room for so many values.
-fn load_buffer<R: Threads + Wait + AllocGlobal + Copy + Send + 'static>(
-    rt: R,
-    progress: &Arc<Progress>,
-    job: Job,
-    threads: u16,
-    capacity: u16,
-) -> Result<Report, StressFault>
-    requires { IsSize capacity }
-    ensures report { IfOk result (IsRun buffer_meaning threads job.calls) }
+/// A run over an object that records the history of this unit.
+fn run_recorded<
+    U: ScriptUnit + Unit<Value = u64> + Send + Sync + Drop + 'static,
+    R: Threads + Wait + AllocGlobal + Copy + Send + 'static,
+>(rt: R, unit: U, progress: &Arc<Progress>, job: Job, threads: u16) -> Result<Report, StressFault>
+    ensures report { IfOk result (IsRun U.meaning threads job.calls) }
     ensures fault { IfErr result (λ fault. fault ≡ StressFault.OutOfMemory) }
 {
-    let core = core_of(rt.alloc(), Buffer::new(rt.alloc(), capacity)?)?;
+    let shape = unit.shape(rt.alloc()).map_err(|_| AllocError)?;
+    let core = Core::start(rt.alloc(), unit, shape, Order::Textual, START).map_err(|_| AllocError)?;
     let parts = u64::from(threads) + 1;
-    run::<Buffer, Brand, Brand, R>(
-        rt,
-        core,
-        progress,
-        job,
-        threads,
-        Blank::new(parts),
-        Blank::new(parts),
-    )
+    let (calls, procedures) = (Blank::new(parts), Blank::new(parts));
+    run::<U, Brand, Brand, R>(rt, core, progress, job, threads, calls, procedures)
 }
 
-/// A run over an allocator.
-fn load_allocator<R: Threads + Wait + AllocGlobal + Copy + Send + 'static>(
-    rt: R,
-    progress: &Arc<Progress>,
-    job: Job,
-    threads: u16,
-) -> Result<Report, StressFault>
-    ensures report { IfOk result (IsRun allocator_meaning threads job.calls) }
+/// A run over an object of this unit with fixed memory: for one call of each thread.
+fn run_fixed<
+    U: ScriptUnit + Unit<Value = u64> + Send + Sync + Drop + 'static,
+    R: Threads + Wait + AllocGlobal + Copy + Send + 'static,
+>(rt: R, unit: U, progress: &Arc<Progress>, job: Job, threads: u16) -> Result<Totals, StressFault>
+    ensures totals { IfOk result (IsBoundedRun U.meaning threads job.calls) }
     ensures fault { IfErr result (λ fault. fault ≡ StressFault.OutOfMemory) }
 {
-    let core = core_of(rt.alloc(), Allocator::new(PIECES))?;
+    let shape = unit.shape(rt.alloc()).map_err(|_| AllocError)?;
+    let most = usize::from(threads);
+    let machine = Machine::start(rt.alloc(), unit, shape, Order::Textual, START, most).map_err(
+        |_| AllocError,
+    )?;
     let parts = u64::from(threads) + 1;
-    run::<Allocator, Brand, Brand, R>(
-        rt,
-        core,
-        progress,
-        job,
-        threads,
-        Blank::new(parts),
-        Blank::new(parts),
-    )
-}
-
-/// A run over a meeting of all threads.
-fn load_meeting<R: Threads + Wait + AllocGlobal + Copy + Send + 'static>(
-    rt: R,
-    progress: &Arc<Progress>,
-    job: Job,
-    threads: u16,
-) -> Result<Report, StressFault>
-    requires { IsSize threads }
-    ensures report { IfOk result (IsRun meeting_meaning threads job.calls) }
-    ensures fault { IfErr result (λ fault. fault ≡ StressFault.OutOfMemory) }
-{
-    let core = core_of(rt.alloc(), Meeting::new(threads))?;
-    let parts = u64::from(threads) + 1;
-    run::<Meeting, Brand, Brand, R>(
-        rt,
-        core,
-        progress,
-        job,
-        threads,
-        Blank::new(parts),
-        Blank::new(parts),
+    let (calls, procedures, free) = (Blank::new(parts), Blank::new(parts), Blank::new(parts));
+    run_bounded::<U, Brand, Brand, Brand, R>(
+        rt, machine, progress, job, threads, calls, procedures, free,
     )
 }
 
@@ -136,10 +105,55 @@ fn load<R: Threads + Wait + AllocGlobal + Copy + Send + 'static>(
 {
     let job = Job { unit, calls };
     match unit {
-        StressUnit::Buffer => load_buffer(rt, progress, job, threads, CAPACITY),
-        StressUnit::Allocator => load_allocator(rt, progress, job, threads),
-        StressUnit::Meeting => load_meeting(rt, progress, job, threads),
-        StressUnit::Race => load_buffer(rt, progress, job, threads, RACE_CAPACITY),
+        StressUnit::Buffer => run_recorded(
+            rt,
+            Buffer::new(rt.alloc(), CAPACITY)?,
+            progress,
+            job,
+            threads,
+        ),
+        StressUnit::Allocator => run_recorded(rt, Allocator::new(PIECES), progress, job, threads),
+        StressUnit::Meeting => run_recorded(rt, Meeting::new(threads), progress, job, threads),
+        StressUnit::Race => run_recorded(
+            rt,
+            Buffer::new(rt.alloc(), RACE_CAPACITY)?,
+            progress,
+            job,
+            threads,
+        ),
+    }
+}
+
+/// A run over the unit, on an object with fixed memory.
+fn load_fixed<R: Threads + Wait + AllocGlobal + Copy + Send + 'static>(
+    rt: R,
+    progress: &Arc<Progress>,
+    unit: StressUnit,
+    threads: u16,
+    calls: u32,
+) -> Result<Totals, StressFault>
+    requires { (1 ≤ threads) × (threads ≤ MOST_THREADS) }
+    ensures totals { IfOk result (IsBoundedRunOf unit threads calls) }
+    ensures fault { IfErr result (λ fault. fault ≡ StressFault.OutOfMemory) }
+{
+    let job = Job { unit, calls };
+    match unit {
+        StressUnit::Buffer => run_fixed(
+            rt,
+            Buffer::new(rt.alloc(), CAPACITY)?,
+            progress,
+            job,
+            threads,
+        ),
+        StressUnit::Allocator => run_fixed(rt, Allocator::new(PIECES), progress, job, threads),
+        StressUnit::Meeting => run_fixed(rt, Meeting::new(threads), progress, job, threads),
+        StressUnit::Race => run_fixed(
+            rt,
+            Buffer::new(rt.alloc(), RACE_CAPACITY)?,
+            progress,
+            job,
+            threads,
+        ),
     }
 }
 
@@ -183,4 +197,24 @@ pub fn stress_watched<R: Threads + Wait + AllocGlobal + Copy + Send + 'static>(
         return Err(StressFault::OddThreads);
     }
     load(rt, progress, unit, threads, calls)
+}
+
+/// Has so many threads make so many calls each on one object with fixed memory, closes it, and adds up how many calls its
+/// machine issued, and how those ended that the threads made. Another thread can look how far the run has come.
+pub fn stress_bounded<R: Threads + Wait + AllocGlobal + Copy + Send + 'static>(
+    rt: R,
+    progress: &Arc<Progress>,
+    unit: StressUnit,
+    threads: u16,
+    calls: u32,
+) -> Result<Totals, StressFault>
+    requires threads { (1 ≤ threads) × (threads ≤ MOST_THREADS) }
+    requires calls { (1 ≤ calls) × (calls ≤ MOST_CALLS) }
+    ensures odd { (result ≡ Err StressFault.OddThreads) ↔ ((is_paired unit ≡ true) × (threads % 2 ≡ 1)) }
+    ensures totals { IfOk result (IsBoundedRunOf unit threads calls) }
+{
+    if is_uneven(unit, threads) {
+        return Err(StressFault::OddThreads);
+    }
+    load_fixed(rt, progress, unit, threads, calls)
 }

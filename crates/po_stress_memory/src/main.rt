@@ -1,16 +1,17 @@
-//! A program for the gate: a run of three threads that meet ten times, whose allocations are refused.
+//! A program for the gate: two runs of three threads that meet ten times, whose allocations are refused. One is over an object
+//! that records its history, the other over one with fixed memory.
 //!
-//! It prints the line of the report, of a second run where memory was wanting in the first, and how often it was. Before that
+//! It prints the line of each, of a second run where memory was wanting in the first, and how often it was. Before that
 //! it takes and gives back a byte for each byte on standard input: where the allocation of some fixed number is refused, the
 //! length of the input says which one of those that count. How many these are depends a little on the threads' schedule, so
 //! behind them it takes some more bytes, and prints whether it got all of them: so it shows where those that count end.
 #![tactic(auto)]
 
 use po_script::OverStd;
-use po_stress::{StressFault, StressUnit, stress};
+use po_stress::{Progress, StressFault, StressUnit, stress_bounded, stress_watched};
 use std::alloc::Global;
 use std::io::{self, Input, Print, Read};
-use std::sync::Wait;
+use std::sync::{Arc, Wait};
 use std::thread::Threads;
 
 /// How many bytes of standard input are looked at.
@@ -43,17 +44,34 @@ fn take_some(alloc: Global) -> bool {
     all
 }
 
-/// Prints the line of a run, of a second one where memory was wanting in the first, and gives how often it was.
-fn print_run<R: Threads + Wait + Print + AllocGlobal + Copy + Send + 'static>(
+/// Has three threads meet ten times, at an object with fixed memory or at one that records its history, and prints the line
+/// of the run.
+fn meet<R: Threads + Wait + Print + AllocGlobal + Copy + Send + 'static>(
     rt: R,
+    is_bounded: bool,
+) -> Result<(), StressFault> {
+    let Ok(progress) = Arc::new(rt.alloc(), Progress::new()) else {
+        return Err(StressFault::OutOfMemory);
+    };
+    let mut output = OverStd::new(io::writer(&rt));
+    if is_bounded {
+        let totals = stress_bounded(rt, &progress, StressUnit::Meeting, 3, 10)?;
+        let _status = totals.write(&mut output);
+    } else {
+        let report = stress_watched(rt, &progress, StressUnit::Meeting, 3, 10)?;
+        let _status = report.write(&mut output);
+    }
+    Ok(())
+}
+
+/// Has them meet, a second time where memory was wanting in the first, and gives how often it was.
+fn meet_again<R: Threads + Wait + Print + AllocGlobal + Copy + Send + 'static>(
+    rt: R,
+    is_bounded: bool,
 ) -> io::Result<u64> {
     for refusals in 0..2 {
-        match stress(rt, StressUnit::Meeting, 3, 10) {
-            Ok(report) => {
-                let mut output = OverStd::new(io::writer(&rt));
-                let _status = report.write(&mut output);
-                return Ok(refusals);
-            }
+        match meet(rt, is_bounded) {
+            Ok(()) => return Ok(refusals),
             Err(StressFault::OutOfMemory) => {}
             Err(fault) => println!(rt; "{fault}")?,
         }
@@ -64,7 +82,8 @@ fn print_run<R: Threads + Wait + Print + AllocGlobal + Copy + Send + 'static>(
 
 fn main(rt: HostRuntime) -> io::Result<()> {
     take_for_input(&rt)?;
-    println!(rt; "refused {}", print_run(rt)?)?;
+    let refused = meet_again(rt, false)?.saturating_add(meet_again(rt, true)?);
+    println!(rt; "refused {refused}")?;
     println!(rt;
         "one more {}",
         if take_some(rt.alloc()) {

@@ -2,7 +2,8 @@
 
 use crate::sinks::Narrow;
 use po_object::{Agreed, ReconcileFault};
-use po_stress::Report;
+use po_script::OverStd;
+use po_stress::{Report, Totals};
 use std::io::{self, Print, Write};
 
 /// A report with this verdict.
@@ -29,6 +30,18 @@ fn print_line<R: Print + AllocGlobal>(
     println!(rt; "{answer:?}")
 }
 
+/// Prints the line of numbers that don't agree: two calls ended of three that were issued.
+fn print_difference<R: Print>(rt: &R) -> io::Result<()> {
+    let totals = Totals {
+        issued: 3,
+        completed: 1,
+        cancelled: 1,
+        program_error: 0,
+    };
+    let answer = totals.write(&mut OverStd::new(io::writer(rt)));
+    println!(rt; "{answer:?}")
+}
+
 /// Prints the lines of all kinds of reports, and of sinks that end in the middle of one.
 pub(crate) fn print_all<R: Print + AllocGlobal>(rt: &R) -> io::Result<()> {
     let agreed = report(Ok(Agreed));
@@ -46,5 +59,6 @@ pub(crate) fn print_all<R: Print + AllocGlobal>(rt: &R) -> io::Result<()> {
         true,
     )?;
     print_line(rt, &agreed, 20, true)?;
-    print_line(rt, &agreed, 20, false)
+    print_line(rt, &agreed, 20, false)?;
+    print_difference(rt)
 }

@@ -1,8 +1,8 @@
-//! Runs whose report isn't one line: a race, and one with a thread too many.
+//! Runs whose report isn't one line: races, and one with a thread too many.
 
-use po_stress::{StressFault, StressUnit, stress};
+use po_stress::{Progress, StressFault, StressUnit, stress, stress_bounded};
 use std::io::{self, Print};
-use std::sync::Wait;
+use std::sync::{Arc, Wait};
 use std::thread::Threads;
 
 /// Prints a race of eight threads, whose calls complete or are cancelled as it happens, but are 800 together.
@@ -18,6 +18,23 @@ fn print_race<R: Threads + Wait + Print + AllocGlobal + Copy + Send + 'static>(
             report.verdict
         ),
         Err(fault) => println!(rt; "race: {fault}"),
+    }
+}
+
+/// Prints the same race on an object with fixed memory.
+fn print_bounded_race<R: Threads + Wait + Print + AllocGlobal + Copy + Send + 'static>(
+    rt: R,
+) -> io::Result<()> {
+    let progress = Arc::new(rt.alloc(), Progress::new())?;
+    match stress_bounded(rt, &progress, StressUnit::Race, 8, 100) {
+        Ok(totals) => println!(rt;
+            "race with fixed memory: issued {}, completed or cancelled {}, program_error {}, {}",
+            totals.issued,
+            totals.completed.saturating_add(totals.cancelled),
+            totals.program_error,
+            totals.agree()
+        ),
+        Err(fault) => println!(rt; "race with fixed memory: {fault}"),
     }
 }
 
@@ -37,6 +54,7 @@ pub(crate) fn print_all<R: Threads + Wait + Print + AllocGlobal + Copy + Send + 
     rt: R,
 ) -> io::Result<()> {
     print_race(rt)?;
+    print_bounded_race(rt)?;
     print_odd(rt, StressUnit::Buffer)?;
     print_odd(rt, StressUnit::Race)?;
     print_odd(rt, StressUnit::Allocator)?;

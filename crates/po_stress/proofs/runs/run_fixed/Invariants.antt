@@ -1,0 +1,13 @@
+use Rattle.po_stress.proofs.runs.run_fixed.Given as goal
+
+abbrev pub ghosts-run_bounded-C-Ledger : goal.ghosts-run_bounded-C-Ledger
+ghosts-run_bounded-C-Ledger g a = record { name = a.calls.name; parts = a.calls.parts }
+
+abbrev pub ghosts-run_bounded-P-Ledger : goal.ghosts-run_bounded-P-Ledger
+ghosts-run_bounded-P-Ledger g a = record { name = a.procedures.name; parts = a.procedures.parts }
+
+abbrev pub ghosts-run_bounded-F-Ledger : goal.ghosts-run_bounded-F-Ledger
+ghosts-run_bounded-F-Ledger g a = record { name = a.free.name; parts = a.free.parts }
+
+abbrev pub ghosts-run_bounded-C-CallLedger : goal.ghosts-run_bounded-C-CallLedger
+ghosts-run_bounded-C-CallLedger g a = record { shape = a.machine.object.making.shape }

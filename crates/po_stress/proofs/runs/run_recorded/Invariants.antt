@@ -1,0 +1,10 @@
+use Rattle.po_stress.proofs.runs.run_recorded.Given as goal
+
+abbrev pub ghosts-run-C-Ledger : goal.ghosts-run-C-Ledger
+ghosts-run-C-Ledger g a = record { name = a.calls.name; parts = a.calls.parts }
+
+abbrev pub ghosts-run-P-Ledger : goal.ghosts-run-P-Ledger
+ghosts-run-P-Ledger g a = record { name = a.procedures.name; parts = a.procedures.parts }
+
+abbrev pub ghosts-run-C-CallLedger : goal.ghosts-run-C-CallLedger
+ghosts-run-C-CallLedger g a = record { shape = a.core.object.making.shape }

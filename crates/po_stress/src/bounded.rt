@@ -1,0 +1,133 @@
+//! Objects with fixed memory, as the threads of a run call them.
+
+ghost use Rattle.std.specs.Prelude.{◌≡◌, ◌<◌, ◌^◌, [], None, count_by};
+ghost use Rattle.po_receipts.specs.Passes.{is_call};
+ghost use Rattle.po_stress.specs.Ends.{AreEndsOf, all_of};
+
+use crate::ends::Ends;
+use crate::loaded::Loaded;
+use po_actions::Refusal;
+use po_bounded_object::hold::BoundedPass;
+use po_bounded_object::{BoundedObject, CallLedger};
+use po_index::EntryRef;
+use po_unit::Unit;
+use std::marker::Model;
+use std::sync::Wait;
+use std::sync::ledger::Ledger;
+
+/// A caller of an object with fixed memory, which counts how its calls end. Contracts see it as its pass, with which no call
+/// is pending.
+#[derive(Drop)]
+pub(crate) struct BoundedCaller<C: Ledger, P: Ledger, F: Ledger> {
+    pass: BoundedPass<u64, C, P, F>,
+    ends: Ends,
+}
+
+impl<C: Ledger, P: Ledger, F: Ledger> Model for BoundedCaller<C, P, F> {
+    ghost use Rattle.std.specs.Prelude.{◌≡◌, ℕ, None};
+    ghost use Rattle.po_receipts.specs.Passes.{PassView};
+    ghost use Rattle.po_stress.specs.Ends.{AreEndsOf};
+
+    ghost Value = { PassView ℕ };
+
+    ghost view = { λ c. c.pass };
+
+    ghost invariant = { λ c. record {
+      free : c.pass.pending ≡ None;
+      counted : AreEndsOf c.pass.receipts c.ends;
+    } };
+}
+
+impl<C: Ledger, P: Ledger, F: Ledger> BoundedCaller<C, P, F> {
+    /// The caller with this pass, which hasn't been used.
+    pub(crate) fn new(pass: BoundedPass<u64, C, P, F>) -> BoundedCaller<C, P, F>
+        requires free { pass.pending ≡ None }
+        requires unused { pass.receipts ≡ [] }
+    {
+        BoundedCaller {
+            pass,
+            ends: Ends::new(),
+        }
+    }
+
+    /// The caller's pass, and how its calls ended.
+    pub(crate) fn leave(self) -> (BoundedPass<u64, C, P, F>, Ends)
+        ensures ends { AreEndsOf result.0.receipts result.1 }
+        ensures all { all_of result.1 ≡ result.0.calls }
+    {
+        self.pass.recall_invariant();
+        (self.pass, self.ends)
+    }
+}
+
+/// A pass has fewer than 2^64 receipts of calls. It does nothing when it runs.
+fn recall_room<C: Ledger, P: Ledger, F: Ledger>(pass: &BoundedPass<u64, C, P, F>)
+    ensures { count_by is_call pass.now.receipts < 2 ^ 64 }
+{
+    pass.recall_invariant();
+    let _calls = pass.calls();
+}
+
+impl<U: Unit<Value = u64>, C: CallLedger + 'static, P: Ledger + 'static, F: Ledger + 'static> Loaded
+    for BoundedObject<U, C, P, F> {
+    type Caller = BoundedCaller<C, P, F>;
+
+    fn seat_count(&self) -> u16 {
+        self.seats()
+    }
+
+    fn seat_of(caller: &BoundedCaller<C, P, F>) -> u16 {
+        caller.pass.seat()
+    }
+
+    fn enter<R: Wait>(
+        &self,
+        rt: &R,
+        caller: &mut BoundedCaller<C, P, F>,
+        entry: EntryRef,
+        value: u64,
+    ) -> Result<(), Refusal> {
+        let end = self.call(rt, &mut caller.pass, entry, value)?;
+        recall_room(&caller.pass);
+        caller.ends.count(end);
+        Ok(())
+    }
+
+    fn enter_before<R: Wait>(
+        &self,
+        rt: &R,
+        caller: &mut BoundedCaller<C, P, F>,
+        entry: EntryRef,
+        value: u64,
+        deadline: u64,
+    ) -> Result<(), Refusal> {
+        let end = self.timed(rt, &mut caller.pass, entry, value, deadline)?;
+        recall_room(&caller.pass);
+        caller.ends.count(end);
+        Ok(())
+    }
+
+    fn run_procedure<R: Wait>(
+        &self,
+        rt: &R,
+        caller: &mut BoundedCaller<C, P, F>,
+        op: u16,
+        value: u64,
+    ) -> Result<(), Refusal> {
+        let _reply = self.procedure(rt, &mut caller.pass, op, value)?;
+        Ok(())
+    }
+
+    fn raise_clock<R: Wait>(&self, rt: &R, time: u64) -> Result<(), Refusal> {
+        let _clock = self.tick(rt, time)?;
+        Ok(())
+    }
+
+    fn cancel_seat<R: Wait>(&self, rt: &R, seat: u16) {
+        let _attempted = self.abort_seat(rt, seat);
+    }
+
+    fn end_all<R: Wait>(&self, rt: &R) {
+        let _ended = self.finalize(rt);
+    }
+}

@@ -1,0 +1,144 @@
+//! A run over an object with fixed memory, from its opening to the totals.
+
+ghost use Rattle.std.specs.Prelude.{◌≡◌, ◌≤◌, ◌+◌, All, IfOk, IfErr, length, vec_len};
+ghost use Rattle.std.specs.Arc.{arc_value};
+ghost use Rattle.po_stress.specs.Ends.{AreEndsOfAll, AreUnused, all_of, calls_of};
+ghost use Rattle.po_stress.specs.BoundedRuns.{IsBoundedRun};
+
+use crate::bounded::BoundedCaller;
+use crate::bounded_threads::load;
+use crate::ends::Ends;
+use crate::fault::StressFault;
+use crate::job::Job;
+use crate::progress::Progress;
+use crate::totals::Totals;
+use po_bounded_object::hold::BoundedPass;
+use po_bounded_object::{BoundedClosed, BoundedObject, CallLedger};
+use po_machine::Machine;
+use po_unit::Unit;
+use std::alloc::{AllocError, Global};
+use std::sync::ledger::{Blank, Ledger};
+use std::sync::{Arc, Wait};
+use std::thread::Threads;
+
+/// A caller for each pass.
+fn seat_all<C: CallLedger, P: Ledger, F: Ledger>(
+    alloc: Global,
+    mut passes: Vec<BoundedPass<u64, C, P, F>>,
+) -> Result<Vec<BoundedCaller<C, P, F>>, AllocError>
+    requires { AreUnused passes.items }
+{
+    let mut callers = Vec::with_capacity(alloc, passes.len())?;
+    while let Some(pass) = passes.pop() {
+        callers.push_reserved(BoundedCaller::new(pass));
+    }
+    Ok(callers)
+}
+
+/// The passes of all callers, and how their calls ended: so many of each caller, or there is no answer.
+fn leave_all<C: CallLedger, P: Ledger, F: Ledger>(
+    alloc: Global,
+    mut callers: Vec<BoundedCaller<C, P, F>>,
+    calls: u32,
+) -> Result<(Vec<BoundedPass<u64, C, P, F>>, Ends), StressFault>
+    requires { vec_len callers ≤ 65_535 }
+    ensures tallies { IfOk result (λ r. All (λ pass. pass.calls ≡ calls) r.0.items) }
+    ensures ends { IfOk result (λ r. AreEndsOfAll r.0.items r.1) }
+    ensures all { IfOk result (λ r. all_of r.1 ≡ calls_of r.0.items) }
+    ensures fault { IfErr result (λ fault. fault ≡ StressFault.OutOfMemory) }
+{
+    let mut passes = Vec::with_capacity(alloc, callers.len())?;
+    let mut all = Ends::new();
+    while let Some(caller) = callers.pop() {
+        let (pass, ends) = caller.leave();
+        if pass.calls() != u64::from(calls) {
+            return Err(StressFault::OutOfMemory);
+        }
+        all.add(ends);
+        passes.push_reserved(pass);
+    }
+    Ok((passes, all))
+}
+
+/// Opens an object over the machine, has threads call it, closes it, and adds up.
+pub(crate) fn run_bounded<
+    U: Unit<Value = u64> + Send + Sync + Drop + 'static,
+    C: CallLedger + Send + Sync + 'static,
+    P: Ledger + Send + Sync + 'static,
+    F: Ledger + Send + Sync + 'static,
+    R: Threads + Wait + AllocGlobal + Copy + Send + 'static,
+>(
+    rt: R,
+    machine: Machine<U>,
+    progress: &Arc<Progress>,
+    job: Job,
+    threads: u16,
+    calls: Blank,
+    procedures: Blank,
+    free: Blank,
+) -> Result<Totals, StressFault>
+    requires shape { machine.object.making.shape ≡ C.shape }
+    requires most { threads ≤ machine.most }
+    requires calls { (calls.name ≡ C.name) × (calls.parts ≡ C.parts) × (calls.parts ≡ threads + 1) }
+    requires procedures { (procedures.name ≡ P.name) × (procedures.parts ≡ P.parts) × (procedures.parts ≡ threads + 1) }
+    requires free { (free.name ≡ F.name) × (free.parts ≡ F.parts) × (free.parts ≡ threads + 1) }
+    ensures totals { IfOk result (IsBoundedRun U.meaning threads job.calls) }
+    ensures fault { IfErr result (λ fault. fault ≡ StressFault.OutOfMemory) }
+{
+    let opened = BoundedObject::<U, C, P, F>::open(
+        rt.alloc(),
+        machine,
+        threads,
+        calls,
+        procedures,
+        free,
+    );
+    let Ok((object, passes)) = opened else {
+        return Err(StressFault::OutOfMemory);
+    };
+    let Ok(object) = Arc::new(rt.alloc(), object) else {
+        return Err(StressFault::OutOfMemory);
+    };
+    let mut callers = seat_all(rt.alloc(), passes)?;
+    let running = Vec::with_capacity(rt.alloc(), callers.len())?;
+    load(rt, &object, progress, job, &mut callers, running);
+    if progress.was_short() || callers.len() > usize::from(threads) {
+        return Err(StressFault::OutOfMemory);
+    }
+    let (passes, ends) = leave_all(rt.alloc(), callers, job.calls)?;
+    add_up(object, passes, ends, job.calls)
+}
+
+/// Closes the object, and adds up. All threads have ended, so nobody else has the object, and each seat's pass is here.
+fn add_up<U: Unit<Value = u64> + Drop, C: CallLedger, P: Ledger, F: Ledger>(
+    object: Arc<BoundedObject<U, C, P, F>>,
+    passes: Vec<BoundedPass<u64, C, P, F>>,
+    ends: Ends,
+    calls: u32,
+) -> Result<Totals, StressFault>
+    requires tallies { All (λ pass. pass.calls ≡ calls) passes.items }
+    requires ends { AreEndsOfAll passes.items ends }
+    requires all { all_of ends ≡ calls_of passes.items }
+    ensures totals { IfOk result (IsBoundedRun U.meaning (arc_value object) calls) }
+    ensures fault { IfErr result (λ fault. fault ≡ StressFault.OutOfMemory) }
+{
+    let Ok(object) = Arc::try_unwrap(object) else {
+        return Err(StressFault::OutOfMemory);
+    };
+    match object.close(passes) {
+        Ok(closed) => Ok(totals_of(&closed, ends, calls)),
+        Err(_) => Err(StressFault::OutOfMemory),
+    }
+}
+
+/// The totals of a closed object, with what holds of each such object.
+fn totals_of<U: Unit<Value = u64>>(closed: &BoundedClosed<U>, ends: Ends, calls: u32) -> Totals
+    requires tallies { All (λ pass. pass.calls ≡ calls) closed.now.passes }
+    requires ends { AreEndsOfAll closed.now.passes ends }
+    requires all { all_of ends ≡ calls_of closed.now.passes }
+    ensures { IsBoundedRun U.meaning (length closed.now.passes) calls result }
+{
+    closed.closing_totals();
+    closed.machine().headline();
+    Totals::of(closed.machine().next(), ends)
+}

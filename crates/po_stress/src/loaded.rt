@@ -1,0 +1,54 @@
+//! What the threads of a run need of an object.
+
+use po_actions::Refusal;
+use po_index::EntryRef;
+use std::sync::Wait;
+
+/// An object that the threads of a run call. Each thread carries a caller, which has a seat of the object.
+pub(crate) trait Loaded {
+    /// What a thread carries: its pass, with which no call is pending.
+    type Caller: Send + Drop + 'static;
+
+    /// How many seats the object has.
+    fn seat_count(&self) -> u16;
+
+    /// The caller's seat.
+    fn seat_of(caller: &Self::Caller) -> u16;
+
+    /// Calls an entry, and waits for the end of the call (9.5.3).
+    fn enter<R: Wait>(
+        &self,
+        rt: &R,
+        caller: &mut Self::Caller,
+        entry: EntryRef,
+        value: u64,
+    ) -> Result<(), Refusal>;
+
+    /// Calls an entry, and gives the call up where it isn't selected before the deadline (9.7.2).
+    fn enter_before<R: Wait>(
+        &self,
+        rt: &R,
+        caller: &mut Self::Caller,
+        entry: EntryRef,
+        value: u64,
+        deadline: u64,
+    ) -> Result<(), Refusal>;
+
+    /// Runs a procedure (9.5.1).
+    fn run_procedure<R: Wait>(
+        &self,
+        rt: &R,
+        caller: &mut Self::Caller,
+        op: u16,
+        value: u64,
+    ) -> Result<(), Refusal>;
+
+    /// Raises the clock.
+    fn raise_clock<R: Wait>(&self, rt: &R, time: u64) -> Result<(), Refusal>;
+
+    /// Attempts to cancel the seat's call, if one is queued (9.5.3).
+    fn cancel_seat<R: Wait>(&self, rt: &R, seat: u16);
+
+    /// Finalizes the object, if it isn't finalized (9.4).
+    fn end_all<R: Wait>(&self, rt: &R);
+}

@@ -1,0 +1,110 @@
+//! What a run over an object with fixed memory comes to.
+
+ghost use Rattle.std.specs.Prelude.{◌≡◌, ◌||◌, ◌-◌, true, IfOk, OnOk, OnErr};
+ghost use Rattle.std.specs.Io.KnownBytes.{Appends};
+ghost use Rattle.po_stress.specs.Totals.{agree, last_words, line_with, totals_line, totals_status};
+ghost use Rattle.po_stress.specs.Reports.{TakesPart};
+
+use crate::ends::Ends;
+use crate::piece::{Piece, write_pieces};
+use crate::report::{GOOD, MISMATCH};
+use po_script::{IoFailed, Sink};
+
+/// What a run over an object with fixed memory came to: how many calls its machine issued, and how those ended that its
+/// callers made, as they counted.
+#[derive(Clone, Copy, Debug, PartialEq, Eq)]
+pub struct Totals {
+    /// How many calls were issued.
+    pub issued: u64,
+    /// How many completed, or ended by an exception that their body raised.
+    pub completed: u64,
+    /// How many were cancelled.
+    pub cancelled: u64,
+    /// How many ended by Program_Error.
+    pub program_error: u64,
+}
+
+impl Totals {
+    /// Those of a machine whose next call has this number, and whose calls are numbered from 1, with the ends that its
+    /// callers counted.
+    pub(crate) fn of(next: u64, ends: Ends) -> Totals
+        ensures issued { result.issued ≡ next - 1 }
+        ensures completed { result.completed ≡ ends.completed }
+        ensures cancelled { result.cancelled ≡ ends.cancelled }
+        ensures program_error { result.program_error ≡ ends.program_error }
+    {
+        Totals {
+            issued: next.saturating_sub(1),
+            completed: ends.completed,
+            cancelled: ends.cancelled,
+            program_error: ends.program_error,
+        }
+    }
+
+    /// Whether as many calls ended as were issued.
+    pub fn agree(&self) -> bool
+        ensures { result ≡ agree self.now }
+    {
+        let ended = u128::from(self.completed)
+            + u128::from(self.cancelled)
+            + u128::from(self.program_error);
+        u128::from(self.issued) == ended
+    }
+
+    /// Writes the line of the totals, and gives the status: 0 where they agree, else 3.
+    ///
+    /// At an error some bytes of the line were taken, and then the sink failed or took none.
+    pub fn write<W: Sink>(&self, writer: &mut W) -> Result<u8, IoFailed>
+        ensures status { IfOk result (λ status. status ≡ totals_status self.now) }
+        ensures ok { OnOk result (Appends (W.taken writer.old) (W.taken writer.new) (totals_line self.now)) }
+        ensures fine { OnOk result ((W.failed writer.new ≡ W.failed writer.old) × (W.stuck writer.new ≡ W.stuck writer.old)) }
+        ensures err { OnErr result (TakesPart (W.taken writer.old) (W.taken writer.new) (totals_line self.now)
+            × ((W.failed writer.new || W.stuck writer.new) ≡ true)) }
+    {
+        self.write_with(writer, self.words())?;
+        Ok(self.status())
+    }
+
+    /// The words behind the numbers.
+    fn words(&self) -> &'static str
+        ensures { result.now ≡ last_words self.now }
+    {
+        if self.agree() {
+            " agreed\n"
+        } else {
+            " differ\n"
+        }
+    }
+
+    /// The status.
+    fn status(&self) -> u8
+        ensures { result ≡ totals_status self.now }
+    {
+        if self.agree() { GOOD } else { MISMATCH }
+    }
+
+    /// Writes the numbers, and these words behind them.
+    pub(crate) fn write_with<W: Sink>(
+        &self,
+        writer: &mut W,
+        words: &'static str,
+    ) -> Result<(), IoFailed>
+        ensures ok { OnOk result (Appends (W.taken writer.old) (W.taken writer.new) (line_with words.now self.now)) }
+        ensures fine { OnOk result ((W.failed writer.new ≡ W.failed writer.old) × (W.stuck writer.new ≡ W.stuck writer.old)) }
+        ensures err { OnErr result (TakesPart (W.taken writer.old) (W.taken writer.new) (line_with words.now self.now)
+            × ((W.failed writer.new || W.stuck writer.new) ≡ true)) }
+    {
+        let pieces = [
+            Piece::Words("issued "),
+            Piece::Number(self.issued),
+            Piece::Words(" completed "),
+            Piece::Number(self.completed),
+            Piece::Words(" cancelled "),
+            Piece::Number(self.cancelled),
+            Piece::Words(" program_error "),
+            Piece::Number(self.program_error),
+            Piece::Words(words),
+        ];
+        write_pieces(writer, &pieces)
+    }
+}
