@@ -1,4 +1,5 @@
-"""Draws docs/speed.svg: how often a second pobj and GNAT do the same work, by the numbers of the last `./compare speed`."""
+"""Draws docs/speed.svg: how often a second both objects of pobj and GNAT's do the same work, by the numbers of the last
+`./compare speed`."""
 
 import json
 import math
@@ -8,10 +9,10 @@ import programs
 import speed
 
 FILE = programs.TOP / "docs/speed.svg"
-COLOURS = {"pobj": "#1f6fb4", "gnat": "#d9730d"}
-NAMES = {"pobj": "pobj", "gnat": "GNAT"}
+COLOURS = {"recorded": "#1f6fb4", "bounded": "#2e8b57", "gnat": "#d9730d"}
+NAMES = {"recorded": "pobj, recorded", "bounded": "pobj, bounded", "gnat": "GNAT"}
 # In pixels: the width of the names, of the plot and of the ratios, the height of a row, and the room above and below.
-LEFT, WIDTH, RIGHT, ROW, TOP, BOTTOM = 150, 560, 90, 34, 64, 40
+LEFT, WIDTH, RIGHT, ROW, TOP, BOTTOM = 150, 560, 120, 40, 64, 40
 UNITS = {3: "1 thousand", 4: "10 thousand", 5: "100 thousand", 6: "1 million", 7: "10 million", 8: "100 million"}
 
 
@@ -60,16 +61,17 @@ def picture(numbers):
     parts += [text(LEFT, 24, "Calls a second: medians, from the lowest to the highest round", size=15)]
     parts += axis(first, last, place, bottom)
     for n, name in enumerate(NAMES):
-        x = LEFT + WIDTH - 180 + 80 * n
+        x = LEFT + WIDTH - 330 + 130 * n
         parts += [f'<circle cx="{x}" cy="43" r="5" fill="{COLOURS[name]}"/>', text(x + 10, 47, NAMES[name])]
     parts += [text(whole - 12, 47, "times GNAT", "end", 12, "#555555")]
     for n, (row, known) in enumerate(numbers.items()):
         y = TOP + ROW * n + ROW / 2
         work, threads = row.split("/")
         parts += [text(LEFT - 12, y + 4, f"{work}, {threads} thread{'s' * (threads != '1')}", "end")]
-        parts += [mark(known[name], y + 5 * (-1, 1)[k], COLOURS[name], place) for k, name in enumerate(NAMES)]
-        ratio = statistics.median(known["pobj"]) / statistics.median(known["gnat"])
-        parts += [text(whole - 12, y + 4, f"{ratio:.2f}" if ratio < 10 else f"{ratio:.0f}", "end")]
+        parts += [mark(known[name], y + 9 * (k - 1), COLOURS[name], place) for k, name in enumerate(NAMES)]
+        ratios = [statistics.median(known[name]) / statistics.median(known["gnat"]) for name in speed.OURS]
+        words = ", ".join(f"{ratio:.2f}" if ratio < 10 else f"{ratio:.0f}" for ratio in ratios)
+        parts += [text(whole - 12, y + 4, words, "end")]
     size = f'width="{whole}" height="{bottom + BOTTOM}" viewBox="0 0 {whole} {bottom + BOTTOM}"'
     lines = "\n".join(parts)
     return f'<svg xmlns="http://www.w3.org/2000/svg" {size} font-family="sans-serif">\n{lines}\n</svg>\n'

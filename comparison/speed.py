@@ -1,4 +1,4 @@
-"""How fast the same work is with pobj and with GNAT."""
+"""How fast the same work is with both objects of pobj, the recorded and the bounded one, and with GNAT."""
 
 import json
 import os
@@ -23,15 +23,27 @@ ROWS = (
     ("meeting", 4, 5_000),
 )
 ROUNDS = 15
+# The objects, and what stands before the word for the work where the program is to use them.
+PREFIXES = {"recorded": "", "bounded": "bounded-", "gnat": ""}
+OURS = ("recorded", "bounded")
 PROGRAM = programs.TOP / "crates/po_thread_bench/out/po_thread_bench"
 # The numbers of the last run, by row and program: calls a second, of each round.
 NUMBERS = programs.OUT / "speed.json"
 
 
+def is_current():
+    """Whether the program of pobj is there, and no source of a crate is newer."""
+    if not PROGRAM.exists():
+        return False
+    built = PROGRAM.stat().st_mtime
+    sources = (programs.TOP / "crates").glob("*/src/**/*.rt")
+    return all(source.stat().st_mtime <= built for source in sources)
+
+
 def prepare():
-    """Builds both programs."""
+    """Builds both programs, that of pobj where it isn't there or is old."""
     programs.build("speed", "-O2")
-    if PROGRAM.exists():
+    if is_current():
         return
     programs.say("po_thread_bench is built first, which takes minutes")
     built = subprocess.run(["rt", "run", "--", "small"], cwd=PROGRAM.parent.parent, capture_output=True, text=True)
@@ -39,24 +51,29 @@ def prepare():
         raise programs.Failed(f"po_thread_bench can't be built:\n{built.stdout[-2000:]}{built.stderr[-2000:]}")
 
 
-def calls_a_second(words, row):
-    """How often a second the threads of a row do its work."""
-    work, threads, turns = row
-    ended = programs.run([*words, work, str(threads), str(turns)], "")
+def words_of(name):
+    """The words that call the program for the object of this name."""
+    return [str(PROGRAM), "row"] if name in OURS else [str(programs.OUT / "speed")]
+
+
+def calls_a_second(name, row):
+    """How often a second the threads of a row do its work on the object of this name."""
+    work, threads, turns = PREFIXES[name] + row[0], *row[1:]
+    words = [*words_of(name), work, str(threads), str(turns)]
+    ended = programs.run(words, "")
     answer = ended.stdout.split()
     if ended.returncode != 0 or answer[:3] != [work, str(threads), str(threads * turns)]:
-        raise programs.Failed(f"{words[0]} ended with status {ended.returncode} on {work}: {ended.stdout}{ended.stderr}")
+        raise programs.Failed(f"{' '.join(words)} ended with status {ended.returncode}: {ended.stdout}{ended.stderr}")
     return threads * turns * 1e9 / int(answer[3])
 
 
 def measure():
     """The numbers of all rows, taken in turns."""
-    commands = {"pobj": [str(PROGRAM), "row"], "gnat": [str(programs.OUT / "speed")]}
-    numbers = {f"{work}/{threads}": {name: [] for name in commands} for work, threads, _ in ROWS}
+    numbers = {f"{work}/{threads}": {name: [] for name in PREFIXES} for work, threads, _ in ROWS}
     for _ in range(ROUNDS):
         for row in ROWS:
-            for name, words in commands.items():
-                numbers[f"{row[0]}/{row[1]}"][name].append(calls_a_second(words, row))
+            for name in PREFIXES:
+                numbers[f"{row[0]}/{row[1]}"][name].append(calls_a_second(name, row))
     return numbers
 
 
@@ -65,12 +82,16 @@ def millions(rounds):
     return f"{statistics.median(rounds) / 1e6:.2f} ({min(rounds) / 1e6:.2f} to {max(rounds) / 1e6:.2f})"
 
 
+def ratios(ours, theirs):
+    """The ratio of the medians, and of the means."""
+    median = statistics.median(ours) / statistics.median(theirs)
+    return f"{median:.2f} ({statistics.mean(ours) / statistics.mean(theirs):.2f})"
+
+
 def line(name, row):
     """The line of a row."""
-    ours, theirs = row["pobj"], row["gnat"]
-    median = statistics.median(ours) / statistics.median(theirs)
-    mean = statistics.mean(ours) / statistics.mean(theirs)
-    return f"| `{name}` | {millions(ours)} | {millions(theirs)} | {median:.2f} | {mean:.2f} |"
+    cells = [millions(row[name]) for name in PREFIXES] + [ratios(row[name], row["gnat"]) for name in OURS]
+    return f"| `{name}` | {' | '.join(cells)} |"
 
 
 def busy():
@@ -82,15 +103,16 @@ def busy():
 
 
 def speed():
-    """Measures both, prints the table, and gives the status."""
+    """Measures all, prints the table, and gives the status."""
     before, since = busy(), time.monotonic()
     numbers = measure()
     after, seconds = busy(), time.monotonic() - since
     others = (after[0] - before[0]) - (after[1] - before[1])
     NUMBERS.write_text(json.dumps(numbers))
     print(f"Other work kept {max(others, 0) / seconds:.1f} processors busy. The numbers mean little where that is much.")
-    print("Millions of calls a second: the median of the rounds, with the lowest and the highest")
-    print("| work/threads | pobj | GNAT | ratio | ratio of the means |\n|---|---|---|---|---|")
+    print("Millions of calls a second: the median of the rounds, with the lowest and the highest. The ratios are to GNAT: of")
+    print("the medians, with those of the means in parentheses.")
+    print("| work/threads | recorded | bounded | GNAT | recorded to GNAT | bounded to GNAT |\n|---|---|---|---|---|---|")
     for name, row in numbers.items():
         print(line(name, row))
     return 0

@@ -1,26 +1,10 @@
 //! Commands, in batches.
 
+use crate::engine::Engine;
 use crate::measure::Measure;
-use po_actions::{Core, Deadline, End};
-use po_classic_units::Trap;
-use po_index::EntryRef;
+use po_actions::{Deadline, End};
 use std::io;
 use std::time::{Clock, Instant};
-
-/// Who makes all calls.
-const OWNER: u16 = 0;
-
-/// The procedure Set of the trap.
-const SET: u16 = 0;
-
-/// The first entry of the family Wait of the trap.
-const WAIT: EntryRef = EntryRef {
-    entry: 0,
-    index: Some(1),
-};
-
-/// The function State of the trap.
-const STATE: u16 = 0;
 
 /// A level at which the first entry is open.
 pub(crate) const OPEN: u64 = 3;
@@ -40,41 +24,30 @@ pub(crate) enum Command {
 
 impl Command {
     /// Carries the command out, and tells whether it did what it is to do.
-    fn carry_out(self, core: &mut Core<Trap>) -> bool {
+    fn carry_out<E: Engine>(self, engine: &mut E) -> bool {
         match self {
-            Command::Call => matches!(call(core, Deadline::Never), Some(End::Completed(_))),
-            Command::Conditional => matches!(call(core, Deadline::At(0)), Some(End::Cancelled)),
-            Command::Set(level) => matches!(core.run(OWNER, SET, level), Ok(Ok(_))),
-            Command::Tick => core.tick(core.clock().saturating_add(1)).is_ok(),
+            Command::Call => matches!(engine.call(Deadline::Never), Some(End::Completed(_))),
+            Command::Conditional => matches!(engine.call(Deadline::At(0)), Some(End::Cancelled)),
+            Command::Set(level) => engine.set(level),
+            Command::Tick => engine.raise_clock(),
         }
     }
 
     /// Carries the command out so many times, and answers how often it did what it is to do.
-    pub(crate) fn repeat(self, core: &mut Core<Trap>, times: u64) -> u64 {
-        (0..times).filter(|_| self.carry_out(core)).count() as u64
+    pub(crate) fn repeat<E: Engine>(self, engine: &mut E, times: u64) -> u64 {
+        (0..times).filter(|_| self.carry_out(engine)).count() as u64
     }
 
     /// Adds a batch of the command to the measure.
-    pub(crate) fn measure<R: Clock>(
+    pub(crate) fn measure<E: Engine, R: Clock>(
         self,
         rt: &R,
-        core: &mut Core<Trap>,
+        engine: &mut E,
         times: u64,
         measure: &mut Measure,
     ) -> io::Result<()> {
         let start = Instant::now(rt)?;
-        let done = self.repeat(core, times);
+        let done = self.repeat(engine, times);
         measure.add(rt, start, done)
     }
-}
-
-/// Calls the first entry, and collects the end, if the call doesn't wait.
-fn call(core: &mut Core<Trap>, deadline: Deadline) -> Option<End<u64>> {
-    let ticket = core.issue(OWNER, WAIT, 1, deadline).ok()?;
-    core.collect(ticket)
-}
-
-/// What the function replies.
-pub(crate) fn read(core: &Core<Trap>) -> Option<u64> {
-    core.read(STATE, 0).ok()?.ok()
 }

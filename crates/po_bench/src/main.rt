@@ -1,4 +1,4 @@
-//! The program `po_bench`: what commands on a core cost.
+//! The program `po_bench`: what commands on a core cost, and on a machine.
 //!
 //! A measurement is taken in batches of commands, and what counts is the batch in which a command took the least, since
 //! what else the machine does can only add to it; in `history` it is the round of batches in which a command took the least
@@ -10,14 +10,18 @@
 //! carried out in all batches, the nanoseconds that one took, and their ratio: to those of a lock and unlock of a mutex
 //! or, where names end in a number, to those of the same measurement with the lower number. A number behind `full` is
 //! how many calls wait in place of 64,000.
+//!
+//! `machine CALLS` issues and collects so many calls on one machine, and prints such a line: to look at the memory meanwhile.
 #![tactic(auto)]
 
 mod against_mutex;
 mod commands;
 mod cores;
+mod engine;
 mod entries;
 mod expiring;
 mod history;
+mod long;
 mod measure;
 mod plan;
 mod report;
@@ -44,18 +48,32 @@ const NO_MEANS: u8 = 4;
 const PIECE: usize = 24 << 20;
 
 /// What is said of other words.
-const USAGE_TEXT: &str = "usage: po_bench [small | full [CALLS]]";
+const USAGE_TEXT: &str = "usage: po_bench [small | full [CALLS] | machine CALLS]";
+
+/// What the words of the command line ask for.
+#[derive(Drop)]
+enum Wanted {
+    Table(Plan),
+    /// So many calls on one machine.
+    Long(u64),
+}
 
 /// What the words of the command line ask for, or none where they are refused.
-fn asked<R: Env + AllocGlobal>(rt: &R) -> io::Result<Option<Plan>> {
+fn asked<R: Env + AllocGlobal>(rt: &R) -> io::Result<Option<Wanted>> {
     let mut words = args(rt)?.skip(1);
     let Some(kind) = words.next() else {
-        return Ok(Some(Plan::small()));
+        return Ok(Some(Wanted::Table(Plan::small())));
     };
     match (kind.as_str(), words.next()) {
-        ("small", None) => Ok(Some(Plan::small())),
-        ("full", None) => Ok(Some(Plan::full(MANY))),
-        ("full", Some(calls)) => Ok(calls.parse().ok().map(Plan::full)),
+        ("small", None) => Ok(Some(Wanted::Table(Plan::small()))),
+        ("full", None) => Ok(Some(Wanted::Table(Plan::full(MANY)))),
+        ("full", Some(calls)) => Ok(
+            calls
+                .parse()
+                .ok()
+                .map(|calls| Wanted::Table(Plan::full(calls))),
+        ),
+        ("machine", Some(calls)) => Ok(calls.parse().ok().map(Wanted::Long)),
         _ => Ok(None),
     }
 }
@@ -79,11 +97,14 @@ fn print_all<R: Print + Clock + Wait + AllocGlobal>(rt: &R, plan: &Plan) -> io::
 
 /// Does what the command line asks for, and gives the status.
 fn start<R: Env + Print + Eprint + Clock + Wait + AllocGlobal>(rt: &R) -> io::Result<u8> {
-    let Some(plan) = asked(rt)? else {
+    let Some(wanted) = asked(rt)? else {
         eprintln!(rt; "{USAGE_TEXT}")?;
         return Ok(USAGE);
     };
-    print_all(rt, &plan)?;
+    match wanted {
+        Wanted::Table(plan) => print_all(rt, &plan)?,
+        Wanted::Long(calls) => long::print(rt, calls)?,
+    }
     Ok(GOOD)
 }
 

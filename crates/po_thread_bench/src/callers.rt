@@ -1,98 +1,63 @@
-//! The threads that call an object.
+//! What a thread that calls an object does.
 
-ghost use Rattle.std.specs.Prelude.{◌≡◌, ◌+◌};
-
-use crate::measure::Round;
+use crate::called::Called;
 use crate::team::Team;
-use crate::work::{Job, Task, Work};
-use po_actions::{Core, End};
+use crate::work::{Job, Work};
 use po_index::EntryRef;
-use po_object::hold::Pass;
-use po_object::{CallLedger, Object};
-use po_unit::Unit;
-use std::alloc::AllocError;
-use std::io;
-use std::sync::ledger::{Blank, Ledger};
-use std::sync::{Arc, Wait};
-use std::thread::{self, JoinHandle, Threads};
+use std::sync::Wait;
 use std::time::Clock;
 
 /// A level of the trap at which the entries of its family are open.
 const OPEN: u64 = 3;
-
-/// Calls an entry, and says whether its body completed.
-fn enter<U: Unit<Value = u64>, C: CallLedger, P: Ledger, R: Wait>(
-    rt: &R,
-    object: &Object<U, C, P>,
-    pass: &mut Pass<u64, C, P>,
-    entry: EntryRef,
-    value: u64,
-) -> bool {
-    if pass.pending() {
-        return false;
-    }
-    matches!(object.call(rt, pass, entry, value), Ok(End::Completed(_)))
-}
-
-/// Runs the procedure, and says whether it completed.
-fn run<U: Unit<Value = u64>, C: CallLedger, P: Ledger, R: Wait>(
-    rt: &R,
-    object: &Object<U, C, P>,
-    pass: &mut Pass<u64, C, P>,
-    value: u64,
-) -> bool {
-    if pass.pending() {
-        return false;
-    }
-    matches!(object.procedure(rt, pass, 0, value), Ok(Ok(_)))
-}
 
 /// The single entry with this number.
 fn single(entry: u16) -> EntryRef {
     EntryRef { entry, index: None }
 }
 
+/// The first entry of the family with this number.
+fn first_of(entry: u16) -> EntryRef {
+    EntryRef {
+        entry,
+        index: Some(1),
+    }
+}
+
 /// Does the work once, and says whether all was answered as it should be.
-fn work_once<U: Unit<Value = u64>, C: CallLedger, P: Ledger, R: Wait>(
+fn work_once<O: Called, R: Wait>(
     rt: &R,
-    object: &Object<U, C, P>,
-    pass: &mut Pass<u64, C, P>,
+    object: &O,
+    pass: &mut O::Pass,
     job: Job,
     turn: u64,
 ) -> bool {
     match job.work {
-        Work::Procedure => run(rt, object, pass, OPEN),
-        Work::Function => matches!(object.function(rt, 0, turn), Ok(Ok(_))),
-        Work::Entry => {
-            let first = EntryRef {
-                entry: 0,
-                index: Some(1),
-            };
-            enter(rt, object, pass, first, turn)
-        }
+        Work::Procedure => object.run(rt, pass, OPEN),
+        Work::Function => object.read(rt, turn),
+        Work::Entry => object.enter(rt, pass, first_of(0), turn),
         Work::Buffer => {
             let entry = if job.thread % 2 == 0 { 0 } else { 1 };
-            enter(rt, object, pass, single(entry), turn)
+            object.enter(rt, pass, single(entry), turn)
         }
         Work::Allocator => {
             let pieces = 1 + job.thread.wrapping_add(turn) % 3;
-            enter(rt, object, pass, single(0), pieces) && run(rt, object, pass, pieces)
+            object.enter(rt, pass, single(0), pieces) && object.run(rt, pass, pieces)
         }
-        Work::Meeting => enter(rt, object, pass, single(0), turn),
+        Work::Meeting => object.enter(rt, pass, single(0), turn),
         Work::Mutex | Work::Monitor => false,
     }
 }
 
 /// Does the work as often as it is to be done, and gives the pass back.
-fn carry_out<U: Unit<Value = u64>, C: CallLedger, P: Ledger, R: Wait + Clock>(
+pub(crate) fn carry_out<O: Called, R: Wait + Clock>(
     rt: &R,
-    object: &Object<U, C, P>,
+    object: &O,
     team: &Team,
-    mut pass: Pass<u64, C, P>,
+    mut pass: O::Pass,
     job: Job,
-) -> Pass<u64, C, P> {
+) -> O::Pass {
     if matches!(job.work, Work::Entry) {
-        run(rt, object, &mut pass, OPEN);
+        object.run(rt, &mut pass, OPEN);
     }
     team.begin(rt);
     let mut done = 0u64;
@@ -103,55 +68,4 @@ fn carry_out<U: Unit<Value = u64>, C: CallLedger, P: Ledger, R: Wait + Clock>(
     }
     team.end(rt, done);
     pass
-}
-
-/// Starts a thread that does the work and gives its pass back.
-fn start<
-    U: Unit<Value = u64> + Send + Sync + Drop + 'static,
-    C: CallLedger + Send + Sync + 'static,
-    P: Ledger + Send + Sync + 'static,
-    R: Threads + Wait + Clock + Copy + Send + 'static,
->(
-    rt: R,
-    object: Arc<Object<U, C, P>>,
-    team: Arc<Team>,
-    pass: Pass<u64, C, P>,
-    job: Job,
-) -> Result<JoinHandle<Pass<u64, C, P>>, AllocError> {
-    let all = move || -> Pass<u64, C, P> { carry_out(&rt, &*object, &*team, pass, job) };
-    Ok(thread::spawn(&rt, all)?)
-}
-
-/// Has threads do the task on an object over the core.
-pub(crate) fn race_on_object<
-    U: Unit<Value = u64> + Send + Sync + Drop + 'static,
-    C: CallLedger + Send + Sync + 'static,
-    P: Ledger + Send + Sync + 'static,
-    R: Threads + Wait + Clock + AllocGlobal + Copy + Send + 'static,
->(rt: R, core: Core<U>, task: Task, calls: Blank, procedures: Blank) -> io::Result<Round>
-    requires shape { core.object.making.shape ≡ C.shape }
-    requires calls { (calls.name ≡ C.name) × (calls.parts ≡ C.parts) × (calls.parts ≡ task.threads + 1) }
-    requires procedures { (procedures.name ≡ P.name) × (procedures.parts ≡ P.parts) × (procedures.parts ≡ task.threads + 1) }
-{
-    let opened = Object::<U, C, P>::open(rt.alloc(), core, task.threads, calls, procedures);
-    let Ok((object, mut passes)) = opened else {
-        return Err(AllocError.into());
-    };
-    let object = Arc::new(rt.alloc(), object)?;
-    let team = Arc::new(rt.alloc(), Team::new(&rt, task.threads)?)?;
-    let mut running = Vec::new(rt.alloc());
-    while let Some(pass) = passes.pop() {
-        let job = task.job(pass.seat());
-        running.push(start(
-            rt,
-            Arc::try_clone(&object)?,
-            Arc::try_clone(&team)?,
-            pass,
-            job,
-        )?)?;
-    }
-    while let Some(thread) = running.pop() {
-        let _pass = thread.join(&rt);
-    }
-    Ok(team.round())
 }

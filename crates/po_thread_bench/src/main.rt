@@ -8,12 +8,16 @@
 //! threads', or of the same buffer over a mutex and two condition variables.
 //!
 //! `row WORK THREADS TURNS` takes a round of one row, and prints its words, how often the work was done, and the nanoseconds
-//! of the round: for programs that compare.
+//! of the round: for programs that compare. Where the word for the work begins with `bounded-`, the object is one with fixed
+//! memory.
 #![tactic(auto)]
 
+mod bounded;
+mod called;
 mod callers;
 mod measure;
 mod monitor;
+mod recorded;
 mod rows;
 mod team;
 mod units;
@@ -27,7 +31,7 @@ use std::process::ExitCode;
 use std::sync::Wait;
 use std::thread::Threads;
 use std::time::Clock;
-use work::{Task, Work};
+use work::{Kind, Task, Work};
 
 /// The status of a good end.
 const GOOD: u8 = 0;
@@ -67,13 +71,23 @@ fn table(kind: &str, rounds: Option<&str>) -> Option<Plan> {
     }
 }
 
+/// What the object keeps on which the work of this word is done, and the word for the work alone.
+fn kind_of(word: &str) -> (Kind, &str) {
+    match word.strip_prefix(Kind::Bounded.prefix()) {
+        Some(work) => (Kind::Bounded, work),
+        None => (Kind::Recorded, word),
+    }
+}
+
 /// The row that these words ask for, or none where they are refused.
 fn task(work: &str, threads: &str, turns: &str) -> Option<Task> {
     let threads: u16 = threads.parse().ok()?;
     if threads < 1 || threads > MOST_THREADS {
         return None;
     }
+    let (kind, work) = kind_of(work);
     Some(Task {
+        kind,
         work: Work::named(work)?,
         threads,
         turns: turns.parse().ok()?,
@@ -110,7 +124,8 @@ fn print_one<R: Threads + Wait + Clock + Print + AllocGlobal + Copy + Send + 'st
     units::race(rt, task)?;
     let round = units::race(rt, task)?;
     println!(rt;
-        "{} {} {} {}",
+        "{}{} {} {} {}",
+        task.kind.prefix(),
         task.work.name(),
         threads,
         round.done,

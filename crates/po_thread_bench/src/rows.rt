@@ -4,7 +4,7 @@ ghost use Rattle.po_classic_units.specs.Sizes.{IsSize};
 
 use crate::measure::Measure;
 use crate::units::race;
-use crate::work::{Task, Work};
+use crate::work::{Kind, Task, Work};
 use std::io::{self, Print};
 use std::sync::Wait;
 use std::thread::Threads;
@@ -13,6 +13,7 @@ use std::time::Clock;
 /// A row: what so many threads do, and what that is measured against.
 #[derive(Clone, Copy)]
 struct Row {
+    kind: Kind,
     work: Work,
     threads: u16,
     /// The number of the row that is the unit of this one's ratio.
@@ -48,11 +49,12 @@ impl Plan {
 }
 
 /// How many rows there are.
-const ROWS: usize = 15;
+const ROWS: usize = 25;
 
 /// The row of this work by so many threads, against the row with the number of its unit.
-fn make_row(work: Work, threads: u16, unit: usize) -> Row {
+fn make_row(kind: Kind, work: Work, threads: u16, unit: usize) -> Row {
     Row {
+        kind,
         work,
         threads,
         unit,
@@ -62,21 +64,31 @@ fn make_row(work: Work, threads: u16, unit: usize) -> Row {
 /// The rows.
 fn rows() -> [Row; ROWS] {
     [
-        make_row(Work::Mutex, 1, 0),
-        make_row(Work::Procedure, 1, 0),
-        make_row(Work::Function, 1, 0),
-        make_row(Work::Entry, 1, 0),
-        make_row(Work::Mutex, 4, 4),
-        make_row(Work::Function, 4, 4),
-        make_row(Work::Monitor, 2, 6),
-        make_row(Work::Buffer, 2, 6),
-        make_row(Work::Monitor, 4, 8),
-        make_row(Work::Buffer, 4, 8),
-        make_row(Work::Monitor, 8, 10),
-        make_row(Work::Buffer, 8, 10),
-        make_row(Work::Allocator, 4, 0),
-        make_row(Work::Meeting, 3, 0),
-        make_row(Work::Meeting, 4, 0),
+        make_row(Kind::Recorded, Work::Mutex, 1, 0),
+        make_row(Kind::Recorded, Work::Procedure, 1, 0),
+        make_row(Kind::Recorded, Work::Function, 1, 0),
+        make_row(Kind::Recorded, Work::Entry, 1, 0),
+        make_row(Kind::Recorded, Work::Mutex, 4, 4),
+        make_row(Kind::Recorded, Work::Function, 4, 4),
+        make_row(Kind::Recorded, Work::Monitor, 2, 6),
+        make_row(Kind::Recorded, Work::Buffer, 2, 6),
+        make_row(Kind::Recorded, Work::Monitor, 4, 8),
+        make_row(Kind::Recorded, Work::Buffer, 4, 8),
+        make_row(Kind::Recorded, Work::Monitor, 8, 10),
+        make_row(Kind::Recorded, Work::Buffer, 8, 10),
+        make_row(Kind::Recorded, Work::Allocator, 4, 0),
+        make_row(Kind::Recorded, Work::Meeting, 3, 0),
+        make_row(Kind::Recorded, Work::Meeting, 4, 0),
+        make_row(Kind::Bounded, Work::Procedure, 1, 0),
+        make_row(Kind::Bounded, Work::Function, 1, 0),
+        make_row(Kind::Bounded, Work::Entry, 1, 0),
+        make_row(Kind::Bounded, Work::Function, 4, 4),
+        make_row(Kind::Bounded, Work::Buffer, 2, 6),
+        make_row(Kind::Bounded, Work::Buffer, 4, 8),
+        make_row(Kind::Bounded, Work::Buffer, 8, 10),
+        make_row(Kind::Bounded, Work::Allocator, 4, 0),
+        make_row(Kind::Bounded, Work::Meeting, 3, 0),
+        make_row(Kind::Bounded, Work::Meeting, 4, 0),
     ]
 }
 
@@ -88,6 +100,7 @@ fn measure<R: Threads + Wait + Clock + AllocGlobal + Copy + Send + 'static>(
     measure: &mut Measure,
 ) -> io::Result<()> {
     let task = Task {
+        kind: row.kind,
         work: row.work,
         threads: row.threads.clamp(1, 64),
         turns: plan.turns(row),
@@ -110,7 +123,13 @@ fn print_row<R: Print>(
     measure: &Measure,
     unit: u64,
 ) -> io::Result<()> {
-    print!(rt; "{}/{} {}", row.work.name(), row.threads, measure.done())?;
+    print!(rt;
+        "{}{}/{} {}",
+        row.kind.prefix(),
+        row.work.name(),
+        row.threads,
+        measure.done()
+    )?;
     if matches!(plan, Plan::Full(_)) {
         print_nanos(rt, measure.median())?;
         print_nanos(rt, measure.lowest())?;

@@ -2,12 +2,16 @@
 
 ghost use Rattle.po_classic_units.specs.Sizes.{IsSize};
 
+use crate::bounded::race_on_bounded;
 use crate::measure::Round;
-use crate::work::{Task, Work};
-use crate::{callers, monitor};
-use po_actions::{Core, Order};
+use crate::monitor;
+use crate::recorded::race_on_recorded;
+use crate::work::{Kind, Task, Work};
+use po_actions::{Core, Order, Start};
 use po_classic_units::{Allocator, Buffer, Meeting, ScriptUnit, Trap};
-use std::alloc::{AllocError, Global};
+use po_machine::Machine;
+use po_unit::Unit;
+use std::alloc::AllocError;
 use std::io;
 use std::marker::Brand;
 use std::sync::Wait;
@@ -21,34 +25,49 @@ const ROOM: u16 = 4;
 /// How many pieces the allocator has.
 const PIECES: u16 = 3;
 
-/// A core over a trap.
-fn trap(alloc: Global) -> Result<Core<Trap>, AllocError> {
-    let unit = Trap::new();
-    let shape = unit.shape(alloc).map_err(|_| AllocError)?;
-    Core::new(alloc, unit, shape, Order::Textual, 1).map_err(|_| AllocError)
+/// The number of the first call, the place of the first event, and no greatest length of a queue.
+const START: Start = Start {
+    first_number: 1,
+    first_place: 0,
+    max_queue: None,
+};
+
+/// Has threads do the task on an object of this unit that records its history.
+fn race_recorded<
+    U: ScriptUnit + Unit<Value = u64> + Send + Sync + Drop + 'static,
+    R: Threads + Wait + Clock + AllocGlobal + Copy + Send + 'static,
+>(rt: R, unit: U, task: Task) -> io::Result<Round> {
+    let shape = unit.shape(rt.alloc()).map_err(|_| AllocError)?;
+    let core = Core::start(rt.alloc(), unit, shape, Order::Textual, START).map_err(|_| AllocError)?;
+    let parts = u64::from(task.threads) + 1;
+    let (calls, procedures) = (Blank::new(parts), Blank::new(parts));
+    race_on_recorded::<U, Brand, Brand, R>(rt, core, task, calls, procedures)
 }
 
-/// A core over a buffer.
-fn buffer(alloc: Global) -> Result<Core<Buffer>, AllocError> {
-    let unit = Buffer::new(alloc, ROOM)?;
-    let shape = unit.shape(alloc).map_err(|_| AllocError)?;
-    Core::new(alloc, unit, shape, Order::Textual, 1).map_err(|_| AllocError)
+/// Has threads do the task on an object of this unit with fixed memory.
+fn race_bounded<
+    U: ScriptUnit + Unit<Value = u64> + Send + Sync + Drop + 'static,
+    R: Threads + Wait + Clock + AllocGlobal + Copy + Send + 'static,
+>(rt: R, unit: U, task: Task) -> io::Result<Round> {
+    let shape = unit.shape(rt.alloc()).map_err(|_| AllocError)?;
+    let most = usize::from(task.threads);
+    let machine = Machine::start(rt.alloc(), unit, shape, Order::Textual, START, most).map_err(
+        |_| AllocError,
+    )?;
+    let parts = u64::from(task.threads) + 1;
+    let (calls, procedures, free) = (Blank::new(parts), Blank::new(parts), Blank::new(parts));
+    race_on_bounded::<U, Brand, Brand, Brand, R>(rt, machine, task, calls, procedures, free)
 }
 
-/// A core over an allocator.
-fn allocator(alloc: Global) -> Result<Core<Allocator>, AllocError> {
-    let unit = Allocator::new(PIECES);
-    let shape = unit.shape(alloc).map_err(|_| AllocError)?;
-    Core::new(alloc, unit, shape, Order::Textual, 1).map_err(|_| AllocError)
-}
-
-/// A core over a meeting of so many.
-fn meeting(alloc: Global, size: u16) -> Result<Core<Meeting>, AllocError>
-    requires { IsSize size }
-{
-    let unit = Meeting::new(size);
-    let shape = unit.shape(alloc).map_err(|_| AllocError)?;
-    Core::new(alloc, unit, shape, Order::Textual, 1).map_err(|_| AllocError)
+/// Has threads do the task on an object of this unit.
+fn race_on<
+    U: ScriptUnit + Unit<Value = u64> + Send + Sync + Drop + 'static,
+    R: Threads + Wait + Clock + AllocGlobal + Copy + Send + 'static,
+>(rt: R, unit: U, task: Task) -> io::Result<Round> {
+    match task.kind {
+        Kind::Recorded => race_recorded(rt, unit, task),
+        Kind::Bounded => race_bounded(rt, unit, task),
+    }
 }
 
 /// Has threads do the task once.
@@ -58,25 +77,11 @@ pub(crate) fn race<R: Threads + Wait + Clock + AllocGlobal + Copy + Send + 'stat
 ) -> io::Result<Round>
     requires { IsSize task.threads }
 {
-    let parts = u64::from(task.threads) + 1;
-    let (calls, procedures) = (Blank::new(parts), Blank::new(parts));
     match task.work {
         Work::Mutex | Work::Monitor => monitor::race_on_monitor(rt, task),
-        Work::Procedure | Work::Function | Work::Entry => {
-            let core = trap(rt.alloc())?;
-            callers::race_on_object::<Trap, Brand, Brand, R>(rt, core, task, calls, procedures)
-        }
-        Work::Buffer => {
-            let core = buffer(rt.alloc())?;
-            callers::race_on_object::<Buffer, Brand, Brand, R>(rt, core, task, calls, procedures)
-        }
-        Work::Allocator => {
-            let core = allocator(rt.alloc())?;
-            callers::race_on_object::<Allocator, Brand, Brand, R>(rt, core, task, calls, procedures)
-        }
-        Work::Meeting => {
-            let core = meeting(rt.alloc(), task.threads)?;
-            callers::race_on_object::<Meeting, Brand, Brand, R>(rt, core, task, calls, procedures)
-        }
+        Work::Procedure | Work::Function | Work::Entry => race_on(rt, Trap::new(), task),
+        Work::Buffer => race_on(rt, Buffer::new(rt.alloc(), ROOM)?, task),
+        Work::Allocator => race_on(rt, Allocator::new(PIECES), task),
+        Work::Meeting => race_on(rt, Meeting::new(task.threads), task),
     }
 }

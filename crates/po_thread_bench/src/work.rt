@@ -1,4 +1,23 @@
-//! What the threads of a round do over and over.
+//! What the threads of a round do over and over, and on what.
+
+/// What the object that threads call keeps.
+#[derive(Clone, Copy)]
+pub(crate) enum Kind {
+    /// Its history, and the receipts of its passes.
+    Recorded,
+    /// Nothing: its memory is fixed.
+    Bounded,
+}
+
+impl Kind {
+    /// What stands before the word for the work.
+    pub(crate) fn prefix(self) -> &'static str {
+        match self {
+            Kind::Recorded => "",
+            Kind::Bounded => "bounded-",
+        }
+    }
+}
 
 /// What threads do over and over.
 #[derive(Clone, Copy)]
@@ -65,6 +84,7 @@ pub(crate) struct Job {
 /// What all threads of a round do.
 #[derive(Clone, Copy)]
 pub(crate) struct Task {
+    pub(crate) kind: Kind,
     pub(crate) work: Work,
     pub(crate) threads: u16,
     /// How often each thread does the work.

@@ -25,7 +25,7 @@ use Rattle.std.below.std_heap.proofs.GlobalAllocator.TheSendSync as frees
 use Rattle.std.specs.contracts.alloc.Global
 use Rattle.std.specs.contracts.impls.GlobalAllocator.TheImpl as Heap
 use Rattle.std.specs.contracts.prelude.U64PartialEq.TheImpl as U64
-use Rattle.po_thread_bench.proofs.callers.start.Goals as goal
+use Rattle.po_thread_bench.proofs.recorded.start.Goals as goal
 
 pub spawn-requires-send-F : goal.spawn-requires-send-F
 spawn-requires-send-F g c κs within =
@@ -38,7 +38,7 @@ spawn-requires-send-F g c κs within =
     let t = arc.the_send Team.the_row Global.the_row Heap.ghosts team.the_send global.the_send team.the_sync global.the_sync frees.the_frees in
     let p = pass.the_send V C P g.C.Ledger g.P.Ledger (Send.plain_send _ _ _ _ _) in
     let s = c.type_bounds.send-R in
-    let ν : List ℕ = 112 ∷ 111 ∷ 95 ∷ 116 ∷ 104 ∷ 114 ∷ 101 ∷ 97 ∷ 100 ∷ 95 ∷ 98 ∷ 101 ∷ 110 ∷ 99 ∷ 104 ∷ 58 ∷ 58 ∷ 99 ∷ 97 ∷ 108 ∷ 108 ∷ 101 ∷ 114 ∷ 115 ∷ 58 ∷ 58 ∷ 102 ∷ 110 ∷ 58 ∷ 58 ∷ 115 ∷ 116 ∷ 97 ∷ 114 ∷ 116 ∷ 58 ∷ 58 ∷ 97 ∷ 108 ∷ 108 ∷ 43 ∷ 83 ∷ 101 ∷ 108 ∷ 102 ∷ [] in
+    let ν : List ℕ = 112 ∷ 111 ∷ 95 ∷ 116 ∷ 104 ∷ 114 ∷ 101 ∷ 97 ∷ 100 ∷ 95 ∷ 98 ∷ 101 ∷ 110 ∷ 99 ∷ 104 ∷ 58 ∷ 58 ∷ 114 ∷ 101 ∷ 99 ∷ 111 ∷ 114 ∷ 100 ∷ 101 ∷ 100 ∷ 58 ∷ 58 ∷ 102 ∷ 110 ∷ 58 ∷ 58 ∷ 115 ∷ 116 ∷ 97 ∷ 114 ∷ 116 ∷ 58 ∷ 58 ∷ 97 ∷ 108 ∷ 108 ∷ 43 ∷ 83 ∷ 101 ∷ 108 ∷ 102 ∷ [] in
     let Ts : List RattleType = Param.copied 3 g.row.R ∷ Arc.the_row row Global.the_row Heap.ghosts ∷ Arc.the_row Team.the_row Global.the_row Heap.ghosts ∷ Pass.the_row V C P g.C.Ledger g.P.Ledger ∷ Job.the_row ∷ [] in
     Send.param_send 1 _ (Send.arg_send _ Exit.no _
     (Send.recorded_send (Tuple.field_at ν Ts).row _ _ (Tuple.type_at ν Ts).to_one (Send.struct_send (Declared.shape (Tuple.type_at ν Ts))

@@ -1,5 +1,5 @@
 use Rattle.std.proofs.Common.{vec_len}
-use Rattle.po_thread_bench.proofs.callers.race_on_object.Given as goal
+use Rattle.po_thread_bench.proofs.bounded.race_on_bounded.Given as goal
 
 abbrev pub decreases-loop-thread : goal.decreases-loop-thread
 decreases-loop-thread g l = vec_len l.running
