@@ -1,5 +1,5 @@
 -- What the table keeps of each call, and the numbers that lead to keys, from step to step.
-use Rattle.std.proofs.Common.{◌≡◌, ℕ, zero, suc, ◌+◌, ◌-◌, ◌<◌, ◌≤◌, Bool, true, eqb, List, [], ◌∷◌, ◌++◌, length, map, Option, Some, None, option_map, refl, sym, ap, ap₂, ◌∙◌, subst, inl, inr, arith, nat_lt, Vec, vec_len, vec_capacity}
+use Rattle.std.proofs.Common.{◌≡◌, ℕ, zero, suc, ◌+◌, ◌-◌, ◌<◌, ◌≤◌, Bool, true, eqb, List, [], ◌∷◌, ◌++◌, length, map, Option, Some, None, option_map, refl, sym, ap, ap₂, ◌∙◌, subst, inl, inr, arith, nat_lt}
 use Rattle.std.specs.Prelude.{if◌then◌else◌}
 use Rattle.std.specs.List.{find, slice_get, slice_index_or, All}
 use Rattle.std.proofs.lemmas.Bool.{cases_Bool, cases_eq, eq-eqb, ne_eqb, le-ltb}
@@ -12,11 +12,7 @@ use Rattle.po_calls.specs.declared.kept.Kept.{Kept}
 use Rattle.po_accepted.specs.declared.ended.Ended.{Ended}
 use Rattle.po_accepted.specs.Ending.{has_ended, ended_as}
 use Rattle.po_accepted.specs.Tickets.{SetsTicket, number_at}
-use Rattle.po_queues.specs.QueuedKeys.{occurs}
-use Rattle.po_queues.specs.Arrived.{EntryQueuesView, AreInOrder, arrived_keys, without_arrived}
-use Rattle.po_accepted.specs.Calls.{IsQueued, IsKeptWell, KeepsCalls, HasCallRoom, key_of, call_at, hands}
-use Rattle.po_accepted.proofs.Held.{length_removed}
-use Rattle.po_accepted.proofs.HandSteps.{widened, removed}
+use Rattle.po_accepted.specs.Calls.{IsKeptWell, key_of, call_at}
 
 -- An index leads to the same element where the list gets longer.
 slice_more : (xs : List ℕ) (i j y : ℕ) → slice_get xs i ≡ Some j → slice_get (xs ++ y ∷ []) i ≡ Some j
@@ -167,46 +163,4 @@ module _ {V : Type 0} where
   ticket_set old new k now u = record {
     changed = number_kept new k ∙ ap (option_map (λ x. x.call.number)) u.changed;
     others = λ j ne. number_kept new j ∙ ap (option_map (λ x. x.call.number)) (u.others j ne) ∙ sym (number_kept old j);
-  }
-
-module _ {V : Type 0} where
-  -- With more room all that calls keep stays.
-  pub with_more_room : {A B : Type 0} (table : CallTable V) (queues : EntryQueuesView) (keys more_keys : Vec ℕ A) (ended more_ended : Vec (Ended V) B)
-      (first : ℕ) (hand : Option ℕ) (had has : Bool) (capacity reserved : ℕ) → queues.reserved ≤ reserved → more_keys.items ≡ keys.items
-      → vec_len more_keys ≡ vec_len keys → more_ended.items ≡ ended.items → vec_len more_ended ≡ vec_len ended
-      → vec_len more_keys + (if has then 1 else 0) ≤ vec_capacity more_ended
-      → (has ≡ true → HasCallRoom (record table.calls { capacity = capacity }) reserved more_keys)
-      → KeepsCalls table queues keys ended first hand had
-      → KeepsCalls (record table { calls = record table.calls { capacity = capacity } }) (record queues { reserved = reserved }) more_keys more_ended first hand has
-  with_more_room table queues keys more_keys ended more_ended first hand had has capacity reserved le items len ended_items ended_len for_ended room i =
-      let call = call_at table.calls in
-      let next : first + vec_len keys ≡ first + vec_len more_keys = omega (arith, len) in
-      record {
-        queued = subst (λ l. IsQueued call (key_of first l) (record queues { reserved = reserved }) hand) (sym items) (widened call (key_of first keys.items) (key_of first keys.items) queues reserved hand le (λ n k h. h) i.queued);
-        kept = record {
-          indexed = subst (λ l. (key : ℕ) (k : Kept V) → get table.calls key ≡ Some k → key_of first l k.call.number ≡ Some key) (sym items) i.kept.indexed;
-          ends = subst (λ l. (key : ℕ) (k : Kept V) → get table.calls key ≡ Some k → k.end ≡ option_map (λ x. x.end) (find (has_ended k.call.number) l)) (sym ended_items) i.kept.ends;
-        };
-        last = subst (IsAbove table.last) next i.last;
-        numbers = omega (arith, i.numbers, len);
-        ended_before = subst (All (λ x. x.number < first + vec_len more_keys)) (sym ended_items) (subst (λ n. All (λ x. x.number < n) ended.items) next i.ended_before);
-        each = omega (arith, i.each, len, ended_len);
-        for_ended = for_ended;
-        room = room;
-      }
-
-  -- A queued call is taken in hand.
-  pub taken_in_hand : {A B : Type 0} (table : CallTable V) (queues : EntryQueuesView) (keys : Vec ℕ A) (ended : Vec (Ended V) B)
-      (first : ℕ) (hand : Option ℕ) (has_room : Bool) (k : ℕ) → AreInOrder queues → occurs k (arrived_keys queues.items) ≡ true → hand ≡ None
-      → KeepsCalls table queues keys ended first hand has_room
-      → KeepsCalls table (record queues { items = without_arrived k queues.items }) keys ended first (Some k) has_room
-  taken_in_hand table queues keys ended first hand has_room k order has none i = record {
-    queued = removed (call_at table.calls) (key_of first keys.items) queues k order has (subst (IsQueued (call_at table.calls) (key_of first keys.items) queues) none i.queued);
-    kept = i.kept;
-    last = i.last;
-    numbers = i.numbers;
-    ended_before = i.ended_before;
-    each = omega (arith, i.each, ap hands none, length_removed k queues.items order.distinct has);
-    for_ended = i.for_ended;
-    room = i.room;
   }

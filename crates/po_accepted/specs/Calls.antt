@@ -1,7 +1,7 @@
 -- The calls of an object as they are kept: in a table, on queues of its keys, and the ended ones.
-use Rattle.std.specs.Prelude.{ℕ, ◌≡◌, ◌<◌, ◌≤◌, ◌+◌, ◌-◌, nat_lt, Bool, true, false, List, [], ◌∷◌, length, Option, Some, None, option_map, vec_len, vec_capacity, Vec, if◌then◌else◌, find, count_by}
+use Rattle.std.specs.Prelude.{ℕ, ◌≡◌, ◌<◌, ◌≤◌, ◌+◌, ◌-◌, ◌++◌, nat_lt, Bool, true, false, List, [], ◌∷◌, length, Option, Some, None, option_map, vec_len, vec_capacity, Vec, if◌then◌else◌, find, count_by}
 use Rattle.std.specs.List.{slice_get, filter_map, All}
-use Rattle.slab.specs.Slab.{Slab, get, HasRoomFor}
+use Rattle.slab.specs.Slab.{Slab, get, slab_len}
 use Rattle.po_queues.specs.QueuedKeys.{occurs}
 use Rattle.po_queues.specs.Arrived.{Arrived, EntryQueuesView, arrived_keys}
 use Rattle.po_calls.specs.declared.call.Call.{Call}
@@ -13,6 +13,7 @@ use Rattle.po_accepted.specs.declared.ended.Ended.{Ended}
 use Rattle.po_accepted.specs.WaitingCalls.{has_number}
 use Rattle.po_accepted.specs.Finding.{IsFound}
 use Rattle.po_accepted.specs.Ending.{has_ended}
+use Rattle.po_accepted.specs.Tickets.{number_at}
 
 -- What contracts see of the calls.
 pub record CallsView (V : Type 0) : Type 0 where
@@ -22,15 +23,22 @@ pub record CallsView (V : Type 0) : Type 0 where
   pub places : List ℕ
   -- the call that is being served: it isn't queued, and hasn't ended
   pub hand : Option (Call V)
-  -- the calls that have ended, in that order
+  -- the calls that have ended, in that order: known to proofs alone
   pub ended : List (Ended V)
+  -- how many of them had ended before the command began
+  pub ended_before : ℕ
   -- by key the number of the uncollected call whose ticket has that key
   pub tickets : List (Option ℕ)
-  pub total : ℕ
+  -- the key of the ticket that each call got, by its number less the first one: known to proofs alone
+  pub keys : List ℕ
+  pub first : ℕ
   pub next : ℕ
+  pub total : ℕ
   pub clock : ℕ
-  -- whether there is room for one more call
-  pub has_room : Bool
+  -- how many calls may be uncollected with the memory that there is
+  pub most : ℕ
+  -- whether that stays so
+  pub is_fixed : Bool
 
 -- the time of a deadline, if it has one (9.7.2)
 abbrev pub time_of : Deadline → Option ℕ
@@ -103,22 +111,27 @@ module _ {V : Type 0} where
     pub indexed : (key : ℕ) (k : Kept V) → get calls key ≡ Some k → index k.call.number ≡ Some key
     pub ends : (key : ℕ) (k : Kept V) → get calls key ≡ Some k → k.end ≡ option_map (λ x. x.end) (find (has_ended k.call.number) ended)
 
-  -- There is room for one more call, in the table, on the queues, and in the index.
-  pub record HasCallRoom {A : Type 0} (calls : Slab (Kept V)) (reserved : ℕ) (keys : Vec ℕ A) : Type 0 where
-    pub table : HasRoomFor calls 1
-    pub key : calls.vacant_key < reserved
-    pub index : vec_len keys + 1 ≤ vec_capacity keys
+  -- The keys of calls for which there is room can be queued: where the memory is fixed, all that the table may give, and
+  -- else the one that it gives next, for one more call at most.
+  abbrev pub AreReserved : Bool → Slab (Kept V) → ℕ → ℕ → Type 0
+  AreReserved true calls reserved most = calls.capacity ≤ reserved
+  AreReserved false calls reserved most = (most ≤ slab_len calls + 1) × (slab_len calls < most → calls.vacant_key < reserved)
 
-  -- What calls keep.
-  pub record KeepsCalls {A B : Type 0} (table : CallTable V) (queues : EntryQueuesView) (keys : Vec ℕ A) (ended : Vec (Ended V) B) (first : ℕ) (hand : Option ℕ) (has_room : Bool) : Type 0 where
-    pub queued : IsQueued (call_at table.calls) (key_of first keys.items) queues hand
-    pub kept : IsKeptWell table.calls (key_of first keys.items) ended.items
-    pub last : IsAbove table.last (first + vec_len keys)
-    pub numbers : first + vec_len keys < 18_446_744_073_709_551_616
-    pub ended_before : All (λ x. x.number < first + vec_len keys) ended.items
-    pub each : vec_len ended + length queues.items + hands hand ≡ vec_len keys
-    pub for_ended : vec_len keys + (if has_room then 1 else 0) ≤ vec_capacity ended
-    pub room : has_room ≡ true → HasCallRoom table.calls queues.reserved keys
+  -- What calls keep. The keys by number and all that have ended are known to proofs alone.
+  pub record KeepsCalls {B : Type 0} (table : CallTable V) (queues : EntryQueuesView) (keys : List ℕ) (ended before : List (Ended V)) (now : Vec (Ended V) B) (first next : ℕ) (hand : Option ℕ) (most : ℕ) (is_fixed : Bool) : Type 0 where
+    pub queued : IsQueued (call_at table.calls) (key_of first keys) queues hand
+    pub kept : IsKeptWell table.calls (key_of first keys) ended
+    pub last : IsAbove table.last next
+    pub numbers : next ≡ first + length keys
+    pub ended_before : All (λ x. x.number < next) ended
+    pub each : length ended + length queues.items + hands hand ≡ length keys
+    pub shown : ended ≡ before ++ now.items
+    -- there is room for each call that may be uncollected: in the table, on the queues, and among those that have just ended
+    pub few : slab_len table.calls ≤ most
+    pub room : most ≤ table.calls.capacity
+    pub reserved : AreReserved is_fixed table.calls queues.reserved most
+    pub for_ended : vec_len now + length queues.items + hands hand ≤ vec_capacity now
+    pub for_all : most ≤ vec_capacity now
 
 -- What all calls keep: no number is twice among the waiting ones, each is below the next one, and each waiting call has
 -- its place.
@@ -127,3 +140,9 @@ pub record AreCallsSound {V : Type 0} (calls : CallsView V) : Type 0 where
   pub below_next : All (λ x. x.number < calls.next) calls.waiting
   pub placed : length calls.places ≡ length calls.waiting
   pub few : length calls.waiting < 18_446_744_073_709_551_616
+
+-- The number leads to the key of its ticket, which is live.
+pub record HasTicket (first : ℕ) (keys : List ℕ) (tickets : List (Option ℕ)) (n : ℕ) : Type 0 where
+  pub key : ℕ
+  pub indexed : key_of first keys n ≡ Some key
+  pub ticket : number_at tickets key ≡ Some n

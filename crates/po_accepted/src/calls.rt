@@ -1,46 +1,57 @@
-//! The calls of an object: those that wait, on their queues, and those that have ended.
+//! The calls of an object: those that wait, on their queues, and those that have just ended.
 
-ghost use Rattle.std.specs.Prelude.{◌≡◌, ◌<◌, ◌≤◌, ◌+◌, ◌∷◌, ◌++◌, [], ℕ, true, false, max, map, length, count_by, slice_index, Some, None, IfOk, OnOk, OnErr, IsOk, OnSome, IfSome, IfNone, find, option_map, All, drop};
+ghost use Rattle.std.specs.Prelude.{◌≡◌, ◌<◌, ◌≤◌, ◌+◌, ◌∷◌, ◌++◌, [], ℕ, max, map, length, count_by, nat_lt, Some, None, true, false, IfOk, IsOk, OnOk, OnErr, OnSome, IfSome, IfNone, find, option_map, All, drop};
+ghost use Rattle.std.specs.List.{slice_get};
 ghost use Rattle.po_queues.specs.QueuedKeys.{QueuesView};
 ghost use Rattle.po_calls.specs.declared.end.End.TheVariants.{ProgramError};
 ghost use Rattle.po_accepted.specs.WaitingCalls.{is_on, is_of, has_number, is_due, counts_of, mark};
 ghost use Rattle.po_accepted.specs.Finding.{without_first};
 ghost use Rattle.po_accepted.specs.Ending.{ended_as};
-ghost use Rattle.po_accepted.specs.Tickets.{number_at, SetsTicket, place_among, end_at};
-ghost use Rattle.std.specs.List.{slice_get};
-ghost use Rattle.po_queues.specs.Arrived.{AreInOrder};
-ghost use Rattle.po_accepted.specs.Calls.{CallsView, AreCallsSound, IsKeyOf, call_at, expires_at as time_of_expiration, places_without, key_of};
+ghost use Rattle.po_accepted.specs.Tickets.{number_at, SetsTicket, place_among, waiting_among, end_at, is_live, uncollected};
+ghost use Rattle.po_accepted.specs.Calls.{AreCallsSound, HasTicket, expires_at as time_of_expiration, places_without};
+ghost use Rattle.po_calls.specs.declared.call.Call.{Call};
 
 use crate::arrival::Arrival;
 use crate::ended::Ended;
 use po_calls::{Call, Deadline, End, Place, Table, Ticket};
 use po_queues::{EntryQueues, Queues};
+use po_trace::Trace;
 use std::alloc::{AllocError, Global};
 use std::marker::Model;
 
-/// The calls of an object that aren't collected, in a table; those that wait, on the queues of its keys; and how each call
-/// has ended that has.
+/// The calls of an object that aren't collected, in a table; those that wait, on the queues of its keys; and how the
+/// calls have ended that ended in the last command.
 ///
-/// A call that is being served is in hand: it waits, and isn't queued.
+/// A call that is being served is in hand: it waits, and isn't queued. How many calls may be uncollected at once is either
+/// fixed when the calls are made, and then nothing else takes memory; or `reserve` makes room for each further one.
 #[derive(Drop)]
 pub struct Calls<V: Copy> {
     table: Table<V>,
     queues: EntryQueues,
-    /// The key that each call got, by its number less the first.
-    keys: Vec<usize>,
-    /// The calls that have ended, in that order.
-    ended: Vec<Ended<V>>,
+    /// The key that each call got, by its number less the first: known to proofs alone.
+    keys: Trace<usize>,
+    /// The calls that have ended, in that order: known to proofs alone.
+    ended: Trace<Ended<V>>,
+    /// Those of them that had ended before the command began: known to proofs alone.
+    before: Trace<Ended<V>>,
+    /// The others.
+    ended_now: Vec<Ended<V>>,
     /// The number of the first call.
     first: u64,
+    /// The number of the next call.
+    next: u64,
     /// The key of the call in hand.
     hand: Option<usize>,
-    has_room: bool,
+    /// How many calls may be uncollected at once.
+    most: usize,
+    /// Whether that stays so.
+    is_fixed: bool,
 }
 
 impl<V: Copy> Model for Calls<V> {
-    ghost use Rattle.std.specs.Prelude.{◌+◌, map, vec_len};
-    ghost use Rattle.po_accepted.specs.Calls.{CallsView, KeepsCalls, call_at, waiting_in, of_key};
+    ghost use Rattle.std.specs.Prelude.{map, length};
     ghost use Rattle.po_calls.specs.Calls.{numbers_of};
+    ghost use Rattle.po_accepted.specs.Calls.{CallsView, KeepsCalls, call_at, waiting_in, of_key};
 
     ghost Value = { CallsView V };
 
@@ -49,14 +60,18 @@ impl<V: Copy> Model for Calls<V> {
       places = map (λ i. i.stamp) c.queues.items;
       hand = of_key (call_at c.table.calls) c.hand;
       ended = c.ended.items;
+      ended_before = length c.before.items;
       tickets = numbers_of c.table;
+      keys = c.keys.items;
+      first = c.first;
+      next = c.next;
       total = c.queues.total;
-      next = c.first + vec_len c.keys;
       clock = c.queues.clock;
-      has_room = c.has_room;
+      most = c.most;
+      is_fixed = c.is_fixed;
     } };
 
-    ghost invariant = { λ c. KeepsCalls c.table c.queues c.keys c.ended c.first c.hand c.has_room };
+    ghost invariant = { λ c. KeepsCalls c.table c.queues c.keys.items c.ended.items c.before.items c.ended_now c.first c.next c.hand c.most c.is_fixed };
 }
 
 /// When a call expires, if it does: one that a requeue without abort queued doesn't (9.5.4, 9.7.2).
@@ -69,68 +84,140 @@ fn expires_at<V: Copy>(call: &Call<V>) -> Option<u64>
     }
 }
 
+/// Reserves all keys below this one.
+fn reserve_below(queues: &mut EntryQueues, keys: usize) -> Result<(), AllocError>
+    ensures ok { OnOk result (keys ≤ queues.new.reserved) }
+    ensures only_room { queues.new ≡ record queues.old { reserved = queues.new.reserved } }
+{
+    if keys > 0 {
+        queues.reserve(keys - 1)?;
+    }
+    Ok(())
+}
+
 impl<V: Copy> Calls<V> {
-    /// No calls, on queues of so many entries, at clock 0; the first call will have this number.
+    /// No calls, on queues of so many entries, at clock 0; the first call will have this number. There is room for none.
     pub fn new(alloc: Global, total: u16, first: u64) -> Result<Calls<V>, AllocError>
         ensures { IfOk result (λ c. c ≡ record {
           waiting = [];
           places = [];
           hand = None;
           ended = [];
+          ended_before = 0;
           tickets = [];
-          total = total;
+          keys = [];
+          first = first;
           next = first;
+          total = total;
           clock = 0;
-          has_room = false;
+          most = 0;
+          is_fixed = false;
         }) }
     {
         Ok(Calls {
             table: Table::new(alloc),
             queues: EntryQueues::new(alloc, total)?,
-            keys: Vec::new(alloc),
-            ended: Vec::new(alloc),
+            keys: Trace::new(),
+            ended: Trace::new(),
+            before: Trace::new(),
+            ended_now: Vec::new(alloc),
             first,
+            next: first,
             hand: None,
-            has_room: false,
+            most: 0,
+            is_fixed: false,
         })
     }
 
-    /// Makes room for one more call.
-    pub fn reserve(&mut self) -> Result<(), AllocError>
-        ensures same { self.new ≡ record self.old { has_room = self.new.has_room } }
-        ensures ok { OnOk result (self.new.has_room ≡ true) }
-        ensures err { OnErr result (self.new ≡ self.old) }
-        ensures had_room { self.old.has_room ≡ true → IsOk result × (self.new ≡ self.old) }
+    /// The same with all memory for `most` uncollected calls at once.
+    pub fn with_capacity(
+        alloc: Global,
+        total: u16,
+        first: u64,
+        most: usize,
+    ) -> Result<Calls<V>, AllocError>
+        ensures { IfOk result (λ c. c ≡ record {
+          waiting = [];
+          places = [];
+          hand = None;
+          ended = [];
+          ended_before = 0;
+          tickets = [];
+          keys = [];
+          first = first;
+          next = first;
+          total = total;
+          clock = 0;
+          most = most;
+          is_fixed = true;
+        }) }
     {
+        let table = Table::with_capacity(alloc, most)?;
+        let mut queues = EntryQueues::new(alloc, total)?;
+        reserve_below(&mut queues, table.capacity())?;
+        Ok(Calls {
+            table,
+            queues,
+            keys: Trace::new(),
+            ended: Trace::new(),
+            before: Trace::new(),
+            ended_now: Vec::with_capacity(alloc, most)?,
+            first,
+            next: first,
+            hand: None,
+            most,
+            is_fixed: true,
+        })
+    }
+
+    /// Makes room for one more call, where there is none. A call that is collected gives its room up.
+    pub fn reserve(&mut self) -> Result<(), AllocError>
+        requires { self.old.is_fixed ≡ false }
+        ensures same { self.new ≡ record self.old { most = self.new.most } }
+        ensures ok { OnOk result (uncollected self.new.tickets < self.new.most) }
+        ensures err { OnErr result (self.new ≡ self.old) }
+        ensures had_room { uncollected self.old.tickets < self.old.most → IsOk result × (self.new ≡ self.old) }
+    {
+        if self.has_room() {
+            return Ok(());
+        }
         self.table.reserve_one()?;
-        let key = self.table.next_key();
-        self.queues.reserve(key)?;
-        self.keys.reserve(1)?;
-        let more = self.keys.len() + 1 - self.ended.len();
-        self.ended.reserve(more)?;
-        self.has_room = true;
+        self.queues.reserve(self.table.next_key())?;
+        let most = self.table.len().checked_add(1).ok_or(AllocError)?;
+        let more = most.saturating_sub(self.ended_now.len());
+        self.ended_now.reserve(more)?;
+        self.most = most;
         Ok(())
     }
 
-    /// Whether there is room for one more call: `reserve` makes it, `add` takes it, and a `collect` that answers an end
-    /// may give it up.
+    /// Whether one more call may be uncollected.
     pub fn has_room(&self) -> bool
-        ensures { result ≡ self.now.has_room }
+        ensures { result ≡ nat_lt (uncollected self.now.tickets) self.now.most }
     {
-        self.has_room
+        self.table.len() < self.most
     }
 
-    /// A new call is taken in hand.
+    /// A command begins: no call has ended since.
+    pub fn begin(&mut self)
+        ensures { self.new ≡ record self.old { ended_before = length self.old.ended } }
+    {
+        self.before = self.ended.copy();
+        self.ended_now.clear();
+    }
+
+    /// A new call is taken in hand. There is memory for it where those that the command has ended so far, and those that
+    /// wait, are fewer than may be uncollected: so it is when a command begins, as `recall_invariant` says.
     pub fn add(&mut self, call: Call<V>) -> Ticket
         requires hand { self.old.hand ≡ None }
-        requires room { self.old.has_room ≡ true }
+        requires room { uncollected self.old.tickets < self.old.most }
+        requires memory { length (drop self.old.ended_before self.old.ended) + length self.old.waiting < self.old.most }
         requires number { call.number ≡ self.old.next }
         requires few { self.old.next < u64.MAX }
         ensures after { self.new ≡ record self.old {
           hand = Some call;
           next = self.old.next + 1;
           tickets = self.new.tickets;
-          has_room = false;
+          keys = self.old.keys ++ result.key ∷ [];
         } }
         ensures number { result.number ≡ call.number }
         // No uncollected call had the key of the ticket.
@@ -138,9 +225,9 @@ impl<V: Copy> Calls<V> {
         ensures ticket { SetsTicket self.old.tickets self.new.tickets result.key (Some call.number) }
     {
         let ticket = self.table.put(call);
-        self.keys.push_reserved(ticket.key);
+        self.keys = self.keys.then(&ticket.key);
+        self.next += 1;
         self.hand = Some(ticket.key);
-        self.has_room = false;
         ticket
     }
 
@@ -197,16 +284,18 @@ impl<V: Copy> Calls<V> {
         };
         let number = call.number;
         self.table.finish(Ticket { key, number }, end);
-        self.ended.push_reserved(Ended {
+        let over = Ended {
             number,
             owner: call.owner,
             end,
-        });
+        };
+        self.ended = self.ended.then(&over);
+        self.ended_now.push_reserved(over);
         self.hand = None;
     }
 
-    /// The call in hand: the one that `add`, `take_on` or `take_number` took, until `queue` or `end` lets it go.
-    pub fn in_hand(&self) -> Option<Call<V>>
+    /// The call in hand.
+    fn in_hand(&self) -> Option<Call<V>>
         ensures { result ≡ self.now.hand }
     {
         self.table.at(self.hand?).copied()
@@ -229,20 +318,22 @@ impl<V: Copy> Calls<V> {
         self.in_hand()
     }
 
-    /// The waiting call of the number is taken in hand.
-    pub fn take_number(&mut self, n: u64) -> Option<Call<V>>
+    /// The waiting call of the ticket is taken in hand.
+    pub fn take_ticket(&mut self, ticket: Ticket) -> Option<Call<V>>
         requires hand { self.old.hand ≡ None }
-        ensures found { result ≡ find (has_number n) self.old.waiting }
+        requires live { is_live self.old.tickets ticket ≡ true }
+        ensures found { result ≡ find (has_number ticket.number) self.old.waiting }
         ensures taken { self.new ≡ record self.old {
-          waiting = without_first (has_number n) self.old.waiting;
-          places = places_without (has_number n) self.old.waiting self.old.places;
+          waiting = without_first (has_number ticket.number) self.old.waiting;
+          places = places_without (has_number ticket.number) self.old.waiting self.old.places;
           hand = result;
         } }
     {
-        let key = Calls::queued_key(&self.table, &self.queues, &self.keys, self.first, n)?;
-        self.queues.remove(key);
-        self.hand = Some(key);
-        self.in_hand()
+        let call = *self.table.get(ticket)?;
+        self.queues.recall_invariant();
+        self.queues.remove(ticket.key);
+        self.hand = Some(ticket.key);
+        Some(call)
     }
 
     /// The call that arrived first is taken in hand.
@@ -277,61 +368,41 @@ impl<V: Copy> Calls<V> {
         }
     }
 
-    /// Marks the waiting call of the number as aborted.
-    pub fn mark(&mut self, n: u64)
-        requires { self.old.hand ≡ None }
-        ensures { self.new ≡ record self.old { waiting = map (mark n) self.old.waiting } }
+    /// Marks the waiting call of the ticket as aborted.
+    pub fn mark(&mut self, ticket: Ticket)
+        requires hand { self.old.hand ≡ None }
+        requires live { is_live self.old.tickets ticket ≡ true }
+        ensures { self.new ≡ record self.old { waiting = map (mark ticket.number) self.old.waiting } }
     {
-        let Some(key) = Calls::queued_key(&self.table, &self.queues, &self.keys, self.first, n)
-        else {
+        let Some(found) = self.table.get(ticket).copied() else {
             return;
         };
-        self.table.mark(Ticket { key, number: n });
+        let number = found.number;
+        self.table.mark(Ticket {
+            key: ticket.key,
+            number,
+        });
     }
 
-    /// The key of the queued call of the number, if there is one.
-    fn queued_key(
-        table: &Table<V>,
-        queues: &EntryQueues,
-        keys: &Vec<usize>,
-        first: u64,
-        n: u64,
-    ) -> Option<usize>
-        ensures found { IfSome result
-            (IsKeyOf (call_at table.now.calls) (key_of first keys.now.items) queues.now.items n) }
-        ensures none { IfNone result ((k : ℕ)
-            → IsKeyOf (call_at table.now.calls) (key_of first keys.now.items) queues.now.items n k → ⊥) }
-        ensures sound { AreInOrder queues.now }
+    /// The waiting call of the ticket, if there is one.
+    pub fn waiting_call(&self, ticket: Ticket) -> Option<Call<V>>
+        requires { self.now.hand ≡ None }
+        ensures { result ≡ waiting_among self.now.waiting self.now.tickets ticket }
     {
-        queues.recall_invariant();
-        if n < first {
-            return None;
-        }
-        let key = *keys.get((n - first) as usize)?;
-        if !queues.contains(key) {
-            return None;
-        }
-        match table.at(key) {
-            Some(call) if call.number == n => Some(key),
-            _ => None,
-        }
-    }
-
-    /// The waiting call of the number, if there is one.
-    pub fn waiting_call(&self, n: u64) -> Option<Call<V>>
-        ensures { result ≡ find (has_number n) self.now.waiting }
-    {
-        let key = Calls::queued_key(&self.table, &self.queues, &self.keys, self.first, n)?;
-        self.table.at(key).copied()
+        self.queues.recall_invariant();
+        self.table.get(ticket).copied()
     }
 
     /// The first call that is due, in order of arrival (9.7.2).
-    pub fn first_due(&mut self) -> Option<u64>
-        ensures found { result ≡ option_map (λ x. x.number) (find (is_due self.old.clock) self.old.waiting) }
+    pub fn first_due(&mut self) -> Option<Ticket>
+        ensures found { option_map (λ t. t.number) result ≡
+            option_map (λ x. x.number) (find (is_due self.old.clock) self.old.waiting) }
+        ensures live { IfSome result (λ t. is_live self.old.tickets t ≡ true) }
         ensures same { self.new ≡ self.old }
     {
         let key = self.queues.first_due()?;
-        Some(self.table.at(key)?.number)
+        let number = self.table.at(key)?.number;
+        Some(Ticket { key, number })
     }
 
     /// The clock rises to this time, if it is lower.
@@ -354,11 +425,12 @@ impl<V: Copy> Calls<V> {
         requires { self.old.hand ≡ None }
         ensures end { result ≡ end_at (place_among self.old.waiting self.old.ended self.old.tickets ticket) }
         ensures taken { OnSome result (SetsTicket self.old.tickets self.new.tickets ticket.key None) }
-        ensures rest { self.new ≡ record self.old { tickets = self.new.tickets; has_room = self.new.has_room } }
+        ensures rest { self.new ≡ record self.old { tickets = self.new.tickets; most = self.new.most } }
+        ensures room { self.old.is_fixed ≡ true → self.new.most ≡ self.old.most }
         ensures left { IfNone result (self.new ≡ self.old) }
     {
         let end = self.table.collect(ticket)?;
-        self.has_room = false;
+        self.most = if self.is_fixed { self.most } else { self.table.len() };
         Some(end)
     }
 
@@ -385,7 +457,7 @@ impl<V: Copy> Calls<V> {
         ensures places { IfOk result (λ list. map (λ a. a.place) list.items ≡ self.now.places) }
     {
         self.queues.recall_invariant();
-        let mut list = Vec::new(*self.ended.allocator());
+        let mut list = Vec::new(*self.ended_now.allocator());
         let mut next = self.queues.oldest();
         while let Some(key) = next {
             if let Some(call) = self.table.at(key) {
@@ -422,18 +494,25 @@ impl<V: Copy> Calls<V> {
         self.queues.count(entry)
     }
 
-    /// The calls that have ended, in that order.
-    pub fn ended(&self) -> &[Ended<V>]
-        ensures { result.now ≡ self.now.ended }
+    /// The calls that have ended, in that order: known to proofs alone.
+    pub fn ended(&self) -> &Trace<Ended<V>>
+        ensures { result.now.items ≡ self.now.ended }
     {
         &self.ended
+    }
+
+    /// The calls that have ended since the command began, in that order.
+    pub fn ended_now(&self) -> &[Ended<V>]
+        ensures { result.now ≡ drop self.now.ended_before self.now.ended }
+    {
+        &self.ended_now
     }
 
     /// The number that the next call gets.
     pub fn next(&self) -> u64
         ensures { result ≡ self.now.next }
     {
-        self.first + self.keys.len() as u64
+        self.next
     }
 
     /// The clock.
@@ -443,9 +522,15 @@ impl<V: Copy> Calls<V> {
         self.queues.clock()
     }
 
-    /// What all calls keep.
+    /// What all calls keep: those that wait aren't collected, and not more are uncollected than may be; each that was
+    /// accepted waits, is in hand or has ended; and the number of one that waits leads to its ticket.
     pub fn recall_invariant(&self)
-        ensures { AreCallsSound self.now }
+        ensures sound { AreCallsSound self.now }
+        ensures waiting { length self.now.waiting ≤ uncollected self.now.tickets }
+        ensures most { uncollected self.now.tickets ≤ self.now.most }
+        ensures each { self.now.hand ≡ None → length self.now.ended + length self.now.waiting ≡ length self.now.keys }
+        ensures tickets { (n : ℕ) (x : Call V) → find (has_number n) self.now.waiting ≡ Some x
+            → HasTicket self.now.first self.now.keys self.now.tickets n }
     {
         self.queues.recall_invariant();
     }

@@ -133,11 +133,12 @@ module _ {S V : Type 0} (m : Meaning S V) (making : Making S) where
       }
 
   -- An event may be noted where these hold: there is room for the outcome of each call that it ends, which hasn't ended before.
-  pub record MayNote (r : ObjectState S V) (h : HistoryView V) (k : ℕ) : Type 0 where
-    pub before : k ≤ length r.ended
+  pub record MayNote (p r : ObjectState S V) (h : HistoryView V) : Type 0 where
+    pub before : length p.ended ≤ length r.ended
+    pub shown : p.ended ≡ take (length p.ended) r.ended
     pub once : (n : ℕ) → count_by (has_ended n) r.ended ≤ 1
     pub calls : All (λ x. IsCallOf h x.number) r.ended
-    pub outcomes : AreOutcomes h (take k r.ended)
+    pub outcomes : AreOutcomes h p.ended
 
   in_range : (first next n k : ℕ) → 1 ≤ k → k ≡ (if nat_le first n && nat_lt n next then 1 else 0) → (first ≤ n) × (n < next)
   in_range first next n k some is = (grind (arith, nat_tests), grind (arith, nat_tests))
@@ -149,7 +150,7 @@ module _ {S V : Type 0} (m : Meaning S V) (making : Making S) where
       let some : 1 ≤ count_by (has_ended x.number) r.ended = counted_at (has_ended x.number) r.ended i d lt (eq_self x.number) in
       in_range making.first_number r.next x.number (count_by (has_number x.number) r.waiting + count_by (has_ended x.number) r.ended) (omega (arith, some)) (placed x.number)
 
-  pub may_note : IsLawful m → (b : Base S V) (p : StateView S V) (r : ObjectState S V) (h k : HistoryView V) (last : Option ℕ) (ran before : ℕ) (e : Event V) → IsKept m making b p h last ran before → Needs m p.state e → NamesPublic making.shape e → r ≡ step m making.max_queue p.state e → k.first_number ≡ h.first_number → AreOutcomes k p.state.ended → making.first_number + length k.outcomes ≡ r.next → MayNote r k (length p.state.ended)
+  pub may_note : IsLawful m → (b : Base S V) (p : StateView S V) (r : ObjectState S V) (h k : HistoryView V) (last : Option ℕ) (ran before : ℕ) (e : Event V) → IsKept m making b p h last ran before → Needs m p.state e → NamesPublic making.shape e → r ≡ step m making.max_queue p.state e → k.first_number ≡ h.first_number → AreOutcomes k p.state.ended → making.first_number + length k.outcomes ≡ r.next → MayNote p.state r k
   may_note law b p r h k last ran before e kept need named is first ends numbered =
       let limit = making.max_queue in
       let w = well m law making b r (h.events ++ e ∷ []) (history_goes_on b p.state r h.events e kept.history need named is) in
@@ -158,7 +159,8 @@ module _ {S V : Type 0} (m : Meaning S V) (making : Making S) where
         before = ended_on m limit p.state r e (length p.state.ended) is (omega arith);
         once = λ n. omega (arith, bit_le _ _ (w.placed n));
         calls = λ i d lt. let both = range i d lt in (omega (arith, both.0, from), omega (arith, both.0, both.1, from, numbered));
-        outcomes = subst (AreOutcomes k) (sym (take-length p.state.ended) ∙ ends_stay m limit p.state r e (length p.state.ended) is (omega arith)) ends;
+        shown = sym (take-length p.state.ended) ∙ ends_stay m limit p.state r e (length p.state.ended) is (omega arith);
+        outcomes = ends;
       }
 
   -- the event that is picked fits
@@ -172,7 +174,7 @@ module _ {S V : Type 0} (m : Meaning S V) (making : Making S) where
       pick_none_rests m law making.max_queue (entry_count making.shape) making.first_number p.state (well m law making b p.state h.events kept.history) making.order last is
 
   -- an event that fits may be noted
-  pub may_note_inner : IsLawful m → (b : Base S V) (p : StateView S V) (r : ObjectState S V) (h : HistoryView V) (last : Option ℕ) (ran before : ℕ) (e : Event V) → IsKept m making b p h last ran before → Fits m p.state e → r ≡ step m making.max_queue p.state e → MayNote r h (length p.state.ended)
+  pub may_note_inner : IsLawful m → (b : Base S V) (p : StateView S V) (r : ObjectState S V) (h : HistoryView V) (last : Option ℕ) (ran before : ℕ) (e : Event V) → IsKept m making b p h last ran before → Fits m p.state e → r ≡ step m making.max_queue p.state e → MayNote p.state r h
   may_note_inner law b p r h last ran before e kept fits is =
       may_note law b p r h h last ran before e kept (needs_from_fits m p.state e fits) (public_from_fits m making.shape p.state e fits) is refl kept.outcomes (kept.numbered ∙ sym (ap (λ s. s.next) is ∙ next_inner m law making.max_queue (entry_count making.shape) p.state e fits))
 
@@ -183,10 +185,10 @@ module _ {S V : Type 0} (m : Meaning S V) (making : Making S) where
       kept_goes_on b p r h h k last ran ran before before e kept (needs_from_fits m p.state e fits) (public_from_fits m making.shape p.state e fits) same (ap (λ s. s.hand) is ∙ kept.idle) at (record { events = refl; first = refl; place = refl }) rest len (kept.numbered ∙ sym (ap (λ s. s.next) same ∙ next_inner m law making.max_queue (entry_count making.shape) p.state e fits)) ends (omega (arith, no_procedure m p.state e fits)) kept.shown
 
   -- an own event that issues no call may be noted, where there is room for it
-  pub may_note_own : IsLawful m → (b : Base S V) (p : StateView S V) (r : ObjectState S V) (h g : HistoryView V) (room : ℕ) (last : Option ℕ) (ran before : ℕ) (e : Event V) → IsKept m making b p h last ran before → Needs m p.state e → NamesPublic making.shape e → r ≡ step m making.max_queue p.state e → (step m making.max_queue p.state e).next ≡ p.state.next → g ≡ record h { owed = room } → MayNote r g (length p.state.ended)
+  pub may_note_own : IsLawful m → (b : Base S V) (p : StateView S V) (r : ObjectState S V) (h g : HistoryView V) (room : ℕ) (last : Option ℕ) (ran before : ℕ) (e : Event V) → IsKept m making b p h last ran before → Needs m p.state e → NamesPublic making.shape e → r ≡ step m making.max_queue p.state e → (step m making.max_queue p.state e).next ≡ p.state.next → g ≡ record h { owed = room } → MayNote p.state r g
   may_note_own law b p r h g room last ran before e kept need named is next more =
       let room_made : HistoryView V = record h { owed = room } in
-      subst (λ x. MayNote r x (length p.state.ended)) (sym more) (may_note law b p r h room_made last ran before e kept need named is refl kept.outcomes (kept.numbered ∙ sym (ap (λ s. s.next) is ∙ next)))
+      subst (MayNote p.state r) (sym more) (may_note law b p r h room_made last ran before e kept need named is refl kept.outcomes (kept.numbered ∙ sym (ap (λ s. s.next) is ∙ next)))
 
   -- what an object keeps goes on by an own event that issues no call
   pub kept_begins : (b : Base S V) (p r : StateView S V) (h g k : HistoryView V) (room : ℕ) (last : Option ℕ) (ran more before : ℕ) (e : Event V) → IsKept m making b p h last ran before → Needs m p.state e → NamesPublic making.shape e → r.state ≡ step m making.max_queue p.state e → r.hand ≡ p.hand → (step m making.max_queue p.state e).next ≡ p.state.next → AreAt (noted (arrived_by m making b p.state h.events) (next_place h) (call_of p.state e)) r.state.waiting r.places → g ≡ record h { owed = room } → k ≡ record g { events = g.events ++ e ∷ []; owed = owed m r.state; outcomes = k.outcomes } → length k.outcomes ≡ length g.outcomes → AreOutcomes k r.state.ended → more ≡ ran + (if is_ran e then 1 else 0) → IsKept m making b r k (served_last last e) more (length p.state.ended)
@@ -195,31 +197,47 @@ module _ {S V : Type 0} (m : Meaning S V) (making : Making S) where
       (record { events = ap (λ x. x.events) made; first = ap (λ x. x.first_number) made; place = ap (λ x. x.place) made }) rest len
       (ap (λ x. making.first_number + length x.outcomes) made ∙ (kept.numbered ∙ sym (ap (λ s. s.next) is ∙ next))) ends also (omega arith)
 
-  -- whether there is room for a call changes nothing of what an object keeps
-  pub kept_with_room : (b : Base S V) (p r : StateView S V) (h : HistoryView V) (last : Option ℕ) (ran before : ℕ) → r ≡ record p { has_room = r.has_room } → IsKept m making b p h last ran before → IsKept m making b r h last ran before
-  kept_with_room b p r h last ran before same kept = rw same (record {
+  -- what an object keeps depends on nothing else of its state
+  pub kept_same : (b : Base S V) (p r : StateView S V) (h : HistoryView V) (last : Option ℕ) (ran before : ℕ) → r.state ≡ p.state → r.places ≡ p.places → r.hand ≡ p.hand → IsKept m making b p h last ran before → IsKept m making b r h last ran before
+  kept_same b p r h last ran before state places hand kept = record {
+    history = subst (λ s. IsHistory m making b s h.events) (sym state) kept.history;
+    counted = ap (owed m) state ∙ kept.counted;
+    last = kept.last;
+    ran = kept.ran;
+    shown = subst (λ s. before ≤ length s.ended) (sym state) kept.shown;
+    placed = subst (λ s. AreAt (arrived_by m making b s h.events) s.waiting r.places) (sym state) (subst (AreAt (arrived_by m making b p.state h.events) p.state.waiting) (sym places) kept.placed);
+    outcomes = subst (λ s. AreOutcomes h s.ended) (sym state) kept.outcomes;
+    numbered = kept.numbered ∙ sym (ap (λ s. s.next) state);
+    first = kept.first;
+    place = kept.place;
+    idle = hand ∙ kept.idle;
+  }
+
+  -- and where other calls had ended before the command
+  pub kept_before : (b : Base S V) (p : StateView S V) (h : HistoryView V) (last : Option ℕ) (ran before now : ℕ) → now ≤ length p.state.ended → IsKept m making b p h last ran before → IsKept m making b p h last ran now
+  kept_before b p h last ran before now le kept = record {
     history = kept.history;
     counted = kept.counted;
     last = kept.last;
     ran = kept.ran;
-    shown = kept.shown;
+    shown = le;
     placed = kept.placed;
     outcomes = kept.outcomes;
     numbered = kept.numbered;
     first = kept.first;
     place = kept.place;
     idle = kept.idle;
-  })
+  }
 
   numbered_on : (k next : ℕ) (xs : List (Option (End V))) → k + length xs ≡ next → k + length (xs ++ None ∷ []) ≡ next + 1
   numbered_on k next xs h = omega (arith, h, length-append xs (None ∷ []))
 
   -- an issue may be noted, where there is room for it and for the outcome of its call
-  pub may_note_issue : IsLawful m → (b : Base S V) (p : StateView S V) (r : ObjectState S V) (h g : HistoryView V) (room : ℕ) (last : Option ℕ) (ran before owner e : ℕ) (v : V) (d : Deadline) → IsKept m making b p h last ran before → Needs m p.state (Issue p.state.next owner e v d) → is_public making.shape e ≡ true → r ≡ step m making.max_queue p.state (Issue p.state.next owner e v d) → g ≡ record h { owed = room; outcomes = h.outcomes ++ None ∷ [] } → MayNote r g (length p.state.ended)
+  pub may_note_issue : IsLawful m → (b : Base S V) (p : StateView S V) (r : ObjectState S V) (h g : HistoryView V) (room : ℕ) (last : Option ℕ) (ran before owner e : ℕ) (v : V) (d : Deadline) → IsKept m making b p h last ran before → Needs m p.state (Issue p.state.next owner e v d) → is_public making.shape e ≡ true → r ≡ step m making.max_queue p.state (Issue p.state.next owner e v d) → g ≡ record h { owed = room; outcomes = h.outcomes ++ None ∷ [] } → MayNote p.state r g
   may_note_issue law b p r h g room last ran before owner e v d kept need public is more =
       let room_made : HistoryView V = record h { owed = room; outcomes = h.outcomes ++ None ∷ [] } in
       let next = ap (λ s. s.next) is ∙ next-issue m law making.max_queue (entry_count making.shape) p.state p.state.next owner e v d in
-      subst (λ x. MayNote r x (length p.state.ended)) (sym more)
+      subst (MayNote p.state r) (sym more)
       (may_note law b p r h room_made last ran before (Issue p.state.next owner e v d) kept need public is refl (λ n. outcomes_reserved h room n ∙ kept.outcomes n) (numbered_on making.first_number p.state.next h.outcomes kept.numbered ∙ sym next))
 
   -- what an object keeps goes on by an issue
@@ -231,7 +249,7 @@ module _ {S V : Type 0} (m : Meaning S V) (making : Making S) where
       (ap (λ x. making.first_number + length x.outcomes) made ∙ (numbered_on making.first_number p.state.next h.outcomes kept.numbered ∙ sym next)) ends (omega arith) (omega arith)
 
   -- what an object that was just made keeps
-  pub kept_opens : m.entries making.opening ≡ entry_count making.shape → (s : StateView S V) (h : HistoryView V) → s ≡ record { state = opening_state making.opening making.first_number; places = []; hand = None; tickets = []; has_room = false } → h ≡ record { first_number = making.first_number; place = making.first_place; events = []; owed = 1; outcomes = [] } → IsKept m making (opening_base making.opening making.first_number making.first_place) s h None 0 0
+  pub kept_opens : m.entries making.opening ≡ entry_count making.shape → (s : StateView S V) (h : HistoryView V) → s ≡ record { state = opening_state making.opening making.first_number; places = []; hand = None; tickets = []; keys = []; first = making.first_number; most = 0; is_fixed = false; before = 0 } → h ≡ record { first_number = making.first_number; place = making.first_place; events = []; owed = 1; outcomes = [] } → IsKept m making (opening_base making.opening making.first_number making.first_place) s h None 0 0
   kept_opens shaped s h is at = rw (is, at) (record {
     history = history_opens shaped;
     counted = omega arith;

@@ -1,8 +1,9 @@
 -- The outcomes that a history keeps, after one more call has ended.
-use Rattle.std.proofs.Common.{◌≡◌, ◌≢◌, ℕ, zero, suc, ◌+◌, ◌==◌, ◌<◌, ◌≤◌, List, [], ◌∷◌, ◌++◌, length, ◌-◌, take, drop, get_or, length-take, length-drop, refl, sym, ◌∙◌, arith, inl, inr, Bool, true, false, cond, Option, Some, None, subst}
-use Rattle.std.specs.List.{find, count_by}
+use Rattle.std.proofs.Common.{◌≡◌, ◌≢◌, ℕ, zero, suc, ◌+◌, ◌==◌, ◌<◌, ◌≤◌, List, [], ◌∷◌, ◌++◌, length, ◌-◌, take, drop, get_or, length-append, length-drop, refl, sym, ap, ◌∙◌, arith, inl, inr, Bool, true, false, cond, Option, Some, None, subst}
+use Rattle.std.specs.List.{All, find, count_by}
 use Rattle.std.specs.Option.{option_or}
-use Rattle.std.proofs.lemmas.List.{take_more, get_or-take, get_or-drop}
+use Rattle.std.proofs.Math.Seq.{take-append-add, take-length}
+use Rattle.std.proofs.lemmas.List.{get_or-append-add, take-append-drop, drop-drop}
 use Rattle.std.proofs.lemmas.List.Folds.{find-append}
 use Rattle.std.proofs.lemmas.List.Sums.{count_by_more_yes, sum_by-take-le}
 use Rattle.std.proofs.lemmas.Bool.Decides.{nat_tests}
@@ -64,19 +65,25 @@ module _ {V : Type 0} where
   other_found xs x n h = rw (find-append, differs x.number n h) (or_none (find (has_ended n) xs))
 
   -- The outcomes are those of the ended calls, with one more.
-  outcomes_push : (old new : HistoryView V) (xs : List (Ended V)) (x : Ended V) → find (has_ended x.number) xs ≡ None → AreOutcomes old xs → outcome_of new x.number ≡ Some x.end → ((m : ℕ) → m ≢ x.number → outcome_of new m ≡ outcome_of old m) → AreOutcomes new (xs ++ x ∷ [])
+  pub outcomes_push : (old new : HistoryView V) (xs : List (Ended V)) (x : Ended V) → find (has_ended x.number) xs ≡ None → AreOutcomes old xs → outcome_of new x.number ≡ Some x.end → ((m : ℕ) → m ≢ x.number → outcome_of new m ≡ outcome_of old m) → AreOutcomes new (xs ++ x ∷ [])
   outcomes_push old new xs x none h set others = λ n. elim (cases_eq n x.number) [
     | inl same ↦ rw (same, last_found xs x none) set
     | inr other ↦ rw (other_found xs x n other) (others n other ∙ h n)
   ]
 
-  -- The same, by the index of the call among the ended ones.
-  pub outcomes_more : (old new : HistoryView V) (xs : List (Ended V)) (i : ℕ) (x : Ended V) → i < length xs → x ≡ get_or xs i x → count_by (has_ended x.number) xs ≤ 1 → AreOutcomes old (take i xs) → outcome_of new x.number ≡ Some x.end → ((m : ℕ) → m ≢ x.number → outcome_of new m ≡ outcome_of old m) → AreOutcomes new (take (i + 1) xs)
-  outcomes_more old new xs i x lt is once h set others =
-      rw (take_more xs i x lt, ← is) (outcomes_push old new (take i xs) x (not_earlier xs i x lt is once) h set others)
+  -- A call among further ones hasn't ended among the earlier ones, nor among those of the further ones that stand before it.
+  pub not_before : (old now : List (Ended V)) (i : ℕ) (x : Ended V) → i < length now → x ≡ get_or now i x → count_by (has_ended x.number) (old ++ now) ≤ 1 → find (has_ended x.number) (old ++ take i now) ≡ None
+  not_before old now i x lt is once =
+      let below : length old + i < length (old ++ now) = omega (arith, lt, length-append old now) in
+      ap (find (has_ended x.number)) (sym (take-append-add old now i)) ∙ not_earlier (old ++ now) (length old + i) x below (is ∙ sym (get_or-append-add old now i x)) once
 
-  -- The index of a call among all, by its index among the later ones.
-  pub later_item : (xs : List (Ended V)) (k i : ℕ) (x : Ended V) → i < length (take (length xs - k) (drop k xs)) → x ≡ get_or (take (length xs - k) (drop k xs)) i x → (k + i < length xs) × (x ≡ get_or xs (k + i) x)
-  later_item xs k i x lt is =
-      let below : i < length xs - k = omega (arith, lt, length-take (length xs - k) (drop k xs), length-drop k xs) in
-      (omega (arith, below), is ∙ (get_or-take (length xs - k) (drop k xs) i x below ∙ get_or-drop k xs i x))
+  -- What holds of all ended calls holds of a further one.
+  pub later_holds : (P : Ended V → Type 0) (old now : List (Ended V)) (i : ℕ) (x : Ended V) → i < length now → x ≡ get_or now i x → All P (old ++ now) → P x
+  later_holds P old now i x lt is all = subst P (get_or-append-add old now i x ∙ sym is) (all (length old + i) x (omega (arith, lt, length-append old now)))
+
+-- What is noted of a list is a part of it, and the rest is what stands behind it.
+pub rest_noted : {X : Type 0} (all : List X) (before noted k : ℕ) → before + noted ≡ k → k ≤ length all → take k all ++ take (length (drop before all) - noted) (drop noted (drop before all)) ≡ all
+rest_noted all before noted k is le =
+    let behind : drop noted (drop before all) ≡ drop k all = drop-drop noted before all ∙ ap (λ i. drop i all) is in
+    let len : length (drop before all) - noted ≡ length (drop k all) = omega (arith, length-drop before all, length-drop k all, is) in
+    rw (behind, len, take-length (drop k all)) (take-append-drop k all)

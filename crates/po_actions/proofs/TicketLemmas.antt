@@ -86,20 +86,3 @@ same_core {S} {V} s t object tickets = parts s.object t.object s.tickets t.ticke
   where
     parts : (o p : View S V) (k l : List (Option ℕ)) → o ≡ p → k ≡ l → ◌≡◌ {A = CoreView S V} (record { object = o; tickets = k }) (record { object = p; tickets = l })
     parts o p k l is same = rw (is, same) refl
-
--- what an object keeps doesn't speak of its tickets, nor of room for a call
-pub kept_collected : {S V : Type 0} (m : Meaning S V) (making : Making S) (b : Base S V) (s t : StateView S V) (h : HistoryView V) (served : Option ℕ) (procedures before : ℕ) → t ≡ record s { tickets = t.tickets; has_room = t.has_room } → IsKept m making b s h served procedures before → IsKept m making b t h served procedures before
-kept_collected m making b s t h served procedures before rest k =
-    subst (λ seen. IsKept m making b seen h served procedures before) (sym rest) (record {
-      history = k.history;
-      counted = k.counted;
-      last = k.last;
-      ran = k.ran;
-      shown = k.shown;
-      placed = k.placed;
-      outcomes = k.outcomes;
-      numbered = k.numbered;
-      first = k.first;
-      place = k.place;
-      idle = k.idle;
-    })

@@ -1,5 +1,5 @@
 -- What every history keeps, for the invariants inside of this crate.
-use Rattle.std.specs.Prelude.{ℕ, ◌≡◌, ◌<◌, ◌≤◌, List, [], length, true, All, Option, None, ◌+◌, count_by}
+use Rattle.std.specs.Prelude.{ℕ, ◌≡◌, ◌<◌, ◌≤◌, List, [], length, true, false, All, Option, None, ◌+◌, count_by, Vec, vec_len, vec_capacity}
 use Rattle.po_unit.specs.Meaning.{Meaning}
 use Rattle.po_index.specs.Numbering.{entry_count}
 use Rattle.po_history.specs.declared.event.Event.{Event}
@@ -52,3 +52,12 @@ pub record IsKept {S V : Type 0} (m : Meaning S V) (making : Making S) (b : Base
   pub first : h.first_number ≡ making.first_number
   pub place : h.place ≡ b.place
   pub idle : s.hand ≡ None
+
+-- What an object keeps beside its history: what its state knows of keys and ends in proofs alone is in real lists too, with
+-- room for the end of each call that was accepted.
+pub record IsRecorded {S V A B : Type 0} (s : StateView S V) (by_number : Vec ℕ A) (ends : Vec (Ended V) B) (first_number : ℕ) : Type 0 where
+  pub keys : by_number.items ≡ s.keys
+  pub ended : ends.items ≡ s.state.ended
+  pub first : s.first ≡ first_number
+  pub grows : s.is_fixed ≡ false
+  pub for_all : vec_len by_number ≤ vec_capacity ends

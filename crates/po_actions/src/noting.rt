@@ -1,6 +1,6 @@
 //! An event is noted in the history, once the state has changed by it.
 
-ghost use Rattle.std.specs.Prelude.{◌≡◌, ◌<◌, ◌≤◌, ◌+◌, ◌-◌, ◌∷◌, ◌++◌, ℕ, [], All, count_by, length, take};
+ghost use Rattle.std.specs.Prelude.{◌≡◌, ◌<◌, ◌≤◌, ◌+◌, ◌-◌, ◌∷◌, ◌++◌, ℕ, [], None, All, count_by, length, take, vec_len, vec_capacity};
 ghost use Rattle.po_accepted.specs.Ending.{has_ended};
 ghost use Rattle.po_actions.specs.Pick.{owed};
 ghost use Rattle.po_actions.specs.Outcomes.{AreOutcomes, IsCallOf};
@@ -10,44 +10,55 @@ use po_accepted::Ended;
 use po_history::{Event, History};
 use po_unit::Unit;
 
-/// Notes how the calls have ended that are behind the first so many.
-fn note_ends<V: Copy>(history: &mut History<V>, ended: &[Ended<V>], ended_before: usize)
-    requires before { ended_before ≤ length ended.now }
-    requires once { (n : ℕ) → count_by (has_ended n) ended.now ≤ 1 }
-    requires calls { All (λ x. IsCallOf history.old x.number) ended.now }
-    requires outcomes { AreOutcomes history.old (take ended_before ended.now) }
+/// Notes further calls that have ended, and how.
+fn note_ends<V: Copy>(history: &mut History<V>, ended: &mut Vec<Ended<V>>, now: &[Ended<V>])
+    requires room { vec_len ended.old + length now.now ≤ vec_capacity ended.old }
+    requires once { (n : ℕ) → count_by (has_ended n) (ended.old.items ++ now.now) ≤ 1 }
+    requires calls { All (λ x. IsCallOf history.old x.number) (ended.old.items ++ now.now) }
+    requires outcomes { AreOutcomes history.old ended.old.items }
     ensures rest { history.new ≡ record history.old { outcomes = history.new.outcomes } }
     ensures len { length history.new.outcomes ≡ length history.old.outcomes }
-    ensures outcomes { AreOutcomes history.new ended.now }
+    ensures ended { ended.new.items ≡ ended.old.items ++ now.now }
+    ensures capacity { vec_capacity ended.new ≡ vec_capacity ended.old }
+    ensures outcomes { AreOutcomes history.new ended.new.items }
 {
-    for call in &ended[ended_before..] {
+    for call in now {
         history.set_outcome(call.number, call.end);
+        ended.push_reserved(*call);
     }
 }
 
-/// Notes an event with the calls that it ended, which are all but the first so many, and gives back the room that the
-/// state after it doesn't need.
+/// Notes an event with the calls that it ended, and gives back the room that the state after it doesn't need. So many of
+/// the calls that the command ended are noted already.
 pub(crate) fn note<U: Unit>(
     history: &mut History<U::Value>,
+    ended: &mut Vec<Ended<U::Value>>,
     state: &State<U>,
     event: Event<U::Value>,
-    ended_before: usize,
+    noted: usize,
 )
+    requires hand { state.now.hand ≡ None }
+    requires noted { state.now.before + noted ≡ vec_len ended.old }
+    requires shown { ended.old.items ≡ take (vec_len ended.old) state.now.state.ended }
+    requires for_all { length state.now.keys ≤ vec_capacity ended.old }
     requires room { owed U.meaning state.now.state + 1 ≤ history.old.owed }
-    requires before { ended_before ≤ length state.now.state.ended }
+    requires before { vec_len ended.old ≤ length state.now.state.ended }
     requires once { (n : ℕ) → count_by (has_ended n) state.now.state.ended ≤ 1 }
     requires calls { All (λ x. IsCallOf history.old x.number) state.now.state.ended }
-    requires outcomes { AreOutcomes history.old (take ended_before state.now.state.ended) }
+    requires outcomes { AreOutcomes history.old ended.old.items }
     ensures rest { history.new ≡ record history.old {
       events = history.old.events ++ event ∷ [];
       owed = owed U.meaning state.now.state;
       outcomes = history.new.outcomes;
     } }
     ensures len { length history.new.outcomes ≡ length history.old.outcomes }
+    ensures ended { ended.new.items ≡ state.now.state.ended }
+    ensures capacity { vec_capacity ended.new ≡ vec_capacity ended.old }
     ensures outcomes { AreOutcomes history.new state.now.state.ended }
 {
+    state.recall_invariant();
     history.push_owed(event);
     let unused = history.owed() - state.owed() as usize;
     history.release(unused);
-    note_ends(history, state.ended(), ended_before);
+    note_ends(history, ended, &state.ended_now()[noted..]);
 }

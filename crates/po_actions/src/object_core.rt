@@ -272,7 +272,7 @@ impl<U: Unit> Core<U> {
         if n < self.first_number() || n >= self.next() {
             return Err(Refusal::UnknownCall);
         }
-        let Some(call) = self.recorded.state().waiting_call(n) else {
+        let Some(call) = self.recorded.waiting_call(n) else {
             return Err(Refusal::AlreadyEnded);
         };
         self.recorded.recall_invariant();
@@ -418,7 +418,7 @@ impl<U: Unit> Core<U> {
     pub fn is_waiting(&self, n: u64) -> bool
         ensures { result ≡ is_some (find (has_number n) self.now.object.state.waiting) }
     {
-        self.recorded.state().waiting_call(n).is_some()
+        self.recorded.waiting_call(n).is_some()
     }
 
     /// The number that the next call gets.

@@ -1,6 +1,6 @@
 //! An object with its history: each command is carried out and recorded.
 
-ghost use Rattle.std.specs.Prelude.{◌≡◌, ◌≢◌, ◌<◌, ◌∷◌, [], None, Some, true, false, find, ◌&&◌, MatchOption, option_map, MatchBool, length, slice_index, IfOk, OnOk, OnErr, OnSome, IfNone};
+ghost use Rattle.std.specs.Prelude.{◌≡◌, ◌≢◌, ◌<◌, ◌≤◌, ◌+◌, ◌∷◌, [], vec_len, vec_capacity, None, Some, true, false, find, ◌&&◌, MatchOption, option_map, MatchBool, IfOk, OnOk, OnErr, OnSome, IfNone};
 ghost use Rattle.po_index.specs.Numbering.{entry_count, is_public};
 ghost use Rattle.po_accepted.specs.WaitingCalls.{has_number, is_of};
 ghost use Rattle.po_actions.specs.ObjectState.{IsAtRest, counts_in};
@@ -13,6 +13,7 @@ ghost use Rattle.po_actions.specs.Progress.{Settles, Begins, Happens, IsSameComm
 ghost use Rattle.po_actions.specs.ProtectedAction.{settled, without_event};
 ghost use Rattle.po_actions.specs.Tickets.{place_of_ticket, end_of_ticket};
 ghost use Rattle.po_accepted.specs.Tickets.{number_at, SetsTicket};
+ghost use Rattle.po_accepted.specs.Calls.{key_of};
 ghost use Rattle.po_actions.specs.Headline.{IsSound};
 ghost use Rattle.po_actions.specs.Cutting.{cut, cut_off, procedures_run, AreVolumes, Leads};
 
@@ -21,30 +22,33 @@ use crate::making::Making;
 use crate::noting::note;
 use crate::state::State;
 use po_accepted::Ended;
-use po_calls::{Deadline, End, Place, Ticket};
+use po_calls::{Call, Deadline, End, Place, Ticket};
 use po_history::{Event, History, Volume};
 use po_unit::Unit;
 use std::alloc::{AllocError, Global};
 use std::marker::Model;
 
-/// An object with its history, in the middle of a protected action or between two.
+/// An object with its history, in the middle of a protected action or between two: its state, and the record of what has
+/// happened.
 #[derive(Drop)]
 pub struct RecordedObject<U: Unit> {
     making: Making<U>,
+    state: State<U>,
     /// From where the history replays.
     base: Base<U>,
-    state: State<U>,
     history: History<U::Value>,
+    /// The key of the ticket that each call got, by its number less the first one.
+    keys: Vec<usize>,
+    /// The calls that have ended, in that order.
+    ended: Vec<Ended<U::Value>>,
     /// The entry that was served last.
     last: Option<u16>,
     /// How many procedures have run.
     ran: u64,
-    /// How many calls had ended before the last command.
-    ended_before: usize,
 }
 
 impl<U: Unit> Model for RecordedObject<U> {
-    ghost use Rattle.po_actions.specs.History.{IsKept};
+    ghost use Rattle.po_actions.specs.History.{IsKept, IsRecorded};
     ghost use Rattle.po_actions.specs.Tickets.{CoreView};
 
     ghost Value = { CoreView U U.Value };
@@ -55,12 +59,15 @@ impl<U: Unit> Model for RecordedObject<U> {
         base = a.base;
         events = a.history.events;
         state = a.state.state;
-        ended_before = a.ended_before;
+        ended_before = a.state.before;
       };
       tickets = a.state.tickets;
     } };
 
-    ghost invariant = { λ a. IsKept U.meaning a.making a.base a.state a.history a.last a.ran a.ended_before };
+    ghost invariant = { λ a. record {
+      kept : IsKept U.meaning a.making a.base a.state a.history a.last a.ran a.state.before;
+      recorded : IsRecorded a.state a.keys a.ended a.making.first_number;
+    } };
 }
 
 /// The entry that was served last, after one more event.
@@ -73,11 +80,29 @@ fn served_by<V: Copy>(last: Option<u16>, event: Event<V>) -> Option<u16>
     }
 }
 
-/// A command begins: the calls that have ended by now had ended before it.
-fn begin_command<U: Unit>(ended_before: &mut usize, state: &State<U>)
-    ensures { ended_before.new ≡ length state.now.state.ended }
+/// The ticket that the call with number n got, by the keys of all tickets from that of the first call on.
+fn ticket_of(keys: &Vec<usize>, first: u64, n: u64) -> Option<Ticket>
+    ensures { MatchOption result (key_of first keys.now.items n ≡ None)
+        (λ t. (key_of first keys.now.items n ≡ Some t.key) × (t.number ≡ n)) }
 {
-    *ended_before = state.ended().len();
+    if n < first {
+        return None;
+    }
+    let key = *keys.get((n - first) as usize)?;
+    Some(Ticket { key, number: n })
+}
+
+/// Makes room for the key of one more call, and for the ends of all calls that have a key then.
+fn reserve_record<V>(keys: &mut Vec<usize>, ended: &mut Vec<Ended<V>>) -> Result<(), AllocError>
+    ensures key { OnOk result (vec_len keys.new + 1 ≤ vec_capacity keys.new) }
+    ensures ends { OnOk result (vec_len keys.new + 1 ≤ vec_capacity ended.new) }
+    ensures keys { (keys.new.items ≡ keys.old.items) × (vec_len keys.new ≡ vec_len keys.old) }
+    ensures ended { (ended.new.items ≡ ended.old.items) × (vec_len ended.new ≡ vec_len ended.old) }
+    ensures grows { vec_capacity ended.old ≤ vec_capacity ended.new }
+{
+    keys.reserve(1)?;
+    let more = (keys.len() + 1).saturating_sub(ended.len());
+    ended.reserve(more)
 }
 
 impl<U: Unit + Drop> RecordedObject<U> {
@@ -93,12 +118,13 @@ impl<U: Unit + Drop> RecordedObject<U> {
         let history = History::new(alloc, first_number, first_place)?;
         Ok(RecordedObject {
             making,
-            base: Base::new(alloc, at_base, first_number, first_place),
             state,
+            base: Base::new(alloc, at_base, first_number, first_place),
             history,
+            keys: Vec::new(alloc),
+            ended: Vec::new(alloc),
             last: None,
             ran: 0,
-            ended_before: 0,
         })
     }
 
@@ -116,7 +142,7 @@ impl<U: Unit + Drop> RecordedObject<U> {
         self.base = Base {
             unit,
             waiting,
-            ended: self.state.ended().len(),
+            ended: self.ended.len(),
             next: self.state.next(),
             clock: self.state.clock(),
             finalized: self.state.is_finalized(),
@@ -140,10 +166,10 @@ impl<U: Unit> RecordedObject<U> {
     {
         match self.state.pick(self.making.order(), self.last) {
             Some(event) => {
-                let ended_before = self.state.ended().len();
+                let noted = self.state.ended_now().len();
                 let queueing = self.making.queueing(self.history.place());
                 self.state.perform(queueing, event);
-                note(&mut self.history, &self.state, event, ended_before);
+                note(&mut self.history, &mut self.ended, &self.state, event, noted);
                 self.last = served_by(self.last, event);
                 true
             }
@@ -181,8 +207,9 @@ impl<U: Unit> RecordedObject<U> {
         ensures err { OnErr result (self.new ≡ self.old) }
     {
         self.state.reserve()?;
+        reserve_record(&mut self.keys, &mut self.ended)?;
         self.history.reserve_for(U::rank(e, v))?;
-        begin_command(&mut self.ended_before, &self.state);
+        self.state.begin();
         let event = Event::Issue {
             n: self.state.next(),
             owner,
@@ -192,7 +219,8 @@ impl<U: Unit> RecordedObject<U> {
         };
         let queueing = self.making.queueing(self.history.place());
         let ticket = self.state.issue(queueing, owner, e, v, deadline);
-        note(&mut self.history, &self.state, event, self.ended_before);
+        self.keys.push_reserved(ticket.key);
+        note(&mut self.history, &mut self.ended, &self.state, event, 0);
         Ok(ticket)
     }
 
@@ -212,7 +240,7 @@ impl<U: Unit> RecordedObject<U> {
         ensures err { OnErr result (self.new ≡ self.old) }
     {
         self.history.reserve_event()?;
-        begin_command(&mut self.ended_before, &self.state);
+        self.state.begin();
         let reply = self.state.run(op, v);
         self.ran += 1;
         let event = Event::Ran {
@@ -221,7 +249,7 @@ impl<U: Unit> RecordedObject<U> {
             v,
             reply,
         };
-        note(&mut self.history, &self.state, event, self.ended_before);
+        note(&mut self.history, &mut self.ended, &self.state, event, 0);
         Ok(reply)
     }
 
@@ -232,10 +260,14 @@ impl<U: Unit> RecordedObject<U> {
         ensures begins { Begins U.meaning self.old.object self.new.object (Event.Abort n) }
         ensures tickets { self.new.tickets ≡ self.old.tickets }
     {
-        begin_command(&mut self.ended_before, &self.state);
-        self.state.abort(n);
+        self.state.recall_invariant();
+        let Some(ticket) = ticket_of(&self.keys, self.making.first_number(), n) else {
+            return;
+        };
+        self.state.begin();
+        self.state.abort(ticket);
         let event = Event::Abort(n);
-        note(&mut self.history, &self.state, event, self.ended_before);
+        note(&mut self.history, &mut self.ended, &self.state, event, 0);
     }
 
     /// The clock rises.
@@ -246,10 +278,10 @@ impl<U: Unit> RecordedObject<U> {
         ensures err { OnErr result (self.new ≡ self.old) }
     {
         self.history.reserve_event()?;
-        begin_command(&mut self.ended_before, &self.state);
+        self.state.begin();
         self.state.tick(t);
         let event = Event::Tick(t);
-        note(&mut self.history, &self.state, event, self.ended_before);
+        note(&mut self.history, &mut self.ended, &self.state, event, 0);
         Ok(())
     }
 
@@ -259,17 +291,17 @@ impl<U: Unit> RecordedObject<U> {
         ensures begins { Begins U.meaning self.old.object self.new.object Event.Final }
         ensures tickets { self.new.tickets ≡ self.old.tickets }
     {
-        begin_command(&mut self.ended_before, &self.state);
+        self.state.begin();
         self.state.finalize();
         let event = Event::Final;
-        note(&mut self.history, &self.state, event, self.ended_before);
+        note(&mut self.history, &mut self.ended, &self.state, event, 0);
     }
 
     /// A command that has no event, and ends no call.
     pub(crate) fn pass(&mut self)
         ensures { self.new ≡ record self.old { object = without_event self.old.object } }
     {
-        begin_command(&mut self.ended_before, &self.state);
+        self.state.begin();
     }
 
     /// Takes the end of the call of a ticket, if it has ended, and makes the ticket Unknown for good. Else nothing
@@ -281,6 +313,15 @@ impl<U: Unit> RecordedObject<U> {
         ensures left { IfNone result (self.new ≡ self.old) }
     {
         self.state.collect(ticket)
+    }
+
+    /// The queued call with number n.
+    pub(crate) fn waiting_call(&self, n: u64) -> Option<Call<U::Value>>
+        ensures { result ≡ find (has_number n) self.now.object.state.waiting }
+    {
+        self.state.recall_invariant();
+        let ticket = ticket_of(&self.keys, self.making.first_number(), n)?;
+        self.state.waiting_call(ticket)
     }
 
     /// Where the call of a ticket is.
@@ -350,13 +391,13 @@ impl<U: Unit> RecordedObject<U> {
     pub(crate) fn ended_now(&self) -> &[Ended<U::Value>]
         ensures { result.now ≡ ended_now self.now.object }
     {
-        &self.state.ended()[self.ended_before..]
+        self.state.ended_now()
     }
 
     /// The calls that had ended at the base, in that order.
     pub(crate) fn ended_at_base(&self) -> &[Ended<U::Value>]
         ensures { result.now ≡ (base_state self.now.object).ended }
     {
-        &self.state.ended()[..self.base.ended]
+        &self.ended[..self.base.ended]
     }
 }

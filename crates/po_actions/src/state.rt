@@ -1,14 +1,15 @@
 //! The state of a protected object: its data and its calls.
 
-ghost use Rattle.std.specs.Prelude.{◌≡◌, ◌<◌, ◌≤◌, ◌+◌, ◌∷◌, ◌++◌, [], ℕ, true, false, count_by, slice_index, map, All, Option, None, Some, IfOk, OnOk, OnErr, IsOk, OnSome, IfNone, IsSome, find, option_map, if◌then◌else◌};
-ghost use Rattle.po_accepted.specs.WaitingCalls.{is_on, is_of, has_number};
+ghost use Rattle.std.specs.Prelude.{◌≡◌, ◌<◌, ◌≤◌, ◌+◌, ◌∷◌, ◌++◌, [], ℕ, true, false, count_by, slice_index, map, All, length, drop, nat_lt, Option, None, Some, IfOk, OnOk, OnErr, IsOk, OnSome, IfNone, IsSome, find, option_map, if◌then◌else◌};
+ghost use Rattle.po_accepted.specs.WaitingCalls.{is_on, is_of, has_number, is_due};
 ghost use Rattle.po_actions.specs.ObjectState.{opening_state, counts_in, gate_in};
 ghost use Rattle.po_actions.specs.Pick.{event_of, next_turn, pick, owed, Fits};
 ghost use Rattle.po_actions.specs.Step.{enter, cancel, abort, advance, finalize, run_procedure, end_call, end_all, queue, land, run_body, take_out, step, arrive};
 ghost use Rattle.po_actions.specs.Arrival.{AreAt, noted, call_of};
-ghost use Rattle.po_accepted.specs.Tickets.{number_at, SetsTicket, place_among, end_at};
-ghost use Rattle.po_accepted.specs.Calls.{places_without};
-ghost use Rattle.po_actions.specs.StateView.{NamesEntry};
+ghost use Rattle.po_accepted.specs.Tickets.{number_at, SetsTicket, place_among, waiting_among, end_at, is_live, uncollected};
+ghost use Rattle.po_accepted.specs.Calls.{HasTicket, places_without};
+ghost use Rattle.po_calls.specs.declared.call.Call.{Call};
+ghost use Rattle.po_actions.specs.StateView.{IsFirstDue, NamesEntry};
 
 use crate::queueing::Queueing;
 use po_accepted::{Arrival, Calls, Ended};
@@ -19,15 +20,18 @@ use po_unit::{Outcome, Unit};
 use std::alloc::{AllocError, Global};
 use std::marker::Model;
 
-/// The data of a protected object and its calls. Contracts see it as an object's state, beside where its calls arrived,
-/// its tickets, the call that is being served, and whether there is room for one more call. Each method is one word of
-/// the definitions of a step.
+/// The data of a protected object and its calls. Contracts see it as an object's state, beside where its calls arrived, the
+/// call that is being served, its tickets, for how many calls there is room, and how many calls had ended before the
+/// command. Each method is one word of the definitions of a step.
+///
+/// It is what a core and a machine (`po_machine`) stand on. How all calls have ended is known to proofs alone.
 #[derive(Drop)]
 pub struct State<U: Unit> {
     unit: U,
     calls: Calls<U::Value>,
     finalized: bool,
-    /// How many further events may come without memory: those that the queued calls may need, and the finalization.
+    /// How many further events may come with no further command but a finalization: those that the queued calls may need,
+    /// and the finalization.
     owed: u128,
 }
 
@@ -43,7 +47,11 @@ impl<U: Unit> Model for State<U> {
       places = s.calls.places;
       hand = s.calls.hand;
       tickets = s.calls.tickets;
-      has_room = s.calls.has_room;
+      keys = s.calls.keys;
+      first = s.calls.first;
+      most = s.calls.most;
+      is_fixed = s.calls.is_fixed;
+      before = s.calls.ended_before;
     } };
 
     ghost invariant = { λ s. record {
@@ -63,43 +71,106 @@ fn events_owed<U: Unit>(call: &Call<U::Value>) -> u128
     if call.aborted { rank + 1 } else { rank + 2 }
 }
 
+/// The state of a unit that was just made, with these calls.
+fn opened<U: Unit>(unit: U, calls: Calls<U::Value>) -> State<U>
+    requires total { calls.total ≡ U.meaning.entries unit }
+    requires waiting { calls.waiting ≡ [] }
+    requires ended { calls.ended ≡ [] }
+    requires clock { calls.clock ≡ 0 }
+    ensures { result ≡ record {
+      state = opening_state unit calls.next;
+      places = calls.places;
+      hand = calls.hand;
+      tickets = calls.tickets;
+      keys = calls.keys;
+      first = calls.first;
+      most = calls.most;
+      is_fixed = calls.is_fixed;
+      before = calls.ended_before;
+    } }
+{
+    State {
+        unit,
+        calls,
+        finalized: false,
+        owed: 1,
+    }
+}
+
 impl<U: Unit + Drop> State<U> {
-    /// The state of an object that was just made, whose first call gets this number.
+    /// The state of an object that was just made, whose first call gets this number. There is room for no call.
     pub(crate) fn new(alloc: Global, unit: U, first_number: u64) -> Result<State<U>, AllocError>
         ensures { IfOk result (λ d. d ≡ record {
           state = opening_state unit first_number;
           places = [];
           hand = None;
           tickets = [];
-          has_room = false;
+          keys = [];
+          first = first_number;
+          most = 0;
+          is_fixed = false;
+          before = 0;
         }) }
     {
         let calls = Calls::new(alloc, unit.entries(), first_number)?;
-        Ok(State {
-            unit,
-            calls,
-            finalized: false,
-            owed: 1,
-        })
+        Ok(opened(unit, calls))
+    }
+
+    /// The same with all memory for so many uncollected calls.
+    pub fn with_capacity(
+        alloc: Global,
+        unit: U,
+        first_number: u64,
+        most: usize,
+    ) -> Result<State<U>, AllocError>
+        ensures { IfOk result (λ d. d ≡ record {
+          state = opening_state unit first_number;
+          places = [];
+          hand = None;
+          tickets = [];
+          keys = [];
+          first = first_number;
+          most = most;
+          is_fixed = true;
+          before = 0;
+        }) }
+    {
+        let calls = Calls::with_capacity(alloc, unit.entries(), first_number, most)?;
+        Ok(opened(unit, calls))
     }
 }
 
 impl<U: Unit> State<U> {
     /// The number that the next call gets.
-    pub(crate) fn next(&self) -> u64
+    pub fn next(&self) -> u64
         ensures { result ≡ self.now.state.next }
     {
         self.calls.next()
     }
 
-    /// Makes room for one more call.
+    /// Whether one more call may be uncollected.
+    pub fn has_room(&self) -> bool
+        ensures { result ≡ nat_lt (uncollected self.now.tickets) self.now.most }
+    {
+        self.calls.has_room()
+    }
+
+    /// Makes room for one more call, where there is none.
     pub(crate) fn reserve(&mut self) -> Result<(), AllocError>
-        ensures same { self.new ≡ record self.old { has_room = self.new.has_room } }
-        ensures ok { OnOk result (self.new.has_room ≡ true) }
+        requires { self.old.is_fixed ≡ false }
+        ensures same { self.new ≡ record self.old { most = self.new.most } }
+        ensures ok { OnOk result (uncollected self.new.tickets < self.new.most) }
         ensures err { OnErr result (self.new ≡ self.old) }
-        ensures had_room { self.old.has_room ≡ true → IsOk result × (self.new ≡ self.old) }
+        ensures had_room { uncollected self.old.tickets < self.old.most → IsOk result × (self.new ≡ self.old) }
     {
         self.calls.reserve()
+    }
+
+    /// A command begins: no call has ended since.
+    pub fn begin(&mut self)
+        ensures { self.new ≡ record self.old { before = length self.old.state.ended } }
+    {
+        self.calls.begin();
     }
 
     /// The call in hand ends.
@@ -245,18 +316,35 @@ impl<U: Unit> State<U> {
 
     /// A queued call is cancelled.
     #[tactic(auto, using(po_accepted::proofs::Lists::without_none))]
-    fn cancel(&mut self, n: u64)
-        requires { self.old.hand ≡ None }
+    fn cancel(&mut self, ticket: Ticket)
+        requires hand { self.old.hand ≡ None }
+        requires live { is_live self.old.tickets ticket ≡ true }
         ensures state { self.new ≡ record self.old {
-          state = cancel self.old.state n (find (has_number n) self.old.state.waiting);
+          state = cancel self.old.state ticket.number (find (has_number ticket.number) self.old.state.waiting);
           places = self.new.places;
         } }
         ensures places { (f : ℕ → ℕ) → AreAt f self.old.state.waiting self.old.places
             → AreAt f self.new.state.waiting self.new.places }
     {
-        if let Some(call) = self.calls.take_number(n) {
+        if let Some(call) = self.calls.take_ticket(ticket) {
             self.owed -= events_owed::<U>(&call);
             self.end_call(call, End::Cancelled);
+        }
+    }
+
+    /// The first call that is due is cancelled.
+    fn expire(&mut self)
+        requires hand { self.old.hand ≡ None }
+        ensures state { (n : ℕ) → option_map (λ x. x.number) (find (is_due self.old.state.clock) self.old.state.waiting) ≡ Some n
+            → self.new ≡ record self.old {
+              state = cancel self.old.state n (find (has_number n) self.old.state.waiting);
+              places = self.new.places;
+            } }
+        ensures places { (f : ℕ → ℕ) → AreAt f self.old.state.waiting self.old.places
+            → AreAt f self.new.state.waiting self.new.places }
+    {
+        if let Some(ticket) = self.calls.first_due() {
+            self.cancel(ticket);
         }
     }
 
@@ -272,23 +360,24 @@ impl<U: Unit> State<U> {
     }
 
     /// The inner event that follows, if one does.
-    pub(crate) fn pick(&mut self, order: Order, last: Option<u16>) -> Option<Event<U::Value>>
+    pub fn pick(&mut self, order: Order, last: Option<u16>) -> Option<Event<U::Value>>
         ensures picked { result ≡ pick U.meaning order last self.old.state }
         ensures same { self.new ≡ self.old }
     {
         match self.first_ready(order, last) {
             Some(event) => Some(event),
             None => match self.calls.first_due() {
-                Some(n) => Some(Event::Expire(n)),
+                Some(ticket) => Some(Event::Expire(ticket.number)),
                 None => None,
             },
         }
     }
 
     /// The inner event that is picked happens; `queueing` is what a call meets that it requeues.
-    pub(crate) fn perform(&mut self, queueing: Queueing, event: Event<U::Value>)
+    pub fn perform(&mut self, queueing: Queueing, event: Event<U::Value>)
         requires hand { self.old.hand ≡ None }
         requires fits { Fits U.meaning self.old.state event }
+        requires first { IsFirstDue self.old.state event }
         requires later { All (λ k. k < queueing.place) self.old.places }
         ensures state { self.new ≡ record self.old {
           state = step U.meaning queueing.max_length self.old.state event;
@@ -300,13 +389,13 @@ impl<U: Unit> State<U> {
         match event {
             Event::Serve(e) => self.serve(queueing, e),
             Event::Break(_) => self.end_all(),
-            Event::Expire(n) => self.cancel(n),
+            Event::Expire(_) => self.expire(),
             _ => {}
         }
     }
 
     /// A call is issued: it is served, queued or ended; `queueing` is what it meets where it is queued.
-    pub(crate) fn issue(
+    pub fn issue(
         &mut self,
         queueing: Queueing,
         owner: u16,
@@ -315,12 +404,17 @@ impl<U: Unit> State<U> {
         deadline: Deadline,
     ) -> Ticket
         requires hand { self.old.hand ≡ None }
-        requires room { self.old.has_room ≡ true }
+        requires room { uncollected self.old.tickets < self.old.most }
+        requires begun { self.old.before ≡ length self.old.state.ended }
         requires entry { e < U.meaning.entries self.old.state.unit }
         requires number { self.old.state.next < u64.MAX }
         requires later { All (λ k. k < queueing.place) self.old.places }
-        ensures state { self.new.state ≡ step U.meaning queueing.max_length self.old.state (Event.Issue self.old.state.next owner e v deadline) }
-        ensures hand { self.new.hand ≡ None }
+        ensures state { self.new ≡ record self.old {
+          state = step U.meaning queueing.max_length self.old.state (Event.Issue self.old.state.next owner e v deadline);
+          places = self.new.places;
+          tickets = self.new.tickets;
+          keys = self.old.keys ++ result.key ∷ [];
+        } }
         ensures places { (f : ℕ → ℕ) → AreAt f self.old.state.waiting self.old.places
             → AreAt (noted f queueing.place (Some self.old.state.next)) self.new.state.waiting self.new.places }
         ensures number { result.number ≡ self.old.state.next }
@@ -351,7 +445,7 @@ impl<U: Unit> State<U> {
     }
 
     /// A procedure runs.
-    pub(crate) fn run(&mut self, op: u16, v: U::Value) -> Result<U::Value, u32>
+    pub fn run(&mut self, op: u16, v: U::Value) -> Result<U::Value, u32>
         requires { op < U.meaning.procedures self.old.state.unit }
         ensures reply { result ≡ (U.meaning.procedure self.old.state.unit op v (counts_in U.meaning self.old.state)).1 }
         ensures state { self.new ≡ record self.old { state = run_procedure U.meaning self.old.state op v } }
@@ -360,35 +454,36 @@ impl<U: Unit> State<U> {
     }
 
     /// A queued call is cancelled, or marked as aborted.
-    pub(crate) fn abort(&mut self, n: u64)
-        requires { self.old.hand ≡ None }
+    pub fn abort(&mut self, ticket: Ticket)
+        requires hand { self.old.hand ≡ None }
+        requires live { is_live self.old.tickets ticket ≡ true }
         ensures state { self.new ≡ record self.old {
-          state = abort self.old.state n (find (has_number n) self.old.state.waiting);
+          state = abort self.old.state ticket.number (find (has_number ticket.number) self.old.state.waiting);
           places = self.new.places;
         } }
         ensures places { (f : ℕ → ℕ) → AreAt f self.old.state.waiting self.old.places
             → AreAt f self.new.state.waiting self.new.places }
     {
         self.calls.recall_invariant();
-        if let Some(call) = self.waiting_call(n) {
+        if let Some(call) = self.waiting_call(ticket) {
             if !call.sealed {
-                self.cancel(n);
+                self.cancel(ticket);
             } else if !call.aborted {
                 self.owed -= 1;
-                self.calls.mark(n);
+                self.calls.mark(ticket);
             }
         }
     }
 
     /// The clock rises to t, if it is lower.
-    pub(crate) fn tick(&mut self, t: u64)
+    pub fn tick(&mut self, t: u64)
         ensures { self.new ≡ record self.old { state = advance self.old.state t } }
     {
         self.calls.rise(t);
     }
 
     /// The object is finalized, and all queued calls end (9.4).
-    pub(crate) fn finalize(&mut self)
+    pub fn finalize(&mut self)
         requires { self.old.hand ≡ None }
         ensures { self.new ≡ record self.old { state = finalize self.old.state; places = [] } }
     {
@@ -397,43 +492,47 @@ impl<U: Unit> State<U> {
         self.owed = 0;
     }
 
-    /// How many further events may come without memory.
+    /// How many further events may come with no further command but a finalization.
     pub(crate) fn owed(&self) -> u128
         ensures { result ≡ owed U.meaning self.now.state }
     {
         self.owed
     }
 
-    /// How many entries the unit has.
-    pub(crate) fn entries(&self) -> u16
-        ensures { result ≡ U.meaning.entries self.now.state.unit }
+    /// What all states keep: the events that may yet come are few; each accepted call waits or has ended; and the number of
+    /// one that waits leads to its ticket.
+    pub fn recall_invariant(&self)
+        ensures few { owed U.meaning self.now.state ≤ 9_000_000_000_000_000_000_000 }
+        ensures each { self.now.hand ≡ None → length self.now.state.ended + length self.now.state.waiting ≡ length self.now.keys }
+        ensures tickets { (n : ℕ) (x : Call U.Value) → find (has_number n) self.now.state.waiting ≡ Some x
+            → HasTicket self.now.first self.now.keys self.now.tickets n }
     {
-        self.unit.entries()
+        self.calls.recall_invariant();
     }
 
     /// How many procedures the unit has.
-    pub(crate) fn procedures(&self) -> u16
+    pub fn procedures(&self) -> u16
         ensures { result ≡ U.meaning.procedures self.now.state.unit }
     {
         self.unit.procedures()
     }
 
     /// How many functions the unit has.
-    pub(crate) fn functions(&self) -> u16
+    pub fn functions(&self) -> u16
         ensures { result ≡ U.meaning.functions self.now.state.unit }
     {
         self.unit.functions()
     }
 
     /// Whether the object is finalized.
-    pub(crate) fn is_finalized(&self) -> bool
+    pub fn is_finalized(&self) -> bool
         ensures { result ≡ self.now.state.finalized }
     {
         self.finalized
     }
 
     /// The clock.
-    pub(crate) fn clock(&self) -> u64
+    pub fn clock(&self) -> u64
         ensures { result ≡ self.now.state.clock }
     {
         self.calls.clock()
@@ -446,18 +545,19 @@ impl<U: Unit> State<U> {
         &self.unit
     }
 
-    /// The calls that have ended, in that order.
-    pub(crate) fn ended(&self) -> &[Ended<U::Value>]
-        ensures { result.now ≡ self.now.state.ended }
+    /// The calls that have ended since the command began, in that order.
+    pub fn ended_now(&self) -> &[Ended<U::Value>]
+        ensures { result.now ≡ drop self.now.before self.now.state.ended }
     {
-        self.calls.ended()
+        self.calls.ended_now()
     }
 
-    /// The queued call with number n.
-    pub(crate) fn waiting_call(&self, n: u64) -> Option<Call<U::Value>>
-        ensures { result ≡ find (has_number n) self.now.state.waiting }
+    /// The queued call of the ticket, if there is one.
+    pub fn waiting_call(&self, ticket: Ticket) -> Option<Call<U::Value>>
+        requires { self.now.hand ≡ None }
+        ensures { result ≡ waiting_among self.now.state.waiting self.now.tickets ticket }
     {
-        self.calls.waiting_call(n)
+        self.calls.waiting_call(ticket)
     }
 
     /// The number of the owner's earliest queued call.
@@ -476,7 +576,7 @@ impl<U: Unit> State<U> {
     }
 
     /// Where the call of the ticket is.
-    pub(crate) fn place(&self, ticket: Ticket) -> Place<U::Value>
+    pub fn place(&self, ticket: Ticket) -> Place<U::Value>
         requires { self.now.hand ≡ None }
         ensures { result ≡ place_among self.now.state.waiting self.now.state.ended self.now.tickets ticket }
     {
@@ -484,18 +584,19 @@ impl<U: Unit> State<U> {
     }
 
     /// Takes the end of the call of the ticket, if it has ended, and makes the ticket Unknown for good.
-    pub(crate) fn collect(&mut self, ticket: Ticket) -> Option<End<U::Value>>
+    pub fn collect(&mut self, ticket: Ticket) -> Option<End<U::Value>>
         requires { self.old.hand ≡ None }
         ensures end { result ≡ end_at (place_among self.old.state.waiting self.old.state.ended self.old.tickets ticket) }
         ensures taken { OnSome result (SetsTicket self.old.tickets self.new.tickets ticket.key None) }
-        ensures rest { self.new ≡ record self.old { tickets = self.new.tickets; has_room = self.new.has_room } }
+        ensures rest { self.new ≡ record self.old { tickets = self.new.tickets; most = self.new.most } }
+        ensures room { self.old.is_fixed ≡ true → self.new.most ≡ self.old.most }
         ensures left { IfNone result (self.new ≡ self.old) }
     {
         self.calls.collect(ticket)
     }
 
     /// A function of the unit.
-    pub(crate) fn read(&self, op: u16, v: U::Value) -> Result<U::Value, u32>
+    pub fn read(&self, op: u16, v: U::Value) -> Result<U::Value, u32>
         requires { op < U.meaning.functions self.now.state.unit }
         ensures { result ≡ U.meaning.function self.now.state.unit op v (counts_in U.meaning self.now.state) }
     {
@@ -503,7 +604,7 @@ impl<U: Unit> State<U> {
     }
 
     /// How many calls are queued on the entry (9.9).
-    pub(crate) fn count(&self, e: u16) -> u64
+    pub fn count(&self, e: u16) -> u64
         requires { e < U.meaning.entries self.now.state.unit }
         ensures { result ≡ slice_index (counts_in U.meaning self.now.state) e }
     {

@@ -24,8 +24,12 @@ invariant_of-self g c =
       numbers = i.numbers;
       ended_before = i.ended_before;
       each = omega (arith, i.each, ap hands is, length-append s.queues.items (x ∷ []));
-      for_ended = i.for_ended;
+      shown = i.shown;
+      few = i.few;
       room = i.room;
+      reserved = i.reserved;
+      for_ended = omega (arith, i.for_ended, ap hands is, length-append s.queues.items (x ∷ []));
+      for_all = i.for_all;
     })
 
 pub returns : goal.returns

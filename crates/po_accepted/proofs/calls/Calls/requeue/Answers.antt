@@ -1,8 +1,9 @@
-use Rattle.std.proofs.Common.{◌≡◌, ◌+◌, Some, refl, sym, ap, ◌∙◌, arith, subst, vec_len}
+use Rattle.std.proofs.Common.{◌≡◌, Some, refl, sym, ap, ◌∙◌, arith, subst}
 use Rattle.po_calls.specs.Calls.{waiting_call, IsAbove}
 use Rattle.po_accepted.specs.Calls.{IsQueued, call_at, key_of, of_key}
 use Rattle.po_accepted.proofs.HandSteps.{changed}
 use Rattle.po_accepted.proofs.KeptSteps.{kept_call, kept_changed}
+use Rattle.po_accepted.proofs.CallSteps.{reserved_kept}
 use Rattle.po_accepted.proofs.calls.Calls.requeue.Goals as goal
 
 pub invariant_of-self : goal.invariant_of-self
@@ -21,16 +22,16 @@ invariant_of-self g c =
     record {
       queued = subst (IsQueued now ix s.queues) (sym is) queued.0;
       kept = kept_changed s.table.calls c.requeue.new.self.calls k call moved ix s.ended.items at refl u i.kept;
-      last = subst (λ last. IsAbove last (s.first + vec_len s.keys)) (sym c.requeue.ensures.room.last) i.last;
+      last = subst (λ last. IsAbove last (s.next)) (sym c.requeue.ensures.room.last) i.last;
       numbers = i.numbers;
       ended_before = i.ended_before;
       each = i.each;
+      shown = i.shown;
+      few = omega (arith, i.few, c.requeue.ensures.room.len);
+      room = omega (arith, i.room, c.requeue.ensures.room.capacity);
+      reserved = reserved_kept s.is_fixed s.table.calls c.requeue.new.self.calls s.queues.reserved s.most c.requeue.ensures.room.len c.requeue.ensures.room.capacity c.requeue.ensures.room.vacant_key i.reserved;
       for_ended = i.for_ended;
-      room = λ h. let r = i.room h in record {
-        table = omega (arith, r.table, c.requeue.ensures.room.len, c.requeue.ensures.room.capacity);
-        key = omega (arith, r.key, c.requeue.ensures.room.vacant_key);
-        index = r.index;
-      };
+      for_all = i.for_all;
     }
 
 pub returns-clause-after : goal.returns-clause-after

@@ -1,7 +1,7 @@
 use Rattle.std.proofs.Common.{refl, sym, ◌∙◌}
 use Rattle.po_accepted.specs.Calls.{call_at, key_of}
 use Rattle.po_accepted.proofs.HandSteps.{no_hand, oldest_taken, not_none}
-use Rattle.po_accepted.proofs.KeptSteps.{taken_in_hand}
+use Rattle.po_accepted.proofs.CallSteps.{taken_in_hand}
 use Rattle.po_accepted.proofs.calls.Calls.take_oldest.Goals as goal
 
 pub invariant_of-self : goal.invariant_of-self
@@ -11,7 +11,7 @@ invariant_of-self g c =
     let r = rw (← c.self.view_is) at c.requires.hand in
     let none = no_hand f ix s.queues s.hand i.queued r in
     let taken = oldest_taken f ix s.queues s.hand c.in_ok-key.key c.recall_invariant.ensures i.queued (sym c.in_ok-key.ensures) in
-    rw c.remove.ensures.others (taken_in_hand s.table s.queues s.keys s.ended s.first s.hand s.has_room c.in_ok-key.key c.recall_invariant.ensures taken.has none i)
+    rw c.remove.ensures.others (taken_in_hand s.table s.queues s.keys.items s.ended.items s.before.items s.ended_now s.first s.next s.hand s.most s.is_fixed c.in_ok-key.key c.recall_invariant.ensures taken.has none i)
 
 pub returns-clause-found : goal.returns-clause-found
 returns-clause-found g c =

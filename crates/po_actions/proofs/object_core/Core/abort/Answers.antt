@@ -15,21 +15,21 @@ invariant_of-self g c =
 pub invariant_of-self-2 : goal.invariant_of-self-2
 invariant_of-self-2 g c =
     let old = c.self.inside.recorded in
-    let found : Some c.in-Some.call ≡ find (has_number c.args.n) old.object.state.waiting = rw c.state.ensures at c.in-Some.ensures in
+    let found : Some c.in-Some.call ≡ find (has_number c.args.n) old.object.state.waiting = c.in-Some.ensures in
     let k = marks g.U.Unit.meaning old.object c.abort-2.new.self.object c.args.n c.in-Some.call found c.if-not-call.false c.if-call.false c.self.invariant.rest c.abort-2.ensures.begins in
     record { rest = k.rest; issued = issued_begun g.U.Unit.meaning g.met.U.Unit.lawful old c.abort-2.new.self (Abort c.args.n) c.abort-2.ensures.begins c.abort-2.ensures.tickets c.self.invariant.issued }
 
 pub returns-clause-after : goal.returns-clause-after
 returns-clause-after g c =
     let old = c.self.inside.recorded in
-    let found : Some c.in-Some.call ≡ find (has_number c.args.n) old.object.state.waiting = rw c.state.ensures at c.in-Some.ensures in
+    let found : Some c.in-Some.call ≡ find (has_number c.args.n) old.object.state.waiting = c.in-Some.ensures in
     let k = marks g.U.Unit.meaning old.object c.abort-2.new.self.object c.args.n c.in-Some.call found c.if-not-call.false c.if-call.false c.self.invariant.rest c.abort-2.ensures.begins in
     rw (← c.self.view_is) (same_core c.abort-2.new.self (record old { object = after_abort g.U.Unit.meaning old.object c.args.n }) k.after c.abort-2.ensures.tickets)
 
 pub returns-clause-action : goal.returns-clause-action
 returns-clause-action g c =
     let old = c.self.inside.recorded in
-    let found : Some c.in-Some.call ≡ find (has_number c.args.n) old.object.state.waiting = rw c.state.ensures at c.in-Some.ensures in
+    let found : Some c.in-Some.call ≡ find (has_number c.args.n) old.object.state.waiting = c.in-Some.ensures in
     let k = marks g.U.Unit.meaning old.object c.abort-2.new.self.object c.args.n c.in-Some.call found c.if-not-call.false c.if-call.false c.self.invariant.rest c.abort-2.ensures.begins in
     rw (← c.self.view_is) k.action
 

@@ -7,4 +7,4 @@ pub returns : goal.returns
 returns g c =
     let m = g.U.Unit.meaning in
     let a = c.self.inside in
-    subst (IsSound m) (ap (λ seen. seen.object) c.self.view_is) (sound m g.met.U.Unit.lawful (record { making = a.making; base = a.base; events = a.history.events; state = a.state.state; ended_before = a.ended_before }) c.self.invariant.history)
+    subst (IsSound m) (ap (λ seen. seen.object) c.self.view_is) (sound m g.met.U.Unit.lawful (record { making = a.making; base = a.base; events = a.history.events; state = a.state.state; ended_before = a.state.before }) c.self.invariant.kept.history)

@@ -2,7 +2,8 @@ use Rattle.std.proofs.Common.{◌≡◌, ap, sym, subst, ◌∙◌, ◌-◌, ◌
 use Rattle.std.specs.List.{find, count_by}
 use Rattle.po_accepted.specs.WaitingCalls.{has_number}
 use Rattle.po_actions.specs.Arrival.{AreAt}
-use Rattle.po_actions.specs.StateView.{state_with_calls, AreLow}
+use Rattle.po_actions.specs.StateView.{AreLow}
+use Rattle.po_actions.specs.StateView.{state_with_calls}
 use Rattle.po_actions.specs.Pick.{owed}
 use Rattle.po_actions.proofs.Owing.{owed_marked, low_marked, abort_again}
 use Rattle.po_actions.proofs.PlaceSteps.{at_marked}
@@ -13,8 +14,8 @@ overflow_sub-self g c =
     let i = c.self.inside in
     let s = state_with_calls i.unit i.calls i.finalized in
     let x = c.in-Some.call in
-    let found = subst (λ v. find (has_number c.args.n) v.state.waiting ≡ Some x) (sym c.self.view_is) (sym c.waiting_call.ensures ∙ c.in-Some.is) in
-    omega (arith, owed_marked g.U.Unit.meaning s c.args.n x found c.if-not-call-2.true (c.recall_invariant.ensures.once c.args.n), c.self.invariant.owed)
+    let found = subst (λ v. find (has_number c.args.ticket.number) v.state.waiting ≡ Some x) (sym c.self.view_is) (sym (rw c.requires.live at c.waiting_call.ensures) ∙ c.in-Some.is) in
+    omega (arith, owed_marked g.U.Unit.meaning s c.args.ticket.number x found c.if-not-call-2.true (c.recall_invariant.ensures.sound.once c.args.ticket.number), c.self.invariant.owed)
 
 pub invariant_of-self : goal.invariant_of-self
 invariant_of-self g c =
@@ -22,23 +23,23 @@ invariant_of-self g c =
     let m = g.U.Unit.meaning in
     let s = state_with_calls i.unit i.calls i.finalized in
     let x = c.in-Some.call in
-    let found = subst (λ v. find (has_number c.args.n) v.state.waiting ≡ Some x) (sym c.self.view_is) (sym c.waiting_call.ensures ∙ c.in-Some.is) in
+    let found = subst (λ v. find (has_number c.args.ticket.number) v.state.waiting ≡ Some x) (sym c.self.view_is) (sym (rw c.requires.live at c.waiting_call.ensures) ∙ c.in-Some.is) in
     let marked = sym (ap (λ v. v.waiting) c.mark.ensures) in
     record {
       total = ap (λ v. v.total) c.mark.ensures ∙ c.self.invariant.total;
-      owed = subst (λ xs. i.owed - 1 ≡ owed m (record s { waiting = xs })) marked (omega (arith, owed_marked m s c.args.n x found c.if-not-call-2.true (c.recall_invariant.ensures.once c.args.n), c.self.invariant.owed));
-      ranks = subst (AreLow m) marked (low_marked m c.args.n i.calls.waiting c.self.invariant.ranks);
+      owed = subst (λ xs. i.owed - 1 ≡ owed m (record s { waiting = xs })) marked (omega (arith, owed_marked m s c.args.ticket.number x found c.if-not-call-2.true (c.recall_invariant.ensures.sound.once c.args.ticket.number), c.self.invariant.owed));
+      ranks = subst (AreLow m) marked (low_marked m c.args.ticket.number i.calls.waiting c.self.invariant.ranks);
     }
 
 pub returns-then-not-call-2-clause-places : goal.returns-then-not-call-2-clause-places
 returns-then-not-call-2-clause-places g c = λ f at.
     let i = c.self.inside in
     let before = subst (λ v. AreAt f v.state.waiting v.places) (sym c.self.view_is) at in
-    subst (λ v. AreAt f v.waiting v.places) (sym c.mark.ensures) (at_marked f c.args.n i.calls.waiting i.calls.places before)
+    subst (λ v. AreAt f v.waiting v.places) (sym c.mark.ensures) (at_marked f c.args.ticket.number i.calls.waiting i.calls.places before)
 
 pub returns-else-not-call-2-clause-state : goal.returns-else-not-call-2-clause-state
 returns-else-not-call-2-clause-state g c =
     let now = c.args.self.now in
-    let found = sym c.waiting_call.ensures ∙ c.in-Some.is in
-    let once = subst (λ v. count_by (has_number c.args.n) v.state.waiting ≤ 1) c.self.view_is (c.recall_invariant.ensures.once c.args.n) in
-    ap (λ t. record now { state = t }) (sym (abort_again now.state c.args.n c.in-Some.call found c.if-not-call.false c.if-not-call-2.false once))
+    let found = sym (rw c.requires.live at c.waiting_call.ensures) ∙ c.in-Some.is in
+    let once = subst (λ v. count_by (has_number c.args.ticket.number) v.state.waiting ≤ 1) c.self.view_is (c.recall_invariant.ensures.sound.once c.args.ticket.number) in
+    ap (λ t. record now { state = t }) (sym (abort_again now.state c.args.ticket.number c.in-Some.call found c.if-not-call.false c.if-not-call-2.false once))

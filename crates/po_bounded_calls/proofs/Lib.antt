@@ -1,3 +1,0 @@
-pub mod BoundedSteps
-pub mod Live
-pub mod TicketSteps
