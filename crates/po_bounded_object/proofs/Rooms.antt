@@ -3,7 +3,7 @@ use Rattle.std.proofs.Common.{◌≡◌, ◌≢◌, ℕ, zero, suc, ◌+◌, Lis
 use Rattle.std.proofs.lemmas.List.Sums.{sum_by-cons}
 use Rattle.po_accepted.specs.Tickets.{number_at, SetsTicket}
 use Rattle.po_actions.specs.Tickets.{AreIssued}
-use Rattle.po_bounded_calls.specs.Bounded.{uncollected}
+use Rattle.po_accepted.specs.Tickets.{uncollected}
 use Rattle.po_machine.specs.MachineView.{MachineView, core_of}
 
 -- one, where there is a ticket

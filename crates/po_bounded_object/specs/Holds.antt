@@ -1,6 +1,6 @@
 -- How many calls may yet be issued from the passes of an object with fixed memory (this project's own).
 use Rattle.std.specs.Prelude.{ℕ, ◌≤◌, ◌+◌}
-use Rattle.po_bounded_calls.specs.Bounded.{uncollected}
+use Rattle.po_accepted.specs.Tickets.{uncollected}
 use Rattle.po_machine.specs.MachineView.{MachineView}
 use Rattle.po_machine.specs.declared.call_refusal.CallRefusal.{CallRefusal}
 use Rattle.po_machine.specs.declared.call_refusal.CallRefusal.TheVariants.{Refused, TooManyCalls}

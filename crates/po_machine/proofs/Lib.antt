@@ -1,4 +1,2 @@
-pub mod FirstDue
 pub mod MachineHistories
-pub mod Owed
 pub mod Views

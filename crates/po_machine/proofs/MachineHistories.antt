@@ -1,5 +1,5 @@
 -- What an object with fixed memory keeps of its history begins, and goes on by one event.
-use Rattle.std.proofs.Common.{◌≡◌, length-append, ℕ, ◌<◌, ◌≤◌, ◌+◌, List, [], ◌∷◌, ◌++◌, length, Option, None, Some, refl, subst, ap, sym, ◌∙◌, arith}
+use Rattle.std.proofs.Common.{◌≡◌, length-append, ℕ, true, ◌<◌, ◌≤◌, ◌+◌, List, [], ◌∷◌, ◌++◌, length, Option, None, Some, refl, subst, ap, sym, ◌∙◌, arith}
 use Rattle.std.specs.List.{All}
 use Rattle.po_unit.specs.Meaning.{Meaning, IsLawful}
 use Rattle.po_index.specs.Numbering.{entry_count}
@@ -21,12 +21,12 @@ use Rattle.po_actions.proofs.PlacesKept.{arrived_by, places_go_on, places_all, a
 use Rattle.po_actions.proofs.Settling.{last-push}
 use Rattle.po_actions.proofs.Histories.{history_opens, history_goes_on}
 use Rattle.po_actions.proofs.Ends.{ends_stay}
-use Rattle.po_machine.specs.MachineState.{MachineStateView}
+use Rattle.po_actions.specs.StateView.{StateView}
 use Rattle.po_machine.specs.MachineHistory.{IsTraced, ArePlaces, opening_of}
 
 module _ {S V : Type 0} (m : Meaning S V) (making : Making S) where
   -- what an object keeps goes on by one event
-  pub traced_on : (b : Base S V) (p r : MachineStateView S V) (es : List (Event V)) (k : ℕ) (last : Option ℕ) (e : Event V) → IsTraced m making b p es k last
+  pub traced_on : (b : Base S V) (p r : StateView S V) (es : List (Event V)) (k : ℕ) (last : Option ℕ) (e : Event V) → IsTraced m making b p es k last
       → Needs m p.state e → NamesPublic making.shape e → r.state ≡ step m making.max_queue p.state e → r.hand ≡ None
       → AreAt (noted (arrived_by m making b p.state es) k (call_of p.state e)) r.state.waiting r.places
       → ArePlaces (k + 1) (owed m r.state) r.state.next → r.state.next ≤ 18_446_744_073_709_551_615
@@ -43,19 +43,19 @@ module _ {S V : Type 0} (m : Meaning S V) (making : Making S) where
       }
 
   -- the event that is picked fits
-  pub traced_fits : IsLawful m → (b : Base S V) (p : MachineStateView S V) (es : List (Event V)) (k : ℕ) (last : Option ℕ) (e : Event V) → IsTraced m making b p es k last
+  pub traced_fits : IsLawful m → (b : Base S V) (p : StateView S V) (es : List (Event V)) (k : ℕ) (last : Option ℕ) (e : Event V) → IsTraced m making b p es k last
       → pick m making.order last p.state ≡ Some e → Fits m p.state e
   traced_fits law b p es k last e kept is =
       pick_fits m law making.max_queue (entry_count making.shape) making.first_number p.state (well m law making b p.state es kept.history) making.order last e is
 
   -- where none is picked, the object is at rest
-  pub traced_rests : IsLawful m → (b : Base S V) (p : MachineStateView S V) (es : List (Event V)) (k : ℕ) (last : Option ℕ) → IsTraced m making b p es k last
+  pub traced_rests : IsLawful m → (b : Base S V) (p : StateView S V) (es : List (Event V)) (k : ℕ) (last : Option ℕ) → IsTraced m making b p es k last
       → pick m making.order last p.state ≡ None → IsAtRest m p.state
   traced_rests law b p es k last kept is =
       pick_none_rests m law making.max_queue (entry_count making.shape) making.first_number p.state (well m law making b p.state es kept.history) making.order last is
 
   -- what an object keeps goes on by an event that fits
-  pub traced_in : IsLawful m → (b : Base S V) (p r : MachineStateView S V) (es : List (Event V)) (k : ℕ) (last : Option ℕ) (e : Event V) → IsTraced m making b p es k last
+  pub traced_in : IsLawful m → (b : Base S V) (p r : StateView S V) (es : List (Event V)) (k : ℕ) (last : Option ℕ) (e : Event V) → IsTraced m making b p es k last
       → Fits m p.state e → r ≡ record p { state = step m making.max_queue p.state e; places = r.places }
       → AreAt (noted (arrived_by m making b p.state es) k (call_of p.state e)) r.state.waiting r.places
       → IsTraced m making b r (es ++ e ∷ []) (k + 1) (served_last last e)
@@ -67,7 +67,7 @@ module _ {S V : Type 0} (m : Meaning S V) (making : Making S) where
       (omega (arith, less, kept.fits, next)) (omega (arith, kept.numbers, next))
 
   -- what an object keeps goes on by a command's own event that issues no call, and after which no more events may follow than before
-  pub traced_own : (b : Base S V) (p r : MachineStateView S V) (es : List (Event V)) (k : ℕ) (last : Option ℕ) (e : Event V) → IsTraced m making b p es k last
+  pub traced_own : (b : Base S V) (p r : StateView S V) (es : List (Event V)) (k : ℕ) (last : Option ℕ) (e : Event V) → IsTraced m making b p es k last
       → Needs m p.state e → NamesPublic making.shape e → r.state ≡ step m making.max_queue p.state e → r.hand ≡ p.hand
       → AreAt (noted (arrived_by m making b p.state es) k (call_of p.state e)) r.state.waiting r.places
       → r.state.next ≡ p.state.next → ArePlaces (k + 1) (owed m r.state) p.state.next
@@ -76,7 +76,7 @@ module _ {S V : Type 0} (m : Meaning S V) (making : Making S) where
       traced_on b p r es k last e kept need named is (hand ∙ kept.idle) at (omega (arith, fits, next)) (omega (arith, kept.numbers, next))
 
   -- what an object keeps goes on by a call that is issued
-  pub traced_issue : IsLawful m → (b : Base S V) (p r : MachineStateView S V) (es : List (Event V)) (k : ℕ) (last : Option ℕ) (owner e : ℕ) (v : V) (d : Deadline) → IsTraced m making b p es k last
+  pub traced_issue : IsLawful m → (b : Base S V) (p r : StateView S V) (es : List (Event V)) (k : ℕ) (last : Option ℕ) (owner e : ℕ) (v : V) (d : Deadline) → IsTraced m making b p es k last
       → Needs m p.state (Issue p.state.next owner e v d) → NamesPublic making.shape (Issue p.state.next owner e v d) → r.state ≡ step m making.max_queue p.state (Issue p.state.next owner e v d) → r.hand ≡ None
       → AreAt (noted (arrived_by m making b p.state es) k (Some p.state.next)) r.state.waiting r.places
       → m.rank e v ≤ 255 → p.state.next < 18_446_744_073_709_551_615
@@ -88,8 +88,8 @@ module _ {S V : Type 0} (m : Meaning S V) (making : Making S) where
 
   -- what an object that was just made keeps
   pub traced_opens : m.entries making.opening ≡ entry_count making.shape → making.first_place < 18_446_744_073_709_551_616 → making.first_number < 18_446_744_073_709_551_616
-      → (s : MachineStateView S V) (most : ℕ)
-      → s ≡ record { state = opening_state making.opening making.first_number; places = []; hand = None; tickets = []; most = most; before = 0 }
+      → (s : StateView S V) (most : ℕ)
+      → s ≡ record { state = opening_state making.opening making.first_number; places = []; hand = None; tickets = []; keys = []; first = making.first_number; most = most; is_fixed = true; before = 0 }
       → IsTraced m making (opening_of making) s [] making.first_place None
   traced_opens shaped low_place low s most is = rw is (record {
     history = history_opens m making shaped;
@@ -102,7 +102,7 @@ module _ {S V : Type 0} (m : Meaning S V) (making : Making S) where
   })
 
   -- of what is seen of the state only this is read
-  pub traced_same : (b : Base S V) (p r : MachineStateView S V) (es : List (Event V)) (k : ℕ) (last : Option ℕ) → r.state ≡ p.state → r.places ≡ p.places → r.hand ≡ p.hand
+  pub traced_same : (b : Base S V) (p r : StateView S V) (es : List (Event V)) (k : ℕ) (last : Option ℕ) → r.state ≡ p.state → r.places ≡ p.places → r.hand ≡ p.hand
       → IsTraced m making b p es k last → IsTraced m making b r es k last
   traced_same b p r es k last state places hand kept = record {
     history = subst (λ s. IsHistory m making b s es) (sym state) kept.history;
@@ -115,17 +115,17 @@ module _ {S V : Type 0} (m : Meaning S V) (making : Making S) where
   }
 
   -- there is a place for an inner event
-  pub traced_room : IsLawful m → (b : Base S V) (p : MachineStateView S V) (es : List (Event V)) (k : ℕ) (last : Option ℕ) (e : Event V) → IsTraced m making b p es k last
+  pub traced_room : IsLawful m → (b : Base S V) (p : StateView S V) (es : List (Event V)) (k : ℕ) (last : Option ℕ) (e : Event V) → IsTraced m making b p es k last
       → Fits m p.state e → k + 1 < 340_282_366_920_938_463_463_374_607_431_768_211_456
   traced_room law b p es k last e kept fits = omega (arith, owed_falls m law making.max_queue p.state e fits, kept.fits, kept.numbers)
 
   -- and for a command's own
-  pub traced_place : (b : Base S V) (p : MachineStateView S V) (es : List (Event V)) (k : ℕ) (last : Option ℕ) → IsTraced m making b p es k last
+  pub traced_place : (b : Base S V) (p : StateView S V) (es : List (Event V)) (k : ℕ) (last : Option ℕ) → IsTraced m making b p es k last
       → k + 1 < 340_282_366_920_938_463_463_374_607_431_768_211_456
   traced_place b p es k last kept = omega (arith, kept.fits, kept.numbers)
 
   -- each waiting call arrived before the present
-  pub traced_later : (law : IsLawful m) (b : Base S V) (s : MachineStateView S V) (es : List (Event V)) (place : ℕ) (last : Option ℕ) → IsTraced m making b s es place last → All (λ k. k < place) s.places
+  pub traced_later : (law : IsLawful m) (b : Base S V) (s : StateView S V) (es : List (Event V)) (place : ℕ) (last : Option ℕ) → IsTraced m making b s es place last → All (λ k. k < place) s.places
   traced_later law b s es place last kept =
       subst (λ i. All (λ k. k < i) s.places) (sym kept.place)
       (places_all (λ k. k < b.place + length es) (arrived_by m making b s.state es) s.state.waiting s.places kept.placed (arrived_earlier m making law b s.state es kept.history))

@@ -1,4 +1,3 @@
-pub mod MachineState
 pub mod MachineHistory
 pub mod MachineView
 pub mod MachineRefusals

@@ -7,7 +7,7 @@ use Rattle.po_actions.specs.Base.{Base, opening_base, state_at, arrived}
 use Rattle.po_actions.specs.Arrival.{AreAt, arrivals}
 use Rattle.po_actions.specs.History.{IsHistory}
 use Rattle.po_actions.specs.Pick.{owed, last_from}
-use Rattle.po_machine.specs.MachineState.{MachineStateView}
+use Rattle.po_actions.specs.StateView.{StateView}
 
 -- the base of an object with fixed memory: its opening, as its history is never cut
 abbrev pub opening_of : {S V : Type 0} → Making S → Base S V
@@ -20,7 +20,7 @@ ArePlaces place owed next = place + owed + 4_777_706_715_090_773_868_544 ≤ 170
 
 -- What an object keeps in the middle of a protected action: its history from the opening; the place of the next event, and
 -- that the places of those that may follow fit; where each waiting call arrived; the entry that was served last.
-pub record IsTraced {S V : Type 0} (m : Meaning S V) (making : Making S) (b : Base S V) (s : MachineStateView S V) (events : List (Event V)) (next : ℕ) (served : Option ℕ) : Type 0 where
+pub record IsTraced {S V : Type 0} (m : Meaning S V) (making : Making S) (b : Base S V) (s : StateView S V) (events : List (Event V)) (next : ℕ) (served : Option ℕ) : Type 0 where
   pub history : IsHistory m making b s.state events
   pub last : served ≡ last_from b.last events
   pub placed : AreAt (arrivals m making.max_queue (state_at b s.state.ended) b.place (arrived b) events) s.state.waiting s.places

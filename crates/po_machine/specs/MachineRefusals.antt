@@ -4,7 +4,7 @@ use Rattle.std.specs.Prelude.{ℕ, Bool, Option, Some, None, nat_le, if◌then�
 use Rattle.po_index.specs.declared.decl.EntryRef.{EntryRef}
 use Rattle.po_calls.specs.declared.end.Place.{Place}
 use Rattle.po_calls.specs.declared.end.Place.TheVariants.{Unknown, Waiting, Ended}
-use Rattle.po_bounded_calls.specs.Bounded.{uncollected}
+use Rattle.po_accepted.specs.Tickets.{uncollected}
 use Rattle.po_actions.specs.declared.refusal.Refusal.{Refusal}
 use Rattle.po_actions.specs.declared.refusal.Refusal.TheVariants.{UnknownCall, AlreadyEnded}
 use Rattle.po_actions.specs.RefusalNumbers.{refusal_number}

@@ -3,7 +3,6 @@
 
 mod call_refusal;
 mod machine;
-mod state;
 mod traced_object;
 
 pub use call_refusal::CallRefusal;

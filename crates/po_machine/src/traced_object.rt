@@ -4,7 +4,7 @@ ghost use Rattle.std.specs.Prelude.{◌≡◌, ◌<◌, ◌≤◌, [], None, Som
 ghost use Rattle.po_index.specs.Numbering.{entry_count, is_public};
 ghost use Rattle.po_accepted.specs.WaitingCalls.{has_number};
 ghost use Rattle.po_accepted.specs.Finding.{IsFound};
-ghost use Rattle.po_accepted.specs.Tickets.{number_at, SetsTicket, is_live};
+ghost use Rattle.po_accepted.specs.Tickets.{number_at, SetsTicket, is_live, uncollected};
 ghost use Rattle.po_actions.specs.ObjectState.{IsAtRest, counts_in};
 ghost use Rattle.po_actions.specs.Step.{MayBegin};
 ghost use Rattle.po_actions.specs.Pick.{pick, served_last, weight};
@@ -13,13 +13,11 @@ ghost use Rattle.po_actions.specs.Progress.{Settles, Begins, Happens, IsSameComm
 ghost use Rattle.po_actions.specs.ProtectedAction.{settled, without_event};
 ghost use Rattle.po_actions.specs.Tickets.{place_of_ticket, end_of_ticket};
 ghost use Rattle.po_actions.specs.Headline.{IsSound};
-ghost use Rattle.po_bounded_calls.specs.Bounded.{uncollected};
 ghost use Rattle.po_machine.specs.MachineView.{core_of};
 ghost use Rattle.po_machine.specs.MachineRefusals.{cancel_refusal};
 
-use crate::state::MachineState;
 use po_accepted::Ended;
-use po_actions::{Making, Refusal};
+use po_actions::{Making, Refusal, State};
 use po_calls::{Call, Deadline, End, Place, Ticket};
 use po_history::Event;
 use po_trace::Trace;
@@ -31,7 +29,7 @@ use std::marker::Model;
 #[derive(Drop)]
 pub struct TracedObject<U: Unit> {
     making: Making<U>,
-    state: MachineState<U>,
+    state: State<U>,
     /// All events so far: known to proofs alone.
     events: Trace<Event<U::Value>>,
     /// The place of the next event.
@@ -41,6 +39,7 @@ pub struct TracedObject<U: Unit> {
 }
 
 impl<U: Unit> Model for TracedObject<U> {
+    ghost use Rattle.std.specs.Prelude.{◌≡◌, true};
     ghost use Rattle.po_machine.specs.MachineView.{MachineView};
     ghost use Rattle.po_machine.specs.MachineHistory.{IsTraced, opening_of};
 
@@ -58,7 +57,10 @@ impl<U: Unit> Model for TracedObject<U> {
       most = a.state.most;
     } };
 
-    ghost invariant = { λ a. IsTraced U.meaning a.making (opening_of a.making) a.state a.events.items a.place a.last };
+    ghost invariant = { λ a. record {
+      traced : IsTraced U.meaning a.making (opening_of a.making) a.state a.events.items a.place a.last;
+      fixed : a.state.is_fixed ≡ true;
+    } };
 }
 
 /// The entry that was served last, after one more event.
@@ -89,7 +91,7 @@ impl<U: Unit + Drop> TracedObject<U> {
         ensures { IfOk result (λ a. a ≡ record { object = opening_view making; tickets = []; most = most }) }
     {
         let now = making.opening().copy()?;
-        let state = MachineState::new(alloc, now, making.first_number(), most)?;
+        let state = State::with_capacity(alloc, now, making.first_number(), most)?;
         let place = u128::from(making.first_place());
         Ok(TracedObject {
             making,
@@ -293,7 +295,7 @@ impl<U: Unit> TracedObject<U> {
     }
 
     /// The data of the object and its calls.
-    pub(crate) fn state(&self) -> &MachineState<U>
+    pub(crate) fn state(&self) -> &State<U>
         ensures { result.now.state ≡ self.now.object.state }
     {
         &self.state

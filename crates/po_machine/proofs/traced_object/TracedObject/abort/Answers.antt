@@ -16,7 +16,7 @@ use Rattle.po_machine.proofs.traced_object.TracedObject.abort.Goals as goal
 pub overflow_add-self : goal.overflow_add-self
 overflow_add-self g c =
     let a = c.self.inside in
-    omega (arith, traced_place g.U.Unit.meaning a.making (opening_of a.making) a.state a.events.items a.place a.last c.self.invariant)
+    omega (arith, traced_place g.U.Unit.meaning a.making (opening_of a.making) a.state a.events.items a.place a.last c.self.invariant.traced)
 
 pub invariant_of-self : goal.invariant_of-self
 invariant_of-self g c =
@@ -27,7 +27,7 @@ invariant_of-self g c =
     let es = a.events.items in
     let p = c.begin.new.self in
     let state = ap (λ s. s.state) c.begin.ensures in
-    let kept = traced_same m a.making b a.state p es a.place a.last state (ap (λ s. s.places) c.begin.ensures) (ap (λ s. s.hand) c.begin.ensures) c.self.invariant in
+    let kept = traced_same m a.making b a.state p es a.place a.last state (ap (λ s. s.places) c.begin.ensures) (ap (λ s. s.hand) c.begin.ensures) c.self.invariant.traced in
     let told = sym (ap (λ view. view.object.state) c.self.view_is) ∙ sym state in
     let begin : MayBegin m p.state = subst (MayBegin m) told c.requires.begin in
     let n = c.args.ticket.number in
@@ -37,5 +37,8 @@ invariant_of-self g c =
     let at = c.abort.ensures.places (arrived_by m a.making b p.state es) kept.placed in
     let next = ap (λ s. s.next) is ∙ next_abort m law a.making.max_queue (entry_count a.making.shape) p.state n in
     let less : owed m r.state + 1 ≤ owed m p.state = rw is (owed_abort m law a.making.max_queue p.state n found) in
-    rw c.then-self-inside.ensures (traced_own m a.making b p r es a.place a.last (Abort n) kept (begin, found) tt is (ap (λ s. s.hand) c.abort.ensures.state) at next
-    (omega (arith, less, kept.fits)))
+    record {
+      traced = rw c.then-self-inside.ensures (traced_own m a.making b p r es a.place a.last (Abort n) kept (begin, found) tt is (ap (λ s. s.hand) c.abort.ensures.state) at next
+    (omega (arith, less, kept.fits)));
+      fixed = ap (λ s. s.is_fixed) c.abort.ensures.state ∙ ap (λ s. s.is_fixed) c.begin.ensures ∙ c.self.invariant.fixed;
+    }

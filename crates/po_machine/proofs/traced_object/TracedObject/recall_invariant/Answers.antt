@@ -8,4 +8,4 @@ pub returns : goal.returns
 returns g c =
     let m = g.U.Unit.meaning in
     let a = c.self.inside in
-    subst (IsSound m) (ap (λ seen. seen.object) c.self.view_is) (sound m g.met.U.Unit.lawful (record { making = a.making; base = opening_of a.making; events = a.events.items; state = a.state.state; ended_before = a.state.before }) c.self.invariant.history)
+    subst (IsSound m) (ap (λ seen. seen.object) c.self.view_is) (sound m g.met.U.Unit.lawful (record { making = a.making; base = opening_of a.making; events = a.events.items; state = a.state.state; ended_before = a.state.before }) c.self.invariant.traced.history)

@@ -12,7 +12,7 @@ use Rattle.po_machine.proofs.traced_object.TracedObject.tick.Goals as goal
 pub overflow_add-self : goal.overflow_add-self
 overflow_add-self g c =
     let a = c.self.inside in
-    omega (arith, traced_place g.U.Unit.meaning a.making (opening_of a.making) a.state a.events.items a.place a.last c.self.invariant)
+    omega (arith, traced_place g.U.Unit.meaning a.making (opening_of a.making) a.state a.events.items a.place a.last c.self.invariant.traced)
 
 pub invariant_of-self : goal.invariant_of-self
 invariant_of-self g c =
@@ -23,7 +23,7 @@ invariant_of-self g c =
     let es = a.events.items in
     let p = c.begin.new.self in
     let state = ap (λ s. s.state) c.begin.ensures in
-    let kept = traced_same m a.making b a.state p es a.place a.last state (ap (λ s. s.places) c.begin.ensures) (ap (λ s. s.hand) c.begin.ensures) c.self.invariant in
+    let kept = traced_same m a.making b a.state p es a.place a.last state (ap (λ s. s.places) c.begin.ensures) (ap (λ s. s.hand) c.begin.ensures) c.self.invariant.traced in
     let told = sym (ap (λ view. view.object.state) c.self.view_is) ∙ sym state in
     let begin : MayBegin m p.state = subst (MayBegin m) told c.requires.begin in
     let place = subst (λ v. next_place v < 18_446_744_073_709_551_615) (sym (ap (λ view. view.object) c.self.view_is)) c.requires.place in
@@ -31,5 +31,8 @@ invariant_of-self g c =
     let is = ap (λ s. s.state) c.tick.ensures in
     let at = subst (λ s. AreAt (arrived_by m a.making b p.state es) s.state.waiting s.places) (sym c.tick.ensures) kept.placed in
     let same : owed m r.state ≡ owed m a.state.state = ap (owed m) is ∙ ap (owed m) state in
-    rw c.then-self-inside.ensures (traced_own m a.making b p r es a.place a.last (Tick c.args.t) kept begin tt is (ap (λ s. s.hand) c.tick.ensures) at (ap (λ s. s.next) is)
-    (omega (arith, same, c.recall_invariant.ensures, kept.place, place)))
+    record {
+      traced = rw c.then-self-inside.ensures (traced_own m a.making b p r es a.place a.last (Tick c.args.t) kept begin tt is (ap (λ s. s.hand) c.tick.ensures) at (ap (λ s. s.next) is)
+    (omega (arith, same, c.recall_invariant.ensures.few, kept.place, place)));
+      fixed = ap (λ s. s.is_fixed) c.tick.ensures ∙ ap (λ s. s.is_fixed) c.begin.ensures ∙ c.self.invariant.fixed;
+    }
