@@ -34,15 +34,15 @@ book_sync T g = record { shared = λ d b o κ q. whole-keyless _ _ (λ z vs. (bo
 pub share_sync : (T : RattleType) (g : Ghosts T.Denot) → IsSync (Share.the_row T g)
 share_sync T g = record { shared = λ d b o κ q. whole-keyless _ _ (λ z vs. (share.the_send T g).owned z vs) q d b o }
 
-pub hold_sync : (U C P V : RattleType) (g : Unit.Ghosts U.Denot V.Denot) (e : PartialEq.Ghosts V.Denot) (l : CallLedger.Ghosts C.Denot) (g' : Ghosts C.Denot) (g'' : Ghosts P.Denot) → IsSync U → IsSync V → IsSync (Hold.the_row U C P V g e l g' g'')
-hold_sync U C P V g e l g' g'' s v = search (sendable, core.the_sync, book_sync, share_sync, latest.the_sync) depth 14
+pub hold_sync : (U C P V : RattleType) (g : Unit.Ghosts U.Denot V.Denot) (e : PartialEq.Ghosts V.Denot) (l : CallLedger.Ghosts C.Denot) (g' : Ghosts C.Denot) (g'' : Ghosts P.Denot) → IsSend U → IsSync U → IsSend V → IsSync V → IsSync (Hold.the_row U C P V g e l g' g'')
+hold_sync U C P V g e l g' g'' n s w v = search (sendable, core.the_sync, book_sync, share_sync, latest.the_sync) depth 14
 
 pub object_sync : (U C P V : RattleType) (g : Ghosts C.Denot) (g' : Ghosts P.Denot) (g'' : Unit.Ghosts U.Denot V.Denot) (e : PartialEq.Ghosts V.Denot) (l : CallLedger.Ghosts C.Denot) → IsSend U → IsSync U → IsSend V → IsSync V → IsSync (Object.the_row U C P V g g' g'' e l)
 object_sync U C P V g g' g'' e l n s w v =
     Send.view_sync (Inside.the_row U C P V g g' g'' e l) _ _ _ _
     (Send.recorded_sync (Inside.the_field U C P V g g' g'' e l).row _ _ (Inside.the_type U C P V g g' g'' e l).to_one
     (Send.struct_sync (Declared.shape (Inside.the_type U C P V g g' g'' e l)) (
-      lock.the_field_sync (Hold.the_row U C P V g'' e l g g') (hold.the_send U C P V g'' e l g g' n w) (hold_sync U C P V g'' e l g g' s v),
+      lock.the_field_sync (Hold.the_row U C P V g'' e l g g') (hold.the_send U C P V g'' e l g g' n w) (hold_sync U C P V g'' e l g g' n s w v),
       (
         vec.the_sync Seat.the_row Global.the_row Heap.ghosts seat.the_sync global.the_sync,
         (
