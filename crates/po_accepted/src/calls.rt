@@ -430,7 +430,11 @@ impl<V: Copy> Calls<V> {
         ensures left { IfNone result (self.new ≡ self.old) }
     {
         let end = self.table.collect(ticket)?;
-        self.most = if self.is_fixed { self.most } else { self.table.len() };
+        self.most = if self.is_fixed {
+            self.most
+        } else {
+            self.table.len()
+        };
         Some(end)
     }
 

@@ -23,4 +23,4 @@ pub use po_history::{Event, Volume};
 pub use queueing::Queueing;
 pub use refusal::{Aborted, Refusal};
 pub use start::Start;
-pub use state::State;
+pub use state::{State, served_by};

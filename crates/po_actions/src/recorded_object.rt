@@ -7,7 +7,7 @@ ghost use Rattle.po_actions.specs.ObjectState.{IsAtRest, counts_in};
 ghost use Rattle.po_actions.specs.Step.{step, MayBegin};
 ghost use Rattle.po_accepted.specs.Ending.{has_ended};
 ghost use Rattle.po_accepted.specs.Finding.{IsFound};
-ghost use Rattle.po_actions.specs.Pick.{pick, served_last, weight};
+ghost use Rattle.po_actions.specs.Pick.{pick, weight};
 ghost use Rattle.po_actions.specs.View.{next_place, last_served, base_state, ended_now, opening_view};
 ghost use Rattle.po_actions.specs.Progress.{Settles, Begins, Happens, IsSameCommand};
 ghost use Rattle.po_actions.specs.ProtectedAction.{settled, without_event};
@@ -20,7 +20,7 @@ ghost use Rattle.po_actions.specs.Cutting.{cut, cut_off, procedures_run, AreVolu
 use crate::base::Base;
 use crate::making::Making;
 use crate::noting::note;
-use crate::state::State;
+use crate::state::{State, served_by};
 use po_accepted::Ended;
 use po_calls::{Call, Deadline, End, Place, Ticket};
 use po_history::{Event, History, Volume};
@@ -68,16 +68,6 @@ impl<U: Unit> Model for RecordedObject<U> {
       kept : IsKept U.meaning a.making a.base a.state a.history a.last a.ran a.state.before;
       recorded : IsRecorded a.state a.keys a.ended a.making.first_number;
     } };
-}
-
-/// The entry that was served last, after one more event.
-fn served_by<V: Copy>(last: Option<u16>, event: Event<V>) -> Option<u16>
-    ensures { result ≡ served_last last event }
-{
-    match event {
-        Event::Serve(e) => Some(e),
-        _ => last,
-    }
 }
 
 /// The ticket that the call with number n got, by the keys of all tickets from that of the first call on.
@@ -169,7 +159,13 @@ impl<U: Unit> RecordedObject<U> {
                 let noted = self.state.ended_now().len();
                 let queueing = self.making.queueing(self.history.place());
                 self.state.perform(queueing, event);
-                note(&mut self.history, &mut self.ended, &self.state, event, noted);
+                note(
+                    &mut self.history,
+                    &mut self.ended,
+                    &self.state,
+                    event,
+                    noted,
+                );
                 self.last = served_by(self.last, event);
                 true
             }

@@ -3,7 +3,7 @@
 ghost use Rattle.std.specs.Prelude.{◌≡◌, ◌<◌, ◌≤◌, ◌+◌, ◌∷◌, ◌++◌, [], ℕ, true, false, count_by, slice_index, map, All, length, drop, nat_lt, Option, None, Some, IfOk, OnOk, OnErr, IsOk, OnSome, IfNone, IsSome, find, option_map, if◌then◌else◌};
 ghost use Rattle.po_accepted.specs.WaitingCalls.{is_on, is_of, has_number, is_due};
 ghost use Rattle.po_actions.specs.ObjectState.{opening_state, counts_in, gate_in};
-ghost use Rattle.po_actions.specs.Pick.{event_of, next_turn, pick, owed, Fits};
+ghost use Rattle.po_actions.specs.Pick.{event_of, next_turn, pick, served_last, owed, Fits};
 ghost use Rattle.po_actions.specs.Step.{enter, cancel, abort, advance, finalize, run_procedure, end_call, end_all, queue, land, run_body, take_out, step, arrive};
 ghost use Rattle.po_actions.specs.Arrival.{AreAt, noted, call_of};
 ghost use Rattle.po_accepted.specs.Tickets.{number_at, SetsTicket, place_among, waiting_among, end_at, is_live, uncollected};
@@ -33,6 +33,16 @@ pub struct State<U: Unit> {
     /// How many further events may come with no further command but a finalization: those that the queued calls may need,
     /// and the finalization.
     owed: u128,
+}
+
+/// The entry that was served last, after one more event.
+pub fn served_by<V: Copy>(last: Option<u16>, event: Event<V>) -> Option<u16>
+    ensures { result ≡ served_last last event }
+{
+    match event {
+        Event::Serve(e) => Some(e),
+        _ => last,
+    }
 }
 
 impl<U: Unit> Model for State<U> {

@@ -7,7 +7,7 @@ ghost use Rattle.po_accepted.specs.Finding.{IsFound};
 ghost use Rattle.po_accepted.specs.Tickets.{number_at, SetsTicket, is_live, uncollected};
 ghost use Rattle.po_actions.specs.ObjectState.{IsAtRest, counts_in};
 ghost use Rattle.po_actions.specs.Step.{MayBegin};
-ghost use Rattle.po_actions.specs.Pick.{pick, served_last, weight};
+ghost use Rattle.po_actions.specs.Pick.{pick, weight};
 ghost use Rattle.po_actions.specs.View.{next_place, last_served, ended_now, opening_view};
 ghost use Rattle.po_actions.specs.Progress.{Settles, Begins, Happens, IsSameCommand};
 ghost use Rattle.po_actions.specs.ProtectedAction.{settled, without_event};
@@ -17,7 +17,7 @@ ghost use Rattle.po_machine.specs.MachineView.{core_of};
 ghost use Rattle.po_machine.specs.MachineRefusals.{cancel_refusal};
 
 use po_accepted::Ended;
-use po_actions::{Making, Refusal, State};
+use po_actions::{Making, Refusal, State, served_by};
 use po_calls::{Call, Deadline, End, Place, Ticket};
 use po_history::Event;
 use po_trace::Trace;
@@ -61,16 +61,6 @@ impl<U: Unit> Model for TracedObject<U> {
       traced : IsTraced U.meaning a.making (opening_of a.making) a.state a.events.items a.place a.last;
       fixed : a.state.is_fixed ≡ true;
     } };
-}
-
-/// The entry that was served last, after one more event.
-fn served_by<V: Copy>(last: Option<u16>, event: Event<V>) -> Option<u16>
-    ensures { result ≡ served_last last event }
-{
-    match event {
-        Event::Serve(e) => Some(e),
-        _ => last,
-    }
 }
 
 /// A rank is a byte.

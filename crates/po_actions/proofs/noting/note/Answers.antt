@@ -11,7 +11,7 @@ note_ends-requires-clause-once g c =
     let s = c.args.state.now in
     let noted = c.args.noted in
     let whole : c.args.ended.now.items ++ take (length c.ended_now.result.now - noted) (drop noted c.ended_now.result.now) ≡ s.state.ended =
-        ap₂ (λ l n. l ++ take (length n - noted) (drop noted n)) c.requires.shown c.ended_now.ensures ∙ rest_noted s.state.ended s.before noted (vec_len c.args.ended.now) c.requires.noted c.requires.before in
+    ap₂ (λ l n. l ++ take (length n - noted) (drop noted n)) c.requires.shown c.ended_now.ensures ∙ rest_noted s.state.ended s.before noted (vec_len c.args.ended.now) c.requires.noted c.requires.before in
     λ n. subst (λ l. count_by (has_ended n) l ≤ 1) (sym whole) (c.requires.once n)
 
 pub note_ends-requires-clause-calls : goal.note_ends-requires-clause-calls
@@ -19,7 +19,7 @@ note_ends-requires-clause-calls g c =
     let s = c.args.state.now in
     let noted = c.args.noted in
     let whole : c.args.ended.now.items ++ take (length c.ended_now.result.now - noted) (drop noted c.ended_now.result.now) ≡ s.state.ended =
-        ap₂ (λ l n. l ++ take (length n - noted) (drop noted n)) c.requires.shown c.ended_now.ensures ∙ rest_noted s.state.ended s.before noted (vec_len c.args.ended.now) c.requires.noted c.requires.before in
+    ap₂ (λ l n. l ++ take (length n - noted) (drop noted n)) c.requires.shown c.ended_now.ensures ∙ rest_noted s.state.ended s.before noted (vec_len c.args.ended.now) c.requires.noted c.requires.before in
     rw (c.release.ensures, c.push_owed.ensures.exact) (subst (All (λ x. IsCallOf c.args.history.now x.number)) (sym whole) c.requires.calls)
 
 pub returns-clause-outcomes : goal.returns-clause-outcomes
@@ -27,5 +27,5 @@ returns-clause-outcomes g c =
     let s = c.args.state.now in
     let noted = c.args.noted in
     let whole : c.args.ended.now.items ++ take (length c.ended_now.result.now - noted) (drop noted c.ended_now.result.now) ≡ s.state.ended =
-        ap₂ (λ l n. l ++ take (length n - noted) (drop noted n)) c.requires.shown c.ended_now.ensures ∙ rest_noted s.state.ended s.before noted (vec_len c.args.ended.now) c.requires.noted c.requires.before in
+    ap₂ (λ l n. l ++ take (length n - noted) (drop noted n)) c.requires.shown c.ended_now.ensures ∙ rest_noted s.state.ended s.before noted (vec_len c.args.ended.now) c.requires.noted c.requires.before in
     subst (AreOutcomes c.note_ends.new.history) (c.note_ends.ensures.ended ∙ whole) c.note_ends.ensures.outcomes

@@ -39,6 +39,6 @@ invariant_of-self g c =
     let less : owed m r.state + 1 ≤ owed m p.state = rw is (owed_abort m law a.making.max_queue p.state n found) in
     record {
       traced = rw c.then-self-inside.ensures (traced_own m a.making b p r es a.place a.last (Abort n) kept (begin, found) tt is (ap (λ s. s.hand) c.abort.ensures.state) at next
-    (omega (arith, less, kept.fits)));
+          (omega (arith, less, kept.fits)));
       fixed = ap (λ s. s.is_fixed) c.abort.ensures.state ∙ ap (λ s. s.is_fixed) c.begin.ensures ∙ c.self.invariant.fixed;
     }

@@ -30,6 +30,6 @@ invariant_of-self g c =
     let at = subst (λ s. AreAt (noted (arrived_by m a.making b p.state es) 0 None) s.state.waiting s.places) (sym c.finalize.ensures) tt in
     record {
       traced = rw c.then-self-inside.ensures (traced_own m a.making b p r es a.place a.last Final kept begin tt is (ap (λ s. s.hand) c.finalize.ensures) at (ap (λ s. s.next) is)
-    (let one : ◌≡◌ {A = ℕ} (cond p.state.finalized 0 1) 1 = ap {B = ℕ} (λ b. cond b 0 1) begin.alive in let none : owed m r.state ≡ 0 = ap (owed m) is in omega (arith, kept.fits, one, none)));
+          (let one : ◌≡◌ {A = ℕ} (cond p.state.finalized 0 1) 1 = ap {B = ℕ} (λ b. cond b 0 1) begin.alive in let none : owed m r.state ≡ 0 = ap (owed m) is in omega (arith, kept.fits, one, none)));
       fixed = ap (λ s. s.is_fixed) c.finalize.ensures ∙ ap (λ s. s.is_fixed) c.begin.ensures ∙ c.self.invariant.fixed;
     }

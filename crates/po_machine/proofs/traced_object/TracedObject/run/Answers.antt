@@ -34,6 +34,6 @@ invariant_of-self g c =
     let same : owed m r.state ≡ owed m a.state.state = ap (owed m) is ∙ ap (owed m) state in
     record {
       traced = rw c.then-self-inside.ensures (traced_own m a.making b p r es a.place a.last (Ran c.args.owner c.args.op c.args.v c.run-reply.result) kept (begin, op, c.run-reply.ensures.reply) tt is (ap (λ s. s.hand) c.run-reply.ensures.state) at (ap (λ s. s.next) is)
-    (omega (arith, same, c.recall_invariant.ensures.few, kept.place, place)));
+          (omega (arith, same, c.recall_invariant.ensures.few, kept.place, place)));
       fixed = ap (λ s. s.is_fixed) c.run-reply.ensures.state ∙ ap (λ s. s.is_fixed) c.begin.ensures ∙ c.self.invariant.fixed;
     }

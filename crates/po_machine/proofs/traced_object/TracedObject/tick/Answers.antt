@@ -33,6 +33,6 @@ invariant_of-self g c =
     let same : owed m r.state ≡ owed m a.state.state = ap (owed m) is ∙ ap (owed m) state in
     record {
       traced = rw c.then-self-inside.ensures (traced_own m a.making b p r es a.place a.last (Tick c.args.t) kept begin tt is (ap (λ s. s.hand) c.tick.ensures) at (ap (λ s. s.next) is)
-    (omega (arith, same, c.recall_invariant.ensures.few, kept.place, place)));
+          (omega (arith, same, c.recall_invariant.ensures.few, kept.place, place)));
       fixed = ap (λ s. s.is_fixed) c.tick.ensures ∙ ap (λ s. s.is_fixed) c.begin.ensures ∙ c.self.invariant.fixed;
     }
