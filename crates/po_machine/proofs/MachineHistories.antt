@@ -1,6 +1,6 @@
 -- What an object with fixed memory keeps of its history begins, and goes on by one event.
 use Rattle.std.proofs.Common.{◌≡◌, length-append, ℕ, true, ◌<◌, ◌≤◌, ◌+◌, List, [], ◌∷◌, ◌++◌, length, Option, None, Some, refl, subst, ap, sym, ◌∙◌, arith}
-use Rattle.std.specs.List.{All}
+use Rattle.std.specs.List.{All, count_by}
 use Rattle.po_unit.specs.Meaning.{Meaning, IsLawful}
 use Rattle.po_index.specs.Numbering.{entry_count}
 use Rattle.po_calls.specs.declared.call.Deadline.{Deadline}
@@ -8,12 +8,13 @@ use Rattle.po_history.specs.declared.event.Event.{Event}
 use Rattle.po_history.specs.declared.event.Event.TheVariants.{Issue}
 use Rattle.po_actions.specs.ObjectState.{opening_state, IsAtRest}
 use Rattle.po_actions.specs.Step.{Needs, step}
-use Rattle.po_actions.specs.Base.{Base, state_with, state_at}
+use Rattle.po_actions.specs.Base.{Base, is_issue, state_with, state_at}
 use Rattle.po_actions.specs.Making.{Making}
 use Rattle.po_actions.specs.Public.{NamesPublic}
 use Rattle.po_actions.specs.History.{IsHistory}
 use Rattle.po_actions.specs.Pick.{owed, served_last, pick, Fits}
 use Rattle.po_actions.specs.Arrival.{AreAt, noted, call_of}
+use Rattle.po_actions.proofs.Counting.{replay-next}
 use Rattle.po_actions.proofs.Wells.{well, next_inner, next-issue}
 use Rattle.po_actions.proofs.Picks.{pick_fits, pick_none_rests, needs_from_fits, public_from_fits}
 use Rattle.po_actions.proofs.Falls.{owed_falls, owed_issue}
@@ -113,6 +114,11 @@ module _ {S V : Type 0} (m : Meaning S V) (making : Making S) where
     numbers = subst (λ s. s.next ≤ 18_446_744_073_709_551_615) (sym state) kept.numbers;
     idle = hand ∙ kept.idle;
   }
+
+  -- the calls that the history issues are numbered from that of the base on
+  pub traced_issued : (b : Base S V) (s : StateView S V) (es : List (Event V)) (k : ℕ) (last : Option ℕ) → IsTraced m making b s es k last
+      → s.state.next ≡ b.next + count_by is_issue es
+  traced_issued b s es k last kept = sym (ap (λ p. p.next) kept.history.leads) ∙ replay-next m making.max_queue (state_at b s.state.ended) es
 
   -- there is a place for an inner event
   pub traced_room : IsLawful m → (b : Base S V) (p : StateView S V) (es : List (Event V)) (k : ℕ) (last : Option ℕ) (e : Event V) → IsTraced m making b p es k last

@@ -1,8 +1,9 @@
 //! A protected object whose memory is fixed, between two protected actions.
 
-ghost use Rattle.std.specs.Prelude.{◌≡◌, ◌≢◌, ◌∷◌, ◌++◌, [], ◌↔◌, slice_index, None, Some, Option, true, IfOk, IfErr, IfNone, OnSome, MatchResult, OnOk, OnErr};
+ghost use Rattle.std.specs.Prelude.{◌≡◌, ◌≢◌, ◌+◌, ◌∷◌, ◌++◌, [], ◌↔◌, count_by, slice_index, None, Some, Option, true, IfOk, IfErr, IfNone, OnSome, MatchResult, OnOk, OnErr};
 ghost use Rattle.po_index.specs.Numbering.{entry_count, flat_number, is_public};
 ghost use Rattle.po_accepted.specs.Tickets.{number_at, SetsTicket};
+ghost use Rattle.po_actions.specs.Base.{is_issue};
 ghost use Rattle.po_actions.specs.ObjectState.{counts_in};
 ghost use Rattle.po_actions.specs.View.{ended_now, next_place, opening_view};
 ghost use Rattle.po_actions.specs.ProtectedAction.{IsProtectedAction, IsAbortOf, after_action, after_abort, abort_answer};
@@ -309,6 +310,15 @@ impl<U: Unit> Machine<U> {
         ensures { result ≡ self.now.object.state.next }
     {
         self.traced.state().next()
+    }
+
+    /// How many calls were issued: the history, which proofs alone know, has as many.
+    pub fn issued(&self) -> u64
+        ensures counted { result ≡ count_by is_issue self.now.object.events }
+        // They are numbered from the first number on.
+        ensures numbered { self.now.object.state.next ≡ self.now.object.making.first_number + result }
+    {
+        self.traced.issued()
     }
 
     /// The clock.

@@ -1,10 +1,11 @@
 //! An object with fixed memory, in the middle of a protected action or between two.
 
-ghost use Rattle.std.specs.Prelude.{◌≡◌, ◌<◌, ◌≤◌, [], None, Some, true, false, find, ◌&&◌, nat_lt, MatchOption, MatchBool, MatchResult, IfOk, OnOk, OnSome, IfNone};
+ghost use Rattle.std.specs.Prelude.{◌≡◌, ◌<◌, ◌≤◌, ◌+◌, [], None, Some, true, false, find, count_by, ◌&&◌, nat_lt, MatchOption, MatchBool, MatchResult, IfOk, OnOk, OnSome, IfNone};
 ghost use Rattle.po_index.specs.Numbering.{entry_count, is_public};
 ghost use Rattle.po_accepted.specs.WaitingCalls.{has_number};
 ghost use Rattle.po_accepted.specs.Finding.{IsFound};
 ghost use Rattle.po_accepted.specs.Tickets.{number_at, SetsTicket, is_live, uncollected};
+ghost use Rattle.po_actions.specs.Base.{is_issue};
 ghost use Rattle.po_actions.specs.ObjectState.{IsAtRest, counts_in};
 ghost use Rattle.po_actions.specs.Step.{MayBegin};
 ghost use Rattle.po_actions.specs.Pick.{pick, weight};
@@ -303,6 +304,14 @@ impl<U: Unit> TracedObject<U> {
         ensures { result ≡ next_place self.now.object }
     {
         self.place
+    }
+
+    /// How many calls were issued: the history, which proofs alone know, has as many.
+    pub(crate) fn issued(&self) -> u64
+        ensures counted { result ≡ count_by is_issue self.now.object.events }
+        ensures numbered { self.now.object.state.next ≡ self.now.object.making.first_number + result }
+    {
+        self.state.next() - self.making.first_number()
     }
 
     /// The calls that the last command ended.
