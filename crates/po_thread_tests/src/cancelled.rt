@@ -1,21 +1,18 @@
 //! Callers whose calls another thread attempts to cancel: one is cancelled, one is kept and then let go.
 
-ghost use Rattle.std.specs.Prelude.{◌≡◌, ◌+◌};
-
-use crate::opened::{Opened, close_and_print, open};
-use crate::team::Team;
-use crate::threads::{Work, sees_waiting, start};
+use crate::scenes::{Scene, show};
+use crate::stage::Stage;
+use crate::threads::{Work, sees_waiting};
 use po_actions::{Core, Order};
 use po_classic_units::{Allocator, ScriptUnit};
 use po_index::EntryRef;
-use po_object::hold::Pass;
-use po_object::{CallLedger, Object};
+use po_object::CallLedger;
+use po_unit::Unit;
 use std::alloc::{AllocError, Global};
 use std::io::{self, Print};
-use std::marker::Brand;
-use std::sync::ledger::{Blank, Ledger};
-use std::sync::{Arc, Wait};
-use std::thread::{JoinHandle, Threads};
+use std::sync::Wait;
+use std::sync::ledger::Ledger;
+use std::thread::Threads;
 
 /// The entry that asks for some of the resource, and may be cancelled.
 const REQUEST: u16 = 0;
@@ -39,97 +36,64 @@ fn allocator_core(alloc: Global) -> Result<Core<Allocator>, AllocError> {
     Core::new(alloc, unit, shape, Order::Textual, 1).map_err(|_| AllocError)
 }
 
-/// Starts a thread that asks for one.
+/// Starts a thread that asks for one, and looks whether it and so many calls in all are seen to wait.
 fn ask<
+    U: Unit<Value = u64> + Send + Sync + Drop + 'static,
     C: CallLedger + Send + Sync + 'static,
     P: Ledger + Send + Sync + 'static,
-    R: Threads + Wait + AllocGlobal + Copy + Send + 'static,
->(
-    rt: R,
-    object: &Arc<Object<Allocator, C, P>>,
-    pass: Pass<u64, C, P>,
-    entry: u16,
-) -> Result<JoinHandle<Pass<u64, C, P>>, AllocError> {
-    let team = Arc::new(rt.alloc(), Team::new(1))?;
-    start(
-        rt,
-        Arc::try_clone(object)?,
-        team,
-        pass,
-        Work::Call(entry, 1),
-    )
+    R: Threads + Wait + Copy + Send + 'static,
+>(rt: R, stage: &mut Stage<U, C, P>, entry: u16, calls: u64) -> Result<bool, AllocError> {
+    stage.start(rt, Work::Call(entry, 1))?;
+    Ok(sees_waiting(&*stage.object, GRANT, calls))
 }
 
-/// Gives one back, with a pass that waits for no call.
-fn release<C: CallLedger, P: Ledger, R: Wait + Print>(
-    rt: &R,
-    object: &Object<Allocator, C, P>,
-    pass: &mut Pass<u64, C, P>,
-) -> io::Result<()> {
-    if pass.pending() {
-        return println!(rt; "a call is pending");
-    }
-    println!(rt; "Release 1: {:?}", object.procedure(rt, pass, RELEASE, 1))
-}
-
-/// Two callers wait, and both of their calls are to be cancelled. Seat 2 gives its pass back when its call is cancelled,
-/// seat 1 when one is released.
-fn cancel_beside<
+/// Attempts to cancel both calls, of which only that of seat 2 may be; its caller comes back.
+fn cancel_both<
+    U: Unit<Value = u64> + Send + Sync + Drop + 'static,
     C: CallLedger + Send + Sync + 'static,
     P: Ledger + Send + Sync + 'static,
-    R: Threads + Wait + Print + AllocGlobal + Copy + Send + 'static,
->(
-    rt: R,
-    object: &Arc<Object<Allocator, C, P>>,
-    mut passes: Vec<Pass<u64, C, P>>,
-) -> io::Result<Vec<Pass<u64, C, P>>> {
-    let (Some(requests), Some(claims), Some(first)) = (passes.pop(), passes.pop(), passes.pop())
-    else {
-        println!(rt; "a pass is missing")?;
-        return Ok(passes);
-    };
-    let mut first = ask(rt, object, first, REQUEST)?.join(&rt);
-    println!(rt; "Request 1: {:?}", first.receipts())?;
-    let claims = ask(rt, object, claims, CLAIM)?;
-    if !sees_waiting(&**object, GRANT, 1) {
-        println!(rt; "no call is seen to wait")?;
-        return Ok(passes);
-    }
-    let requests = ask(rt, object, requests, REQUEST)?;
-    if !sees_waiting(&**object, GRANT, 2) {
-        println!(rt; "not both calls are seen to wait")?;
-        return Ok(passes);
-    }
-    println!(rt; "cancel seat 1: {:?}", object.abort_seat(&rt, 1))?;
-    println!(rt; "cancel seat 2: {:?}", object.abort_seat(&rt, 2))?;
-    let requests = requests.join(&rt);
-    println!(rt; "Request 1: {:?}", requests.receipts())?;
-    println!(rt; "cancel seat 2: {:?}", object.abort_seat(&rt, 2))?;
-    release(&rt, &**object, &mut first)?;
-    let claims = claims.join(&rt);
-    println!(rt; "Claim 1: {:?}", claims.receipts())?;
-    passes.push(first)?;
-    passes.push(claims)?;
-    passes.push(requests)?;
-    Ok(passes)
+    R: Threads + Wait + Print + Copy + Send + 'static,
+>(rt: R, stage: &mut Stage<U, C, P>) -> io::Result<()> {
+    println!(rt; "cancel seat 1: {:?}", stage.object.abort_seat(&rt, 1))?;
+    println!(rt; "cancel seat 2: {:?}", stage.object.abort_seat(&rt, 2))?;
+    stage.join(&rt)?;
+    stage.print_last(&rt, "Request 1")?;
+    println!(rt; "cancel seat 2: {:?}", stage.object.abort_seat(&rt, 2))
 }
 
-/// Opens an object with three seats, and closes it with what their callers give back.
-fn open_and_close<
+/// Seat 0 gives back the one that it has, so that the caller of seat 1 comes back.
+fn release<
+    U: Unit<Value = u64> + Send + Sync + Drop + 'static,
     C: CallLedger + Send + Sync + 'static,
     P: Ledger + Send + Sync + 'static,
-    R: Threads + Wait + Print + AllocGlobal + Copy + Send + 'static,
->(rt: R, core: Core<Allocator>, calls: Blank, procedures: Blank) -> io::Result<()>
-    requires shape { core.object.making.shape ≡ C.shape }
-    requires calls { (calls.name ≡ C.name) × (calls.parts ≡ C.parts) × (calls.parts ≡ 4) }
-    requires procedures { (procedures.name ≡ P.name) × (procedures.parts ≡ P.parts) × (procedures.parts ≡ 4) }
-{
-    let Some(opened) = open::<Allocator, C, P>(rt.alloc(), core, 3, calls, procedures) else {
-        return println!(rt; "not opened");
-    };
-    let Opened { object, passes } = opened;
-    let passes = cancel_beside(rt, &object, passes)?;
-    close_and_print(&rt, object, passes)
+    R: Threads + Wait + Print + Copy + Send + 'static,
+>(rt: R, stage: &mut Stage<U, C, P>) -> io::Result<()> {
+    match stage.run(&rt, RELEASE, 1) {
+        Some(reply) => println!(rt; "Release 1: {reply:?}")?,
+        None => println!(rt; "a call is pending, or a pass is missing")?,
+    }
+    stage.join(&rt)?;
+    stage.print_last(&rt, "Claim 1")
+}
+
+/// Seat 0 has the one that there is. Seats 1 and 2 wait for it, and both of their calls are to be cancelled.
+pub(crate) fn play<
+    U: Unit<Value = u64> + Send + Sync + Drop + 'static,
+    C: CallLedger + Send + Sync + 'static,
+    P: Ledger + Send + Sync + 'static,
+    R: Threads + Wait + Print + Copy + Send + 'static,
+>(rt: R, stage: &mut Stage<U, C, P>) -> io::Result<()> {
+    stage.start(rt, Work::Call(REQUEST, 1))?;
+    stage.join(&rt)?;
+    stage.print_last(&rt, "Request 1")?;
+    if !ask(rt, stage, CLAIM, 1)? {
+        return println!(rt; "no call is seen to wait");
+    }
+    if !ask(rt, stage, REQUEST, 2)? {
+        return println!(rt; "not both calls are seen to wait");
+    }
+    cancel_both(rt, stage)?;
+    release(rt, stage)
 }
 
 /// An allocator of one, and three seats, each in a thread of its own.
@@ -137,5 +101,5 @@ pub(crate) fn run<R: Threads + Wait + Print + AllocGlobal + Copy + Send + 'stati
     rt: R,
 ) -> io::Result<()> {
     let core = allocator_core(rt.alloc())?;
-    open_and_close::<Brand, Brand, R>(rt, core, Blank::new(4), Blank::new(4))
+    show(rt, core, 3, Scene::Cancelled)
 }

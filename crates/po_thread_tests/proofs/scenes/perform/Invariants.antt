@@ -1,4 +1,4 @@
-use Rattle.po_thread_tests.proofs.cancelled.run.Given as goal
+use Rattle.po_thread_tests.proofs.scenes.perform.Given as goal
 
 abbrev pub ghosts-open_and_close-C-Ledger : goal.ghosts-open_and_close-C-Ledger
 ghosts-open_and_close-C-Ledger g a = record { name = a.calls.name; parts = a.calls.parts }
