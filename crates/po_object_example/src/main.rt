@@ -108,7 +108,44 @@ fn cancel<C: CallLedger, P: Ledger, R: Wait + Clock>(
     let _ended = object.finalize(rt);
 }
 
-/// Has a thread call for each pass, that of the last one alone, and gives the passes back.
+/// Has a thread for each pass call Put, where its seat is even, or Get, and waits until all are done.
+fn exchange<
+    C: CallLedger + Send + Sync + 'static,
+    P: Ledger + Send + Sync + 'static,
+    R: Threads + Wait + AllocGlobal + Copy + Send + 'static,
+>(
+    rt: R,
+    object: &Arc<Object<Buffer, C, P>>,
+    passes: &mut Vec<Pass<u64, C, P>>,
+) -> Result<(), AllocError> {
+    let mut running = Vec::new(rt.alloc());
+    while let Some(pass) = passes.pop() {
+        let entry = if pass.seat() % 2 == 0 { PUT } else { GET };
+        running.push(start(rt, Arc::try_clone(object)?, pass, entry, VALUES)?)?;
+    }
+    for thread in running {
+        passes.push(thread.join(&rt))?;
+    }
+    Ok(())
+}
+
+/// Has a thread call Get, which waits as the buffer is empty, and cancels its call.
+fn get_in_vain<
+    C: CallLedger + Send + Sync + 'static,
+    P: Ledger + Send + Sync + 'static,
+    R: Threads + Wait + Clock + Copy + Send + 'static,
+>(
+    rt: R,
+    object: &Arc<Object<Buffer, C, P>>,
+    pass: Pass<u64, C, P>,
+) -> Result<Pass<u64, C, P>, AllocError> {
+    let seat = pass.seat();
+    let waiting = start(rt, Arc::try_clone(object)?, pass, GET, 1)?;
+    cancel(&rt, object, seat);
+    Ok(waiting.join(&rt))
+}
+
+/// Has a thread call for each pass, that of the last one alone.
 fn call_all<
     C: CallLedger + Send + Sync + 'static,
     P: Ledger + Send + Sync + 'static,
@@ -116,25 +153,14 @@ fn call_all<
 >(
     rt: R,
     object: &Arc<Object<Buffer, C, P>>,
-    mut passes: Vec<Pass<u64, C, P>>,
-) -> Result<Vec<Pass<u64, C, P>>, AllocError> {
+    passes: &mut Vec<Pass<u64, C, P>>,
+) -> Result<(), AllocError> {
     let last = passes.pop();
-    let mut running = Vec::new(rt.alloc());
-    for pass in passes {
-        let entry = if pass.seat() % 2 == 0 { PUT } else { GET };
-        running.push(start(rt, Arc::try_clone(object)?, pass, entry, VALUES)?)?;
-    }
-    let mut back = Vec::new(rt.alloc());
-    for thread in running {
-        back.push(thread.join(&rt))?;
-    }
+    exchange(rt, object, passes)?;
     if let Some(pass) = last {
-        let seat = pass.seat();
-        let waiting = start(rt, Arc::try_clone(object)?, pass, GET, 1)?;
-        cancel(&rt, object, seat);
-        back.push(waiting.join(&rt))?;
+        passes.push(get_in_vain(rt, object, pass)?)?;
     }
-    Ok(back)
+    Ok(())
 }
 
 /// How many calls completed and how many were cancelled, as their callers were told.
@@ -159,6 +185,20 @@ fn answers(closed: &Closed<Buffer>) -> (u64, u64) {
     (completed, cancelled)
 }
 
+/// Closes the object, which no thread has any more.
+fn close<C: CallLedger, P: Ledger>(
+    object: Arc<Object<Buffer, C, P>>,
+    passes: Vec<Pass<u64, C, P>>,
+) -> Result<Closed<Buffer>> {
+    let Ok(object) = Arc::try_unwrap(object) else {
+        bail!("a thread still has the object");
+    };
+    match object.close(passes) {
+        Ok(closed) => Ok(closed),
+        Err(fault) => bail!("{fault}"),
+    }
+}
+
 /// Opens an object over the core, has threads call it, and closes it.
 fn use_object<
     C: CallLedger + Send + Sync + 'static,
@@ -170,25 +210,24 @@ fn use_object<
     requires procedures { (procedures.name ≡ P.name) × (procedures.parts ≡ P.parts) × (procedures.parts ≡ SEATS + 1) }
 {
     let opened = Object::<Buffer, C, P>::open(rt.alloc(), core, SEATS, calls, procedures);
-    let (object, passes) = opened?;
+    let (object, mut passes) = opened?;
     let object = Arc::new(rt.alloc(), object)?;
-    let passes = call_all(rt, &object, passes)?;
-    let Ok(object) = Arc::try_unwrap(object) else {
-        bail!("a thread still has the object");
-    };
-    match object.close(passes) {
-        Ok(closed) => Ok(closed),
-        Err(fault) => bail!("{fault}"),
-    }
+    call_all(rt, &object, &mut passes)?;
+    close(object, passes)
+}
+
+/// Prints how the calls ended, and whether each answer is the history's.
+fn report<R: Print>(rt: &R, closed: &Closed<Buffer>) -> Result<()> {
+    let (completed, cancelled) = answers(closed);
+    println!(rt; "{completed} calls completed, {cancelled} cancelled")?;
+    reconcile(closed, &[])?;
+    println!(rt; "every answer agrees with the history")?;
+    Ok(())
 }
 
 fn main(rt: HostRuntime) -> Result<()> {
     let core = empty_buffer(rt.alloc())?;
     let (calls, procedures) = (Blank::new(PARTS), Blank::new(PARTS));
     let closed = use_object::<Brand, Brand, HostRuntime>(rt, core, calls, procedures)?;
-    let (completed, cancelled) = answers(&closed);
-    println!(rt; "{completed} calls completed, {cancelled} cancelled")?;
-    reconcile(&closed, &[])?;
-    println!(rt; "every answer agrees with the history")?;
-    Ok(())
+    report(&rt, &closed)
 }
