@@ -1,11 +1,11 @@
-//! A worked run of accepted calls: there is room for each, and one at a time is in hand.
+//! A worked run of accepted calls: there is room for one, and once it is collected there is none.
 
 use po_accepted::Calls;
 use po_calls::{Call, Deadline, End, Place};
 use std::test::Fail;
 
 #[test]
-fn one_is_in_hand(rt: HostRuntime) -> Result<(), Fail> {
+fn room_is_given_up(rt: HostRuntime) -> Result<(), Fail> {
     let mut calls = Calls::new(rt.alloc(), 1, 5)?;
     calls.reserve()?;
     assert!(rt; calls.has_room());
@@ -19,8 +19,9 @@ fn one_is_in_hand(rt: HostRuntime) -> Result<(), Fail> {
         deadline: Deadline::Never,
     };
     let ticket = calls.add(call);
-    assert_eq!(rt; calls.in_hand(), Some(call));
     calls.end(call, End::Completed(11));
     assert_eq!(rt; calls.place(ticket), Place::Ended(End::Completed(11)));
+    assert_eq!(rt; calls.collect(ticket), Some(End::Completed(11)));
+    assert!(rt; !calls.has_room());
     Ok(())
 }
