@@ -2,8 +2,12 @@
 #![tactic(auto)]
 
 #[cfg(test)]
+mod asks;
+#[cfg(test)]
 mod buffers;
 #[cfg(test)]
 mod scenes;
+#[cfg(test)]
+mod shelf;
 #[cfg(test)]
 mod volumes;

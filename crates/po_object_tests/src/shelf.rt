@@ -1,0 +1,98 @@
+//! How the tests open an object and close it: one function for every unit.
+
+ghost use Rattle.std.specs.Prelude.{◌≡◌, ◌+◌};
+
+use crate::asks::same;
+use crate::scenes::{Scene, look, play};
+use po_actions::{Core, Volume};
+use po_object::hold::Pass;
+use po_object::{CallLedger, CloseFault, Closed, Object};
+use po_unit::Unit;
+use std::marker::Brand;
+use std::process::Abort;
+use std::sync::Wait;
+use std::sync::ledger::{Blank, Ledger};
+use std::test::Fail;
+
+/// What is left of an object, and the volumes that were cut off from its history, in their order.
+#[derive(Drop)]
+pub struct Shelf<U: Unit<Value = u64> + Drop> {
+    pub closed: Closed<U>,
+    pub volumes: Vec<Volume<u64>>,
+}
+
+/// Closes the object without the pass of seat 0, which is refused, and then with it.
+fn close_twice<U: Unit<Value = u64> + Drop, C: CallLedger, P: Ledger, R: Abort>(
+    rt: &R,
+    object: Object<U, C, P>,
+    mut passes: Vec<Pass<u64, C, P>>,
+) -> Option<Closed<U>> {
+    passes.reverse();
+    let first = passes.pop()?;
+    let fault = object.close(passes).err()?;
+    let CloseFault::PassMissing {
+        seat,
+        object,
+        mut passes,
+    } = fault;
+    same(rt, seat, 0);
+    passes.push(first).ok()?;
+    object.close(passes).ok()
+}
+
+/// Opens an object, plays the scene, and closes it: where it has two seats, first without the pass of one of them.
+fn open_and_close<
+    U: Unit<Value = u64> + Drop,
+    C: CallLedger,
+    P: Ledger,
+    R: Abort + Wait + AllocGlobal,
+>(
+    rt: &R,
+    core: Core<U>,
+    seats: u16,
+    calls: Blank,
+    procedures: Blank,
+    scene: Scene,
+) -> Option<Shelf<U>>
+    requires calls { (calls.name ≡ C.name) × (calls.parts ≡ C.parts) × (calls.parts ≡ seats + 1) }
+    requires procedures { (procedures.name ≡ P.name) × (procedures.parts ≡ P.parts) × (procedures.parts ≡ seats + 1) }
+    requires shape { core.object.making.shape ≡ C.shape }
+{
+    let opened = Object::<U, C, P>::open(rt.alloc(), core, seats, calls, procedures);
+    let (object, mut passes) = opened.ok()?;
+    let mut volumes = Vec::new(rt.alloc());
+    play(rt, &object, &mut passes, scene, &mut volumes);
+    let closed = if seats == 2 {
+        close_twice(rt, object, passes)
+    } else {
+        object.close(passes).ok()
+    };
+    Some(Shelf {
+        closed: closed?,
+        volumes,
+    })
+}
+
+/// Plays the scene with an object of so many seats over the core, and gives what is left of it.
+pub fn perform<U: Unit<Value = u64> + Drop, R: Abort + Wait + AllocGlobal>(
+    rt: &R,
+    core: Core<U>,
+    seats: u16,
+    scene: Scene,
+) -> Option<Shelf<U>> {
+    let parts = u64::from(seats) + 1;
+    let (calls, procedures) = (Blank::new(parts), Blank::new(parts));
+    open_and_close::<U, Brand, Brand, R>(rt, core, seats, calls, procedures, scene)
+}
+
+/// Plays the scene, and looks at what is left.
+pub fn show<U: Unit<Value = u64> + Drop, R: Abort + Wait + AllocGlobal>(
+    rt: &R,
+    core: Core<U>,
+    seats: u16,
+    scene: Scene,
+) -> Result<(), Fail> {
+    let shelf = perform(rt, core, seats, scene).ok_or("not opened, or not closed")?;
+    look(rt, &shelf.closed, scene);
+    Ok(())
+}
