@@ -8,7 +8,8 @@ use po_actions::{Core, End, Order, Refusal, Volume};
 use po_classic_units::{Allocator, ScriptUnit};
 use po_index::EntryRef;
 use po_object::hold::Pass;
-use po_object::{CallLedger, Object, OpenFault, reconcile};
+use po_object::{CallLedger, Closed, Object, OpenFault, reconcile};
+use po_unit::Unit;
 use std::alloc::Global;
 use std::io::{self, Print};
 use std::marker::Brand;
@@ -61,9 +62,9 @@ struct Snapshot {
 }
 
 /// What is seen of the pass and of the object.
-fn see<C: CallLedger, P: Ledger, R: Wait>(
+fn see<U: Unit<Value = u64> + Drop, C: CallLedger, P: Ledger, R: Wait>(
     rt: &R,
-    object: &Object<Allocator, C, P>,
+    object: &Object<U, C, P>,
     pass: &Pass<u64, C, P>,
 ) -> Snapshot {
     Snapshot {
@@ -77,9 +78,9 @@ fn see<C: CallLedger, P: Ledger, R: Wait>(
 }
 
 /// Asks the object.
-fn answer_of<C: CallLedger, P: Ledger, R: Wait>(
+fn answer_of<U: Unit<Value = u64> + Drop, C: CallLedger, P: Ledger, R: Wait>(
     rt: &R,
-    object: &Object<Allocator, C, P>,
+    object: &Object<U, C, P>,
     pass: &mut Pass<u64, C, P>,
     what: Ask,
 ) -> Result<Answer, Refusal> {
@@ -96,9 +97,9 @@ fn answer_of<C: CallLedger, P: Ledger, R: Wait>(
 }
 
 /// Asks the object, once more where memory was wanting, prints the answer, and gives how often memory was wanting.
-fn print_answer<C: CallLedger, P: Ledger, R: Print + Wait>(
+fn print_answer<U: Unit<Value = u64> + Drop, C: CallLedger, P: Ledger, R: Print + Wait>(
     rt: &R,
-    object: &Object<Allocator, C, P>,
+    object: &Object<U, C, P>,
     pass: &mut Pass<u64, C, P>,
     what: Ask,
 ) -> io::Result<u64> {
@@ -117,24 +118,24 @@ fn print_answer<C: CallLedger, P: Ledger, R: Print + Wait>(
     Ok(2)
 }
 
-/// Asks for all of these, and gives how often memory was wanting.
-fn print_all<C: CallLedger, P: Ledger, R: Print + Wait>(
+/// Asks for all of these, and counts how often memory was wanting.
+fn print_all<U: Unit<Value = u64> + Drop, C: CallLedger, P: Ledger, R: Print + Wait>(
     rt: &R,
-    object: &Object<Allocator, C, P>,
+    object: &Object<U, C, P>,
     pass: &mut Pass<u64, C, P>,
     all: &[Ask],
-) -> io::Result<u64> {
-    let mut refusals = 0u64;
+    refusals: &mut u64,
+) -> io::Result<()> {
     for what in all {
-        refusals = refusals.saturating_add(print_answer(rt, object, pass, *what)?);
+        *refusals = refusals.saturating_add(print_answer(rt, object, pass, *what)?);
     }
-    Ok(refusals)
+    Ok(())
 }
 
 /// Cuts the history, once more where memory was wanting, and counts how often memory was wanting.
-fn cut<C: CallLedger, P: Ledger, R: Print + Wait>(
+fn cut<U: Unit<Value = u64> + Drop, C: CallLedger, P: Ledger, R: Print + Wait>(
     rt: &R,
-    object: &Object<Allocator, C, P>,
+    object: &Object<U, C, P>,
     pass: &Pass<u64, C, P>,
     refusals: &mut u64,
 ) -> io::Result<Option<Volume<u64>>> {
@@ -155,9 +156,9 @@ fn cut<C: CallLedger, P: Ledger, R: Print + Wait>(
 }
 
 /// Prints what takes no memory, and finalizes the object.
-fn print_the_rest<C: CallLedger, P: Ledger, R: Print + Wait>(
+fn print_the_rest<U: Unit<Value = u64> + Drop, C: CallLedger, P: Ledger, R: Print + Wait>(
     rt: &R,
-    object: &Object<Allocator, C, P>,
+    object: &Object<U, C, P>,
 ) -> io::Result<()> {
     println!(rt; "count {:?}", object.try_count(REQUEST))?;
     println!(rt; "function {:?}", object.function(rt, 0, 0))?;
@@ -165,37 +166,76 @@ fn print_the_rest<C: CallLedger, P: Ledger, R: Print + Wait>(
     println!(rt; "finalize {:?}", object.finalize(rt))
 }
 
-/// Uses the object, whose history is cut twice, and gives the two volumes.
-fn use_object<C: CallLedger, P: Ledger, R: Print + Wait>(
+/// Asks for all of these, and cuts the history.
+fn ask_and_cut<U: Unit<Value = u64> + Drop, C: CallLedger, P: Ledger, R: Print + Wait>(
     rt: &R,
-    object: &Object<Allocator, C, P>,
+    object: &Object<U, C, P>,
+    pass: &mut Pass<u64, C, P>,
+    all: &[Ask],
+    refusals: &mut u64,
+) -> io::Result<Option<Volume<u64>>> {
+    print_all(rt, object, pass, all, refusals)?;
+    cut(rt, object, pass, refusals)
+}
+
+/// Uses the object, whose history is cut twice, and gives the two volumes.
+fn use_object<U: Unit<Value = u64> + Drop, C: CallLedger, P: Ledger, R: Print + Wait>(
+    rt: &R,
+    object: &Object<U, C, P>,
     pass: &mut Pass<u64, C, P>,
     refusals: &mut u64,
 ) -> io::Result<Option<[Volume<u64>; 2]>> {
     let first = [Ask::Call(1), Ask::Conditional(1), Ask::Timed(1, 0)];
-    let mut asked = print_all(rt, object, pass, &first)?;
-    let earlier = cut(rt, object, pass, &mut asked)?;
     let second = [Ask::Procedure(1), Ask::Tick(5), Ask::Timed(1, 6)];
-    asked = asked.saturating_add(print_all(rt, object, pass, &second)?);
-    let later = cut(rt, object, pass, &mut asked)?;
+    let earlier = ask_and_cut(rt, object, pass, &first, refusals)?;
+    let later = ask_and_cut(rt, object, pass, &second, refusals)?;
     print_the_rest(rt, object)?;
-    let third = [Ask::Call(1)];
-    asked = asked.saturating_add(print_all(rt, object, pass, &third)?);
-    *refusals = refusals.saturating_add(asked);
+    print_all(rt, object, pass, &[Ask::Call(1)], refusals)?;
     match (earlier, later) {
         (Some(earlier), Some(later)) => Ok(Some([earlier, later])),
         _ => Ok(None),
     }
 }
 
-/// Opens an object with one seat, once more with what is handed back where memory was wanting.
-fn open<C: CallLedger, P: Ledger, R: Print + AllocGlobal>(
+/// The same with the first of the passes, if there is one.
+fn use_first<U: Unit<Value = u64> + Drop, C: CallLedger, P: Ledger, R: Print + Wait>(
     rt: &R,
-    core: Core<Allocator>,
+    object: &Object<U, C, P>,
+    passes: &mut Vec<Pass<u64, C, P>>,
+    refusals: &mut u64,
+) -> io::Result<Option<[Volume<u64>; 2]>> {
+    match passes.first_mut() {
+        Some(pass) => use_object(rt, object, pass, refusals),
+        None => Ok(None),
+    }
+}
+
+/// Whether the core is as it was made: no call was issued, and there is no event.
+fn is_new<U: Unit>(core: &Core<U>) -> bool {
+    issued_none(core) && core.events().is_empty()
+}
+
+/// Whether no call was issued.
+fn issued_none<U: Unit>(core: &Core<U>) -> bool {
+    core.next() == 1
+}
+
+/// Prints that a core isn't as it was made, if it isn't.
+fn print_change<U: Unit, R: Print>(rt: &R, core: &Core<U>) -> io::Result<()> {
+    if is_new(core) {
+        return Ok(());
+    }
+    println!(rt; "changed")
+}
+
+/// Opens an object with one seat, once more with what is handed back where memory was wanting.
+fn open<U: Unit<Value = u64> + Drop, C: CallLedger, P: Ledger, R: Print + AllocGlobal>(
+    rt: &R,
+    core: Core<U>,
     calls: Blank,
     procedures: Blank,
     refusals: &mut u64,
-) -> io::Result<Option<(Object<Allocator, C, P>, Vec<Pass<u64, C, P>>)>>
+) -> io::Result<Option<(Object<U, C, P>, Vec<Pass<u64, C, P>>)>>
     requires shape { core.object.making.shape ≡ C.shape }
     requires calls { (calls.name ≡ C.name) × (calls.parts ≡ C.parts) × (calls.parts ≡ 2) }
     requires procedures { (procedures.name ≡ P.name) × (procedures.parts ≡ P.parts) × (procedures.parts ≡ 2) }
@@ -204,25 +244,20 @@ fn open<C: CallLedger, P: Ledger, R: Print + AllocGlobal>(
         Ok(opened) => Ok(Some(opened)),
         Err(OpenFault::OutOfMemory(core, calls, procedures)) => {
             *refusals = refusals.saturating_add(1);
-            if core.next() != 1 || !core.events().is_empty() {
-                println!(rt; "changed")?;
-            }
-            Ok(Object::open(rt.alloc(), core, 1, calls, procedures).ok())
+            let printed = print_change(rt, &core);
+            let opened = Object::open(rt.alloc(), core, 1, calls, procedures).ok();
+            printed.and(Ok(opened))
         }
         Err(_) => Ok(None),
     }
 }
 
-/// Closes the object, and prints the receipts and what they and the history say together.
-fn close<C: CallLedger, P: Ledger, R: Print>(
+/// Prints the receipts of a closed object, and what they and the history say together.
+fn print_closed<U: Unit<Value = u64>, R: Print>(
     rt: &R,
-    object: Object<Allocator, C, P>,
-    passes: Vec<Pass<u64, C, P>>,
+    closed: &Closed<U>,
     volumes: &[Volume<u64>],
 ) -> io::Result<()> {
-    let Ok(closed) = object.close(passes) else {
-        return println!(rt; "not closed");
-    };
     println!(rt;
         "closed {} of {}",
         closed.core().place(),
@@ -233,35 +268,41 @@ fn close<C: CallLedger, P: Ledger, R: Print>(
             println!(rt; "{receipt:?}")?;
         }
     }
-    println!(rt; "{:?}", reconcile(&closed, volumes))
+    println!(rt; "{:?}", reconcile(closed, volumes))
 }
 
-/// Opens, uses and closes an object over the core, and gives how often memory was wanting.
-fn try_object<C: CallLedger, P: Ledger, R: Print + Wait + AllocGlobal>(
+/// Prints what is left of an object that was used, with the two volumes.
+fn print_end<U: Unit<Value = u64>, R: Print>(
     rt: &R,
-    core: Core<Allocator>,
+    closed: &Option<Closed<U>>,
+    volumes: &Option<[Volume<u64>; 2]>,
+) -> io::Result<()> {
+    match (closed, volumes) {
+        (_, None) => println!(rt; "no pass, or not cut"),
+        (None, _) => println!(rt; "not closed"),
+        (Some(closed), Some(volumes)) => print_closed(rt, closed, volumes),
+    }
+}
+
+/// Opens, uses and closes an object over the core, and counts how often memory was wanting.
+fn try_object<U: Unit<Value = u64> + Drop, C: CallLedger, P: Ledger, R: Print + Wait + AllocGlobal>(
+    rt: &R,
+    core: Core<U>,
     calls: Blank,
     procedures: Blank,
-) -> io::Result<u64>
+    refusals: &mut u64,
+) -> io::Result<()>
     requires shape { core.object.making.shape ≡ C.shape }
     requires calls { (calls.name ≡ C.name) × (calls.parts ≡ C.parts) × (calls.parts ≡ 2) }
     requires procedures { (procedures.name ≡ P.name) × (procedures.parts ≡ P.parts) × (procedures.parts ≡ 2) }
 {
-    let mut refusals = 0;
-    let opened = open::<C, P, R>(rt, core, calls, procedures, &mut refusals)?;
+    let opened = open::<U, C, P, R>(rt, core, calls, procedures, refusals)?;
     let Some((object, mut passes)) = opened else {
-        println!(rt; "not opened")?;
-        return Ok(refusals);
+        return println!(rt; "not opened");
     };
-    let volumes = match passes.first_mut() {
-        Some(pass) => use_object(rt, &object, pass, &mut refusals)?,
-        None => None,
-    };
-    match volumes {
-        Some(volumes) => close(rt, object, passes, &volumes)?,
-        None => println!(rt; "no pass, or not cut")?,
-    }
-    Ok(refusals)
+    let volumes = use_first(rt, &object, &mut passes, refusals);
+    let closed = object.close(passes).ok();
+    print_end(rt, &closed, &volumes?)
 }
 
 /// A core of an allocator of 1, or none where memory was wanting.
@@ -274,15 +315,13 @@ fn make_core(alloc: Global) -> Option<Core<Allocator>> {
 /// Tries an object over an allocator of 1, and answers how often memory was wanting.
 pub(crate) fn run<R: Print + Wait + AllocGlobal>(rt: &R) -> io::Result<u64> {
     let made = make_core(rt.alloc());
-    let refusals = u64::from(made.is_none());
+    let mut refusals = u64::from(made.is_none());
     match made.or_else(|| make_core(rt.alloc())) {
         Some(core) => {
-            let met = try_object::<Brand, Brand, R>(rt, core, Blank::new(2), Blank::new(2))?;
-            Ok(refusals.saturating_add(met))
+            let (calls, procedures) = (Blank::new(2), Blank::new(2));
+            try_object::<Allocator, Brand, Brand, R>(rt, core, calls, procedures, &mut refusals)?;
         }
-        None => {
-            println!(rt; "refused twice")?;
-            Ok(refusals)
-        }
+        None => println!(rt; "refused twice")?,
     }
+    Ok(refusals)
 }
