@@ -105,8 +105,8 @@ fn start<
     Ok(thread::spawn(&rt, job)?)
 }
 
-/// Has a thread call for each pass: those of even seats put, the others get. Gives the passes back.
-fn call_all<
+/// Has a thread for each pass call Put, where its seat is even, or Get, and waits until all are done.
+fn exchange<
     C: CallLedger + Send + Sync + 'static,
     P: Ledger + Send + Sync + 'static,
     F: Ledger + Send + Sync + 'static,
@@ -114,18 +114,31 @@ fn call_all<
 >(
     rt: R,
     object: &Arc<BoundedObject<Buffer, C, P, F>>,
-    passes: Vec<BoundedPass<u64, C, P, F>>,
-) -> Result<Vec<BoundedPass<u64, C, P, F>>, AllocError> {
+    passes: &mut Vec<BoundedPass<u64, C, P, F>>,
+) -> Result<(), AllocError> {
     let mut running = Vec::new(rt.alloc());
-    for pass in passes {
+    while let Some(pass) = passes.pop() {
         let entry = if pass.seat() % 2 == 0 { PUT } else { GET };
         running.push(start(rt, Arc::try_clone(object)?, pass, entry, VALUES)?)?;
     }
-    let mut back = Vec::new(rt.alloc());
     for thread in running {
-        back.push(thread.join(&rt))?;
+        passes.push(thread.join(&rt))?;
     }
-    Ok(back)
+    Ok(())
+}
+
+/// Closes the object, which no thread has any more.
+fn close<C: CallLedger, P: Ledger, F: Ledger>(
+    object: Arc<BoundedObject<Buffer, C, P, F>>,
+    passes: Vec<BoundedPass<u64, C, P, F>>,
+) -> Result<BoundedClosed<Buffer>> {
+    let Ok(object) = Arc::try_unwrap(object) else {
+        bail!("a thread still has the object");
+    };
+    match object.close(passes) {
+        Ok(closed) => Ok(closed),
+        Err(fault) => bail!("{fault}"),
+    }
 }
 
 /// Opens an object over the machine, has threads call it, and closes it.
@@ -155,16 +168,10 @@ fn use_object<
         procedures,
         free,
     );
-    let (object, passes) = opened?;
+    let (object, mut passes) = opened?;
     let object = Arc::new(rt.alloc(), object)?;
-    let passes = call_all(rt, &object, passes)?;
-    let Ok(object) = Arc::try_unwrap(object) else {
-        bail!("a thread still has the object");
-    };
-    match object.close(passes) {
-        Ok(closed) => Ok(closed),
-        Err(fault) => bail!("{fault}"),
-    }
+    exchange(rt, &object, &mut passes)?;
+    close(object, passes)
 }
 
 /// How many calls were accepted, as the passes counted them.
