@@ -2,9 +2,10 @@
 
 ghost use Rattle.po_classic_units.specs.Sizes.{IsSize};
 
+use crate::asks::{PUT, same};
 use crate::scenes::Scene;
-use crate::shelf::show;
-use po_actions::{Core, Order};
+use crate::shelf::{perform, show};
+use po_actions::{Core, Deadline, Order};
 use po_classic_units::{Buffer, ScriptUnit};
 use std::process::Abort;
 use std::sync::Wait;
@@ -60,4 +61,19 @@ fn no_seats(rt: HostRuntime) -> Result<(), Fail> {
 #[test]
 fn all_seats(rt: HostRuntime) -> Result<(), Fail> {
     on_buffer(&rt, 1, u16::MAX, Scene::Idle)
+}
+
+/// A core of a buffer that has served a call.
+fn used_core<R: AllocGlobal>(rt: &R) -> Result<Core<Buffer>, Fail> {
+    let mut core = empty_buffer(rt, 1)?;
+    core.issue(0, PUT, 7, Deadline::Never)?;
+    Ok(core)
+}
+
+/// No object is opened over a core that has served a call.
+#[test]
+fn a_used_core(rt: HostRuntime) -> Result<(), Fail> {
+    let core = used_core(&rt)?;
+    same(&rt, perform(&rt, core, 1, Scene::Idle).is_none(), true);
+    Ok(())
 }
