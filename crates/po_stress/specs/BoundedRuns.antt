@@ -1,6 +1,7 @@
 -- What the totals of a run over an object with fixed memory say (this project's own).
-use Rattle.std.specs.Prelude.{ℕ, ◌≡◌, ◌+◌, ◌-◌, ◌*◌, All, length}
+use Rattle.std.specs.Prelude.{ℕ, ◌≡◌, ◌+◌, ◌*◌, All, count_by, length, true}
 use Rattle.po_unit.specs.Meaning.{Meaning}
+use Rattle.po_actions.specs.Base.{is_issue}
 use Rattle.po_actions.specs.Headline.{Headline}
 use Rattle.po_classic_units.specs.Buffer.{buffer_meaning}
 use Rattle.po_classic_units.specs.Allocator.{allocator_meaning}
@@ -12,18 +13,20 @@ use Rattle.po_stress.specs.declared.totals.Totals.{Totals}
 use Rattle.po_stress.specs.declared.unit.StressUnit.{StressUnit}
 use Rattle.po_stress.specs.declared.unit.StressUnit.TheVariants.{Buffer, Allocator, Meeting, Race}
 use Rattle.po_stress.specs.Ends.{filed_by_all}
+use Rattle.po_stress.specs.Totals.{agree}
 
--- The machine's next number says how many calls it issued, which are numbered from 1. The other numbers are those of the
--- receipts that were filed with the passes, by how their calls ended; receipts are known to proofs alone.
+-- As many calls were issued as the machine's history issues. The other numbers are those of the receipts that were filed with
+-- the passes, by how their calls ended. History and receipts are known to proofs alone.
 pub record AreTotalsOf {S : Type 0} (closed : BoundedClosedView S ℕ) (t : Totals) : Type 0 where
-  pub issued : t.issued ≡ closed.machine.object.state.next - 1
+  pub issued : t.issued ≡ count_by is_issue closed.machine.object.events
   pub completed : t.completed ≡ filed_by_all Done closed.passes
   pub cancelled : t.cancelled ≡ filed_by_all GivenUp closed.passes
   pub program_error : t.program_error ≡ filed_by_all Failed closed.passes
 
 -- The totals are those of an object of a unit with this meaning that had so many seats and was closed: its history replays as
 -- serial protected actions of one thread, and as many calls were issued as the passes counted. Each thread's pass counted all
--- calls that the thread was to make, and each of these calls ended in one of the three ways.
+-- calls that the thread was to make; so all of them were issued, and each of them ended in one of the three ways. So the totals
+-- agree.
 pub record IsBoundedRun {S : Type 0} (m : Meaning S ℕ) (threads calls : ℕ) (t : Totals) : Type 0 where
   pub closed : BoundedClosedView S ℕ
   pub seats : length closed.passes ≡ threads
@@ -31,7 +34,9 @@ pub record IsBoundedRun {S : Type 0} (m : Meaning S ℕ) (threads calls : ℕ) (
   pub totals : IsClosed (closed_of closed)
   pub headline : Headline m closed.machine.object
   pub told : AreTotalsOf closed t
+  pub issued : t.issued ≡ threads * calls
   pub sums : t.completed + t.cancelled + t.program_error ≡ threads * calls
+  pub agreed : agree t ≡ true
 
 -- The totals are those of an object of the unit that had so many seats, from each of which so many calls were made, and was
 -- closed.

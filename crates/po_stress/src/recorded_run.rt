@@ -3,6 +3,7 @@
 ghost use Rattle.std.specs.Prelude.{◌≡◌, ◌+◌, IfOk, IfErr, length, vec_len};
 ghost use Rattle.std.specs.Arc.{arc_value};
 ghost use Rattle.po_receipts.specs.Answers.{NonePending};
+ghost use Rattle.po_object.specs.Seats.{AreFresh};
 ghost use Rattle.po_stress.specs.Runs.{IsRun};
 
 use crate::fault::StressFault;
@@ -14,7 +15,7 @@ use crate::report::Report;
 use crate::sums::counted_all;
 use po_actions::Core;
 use po_object::hold::Pass;
-use po_object::{CallLedger, Closed, Object};
+use po_object::{CallLedger, Closed, Object, OpenFault};
 use po_unit::Unit;
 use std::alloc::{AllocError, Global};
 use std::sync::ledger::{Blank, Ledger};
@@ -47,6 +48,87 @@ fn leave_all<C: CallLedger, P: Ledger>(
     Ok(passes)
 }
 
+/// Has a thread for each caller make all its calls, and waits for their ends. The callers are where they were.
+fn call_from<
+    U: Unit<Value = u64> + Send + Sync + Drop + 'static,
+    C: CallLedger + Send + Sync + 'static,
+    P: Ledger + Send + Sync + 'static,
+    R: Threads + Wait + AllocGlobal + Copy + Send + 'static,
+>(
+    rt: R,
+    object: &Arc<Object<U, C, P>>,
+    progress: &Arc<Progress>,
+    job: Job,
+    threads: u16,
+    callers: &mut Vec<RecordedCaller<C, P>>,
+) -> Result<(), AllocError> {
+    let running = Vec::with_capacity(rt.alloc(), callers.len())?;
+    load(rt, object, progress, job, callers, running);
+    if progress.was_short() || callers.len() > usize::from(threads) {
+        return Err(AllocError);
+    }
+    Ok(())
+}
+
+/// Has a thread for each pass make all its calls, and gives the passes back.
+fn call_from_all<
+    U: Unit<Value = u64> + Send + Sync + Drop + 'static,
+    C: CallLedger + Send + Sync + 'static,
+    P: Ledger + Send + Sync + 'static,
+    R: Threads + Wait + AllocGlobal + Copy + Send + 'static,
+>(
+    rt: R,
+    object: &Arc<Object<U, C, P>>,
+    progress: &Arc<Progress>,
+    job: Job,
+    threads: u16,
+    passes: Vec<Pass<u64, C, P>>,
+) -> Result<Vec<Pass<u64, C, P>>, AllocError>
+    requires { AreFresh threads passes.items }
+{
+    let mut callers = seat_all(rt.alloc(), passes)?;
+    call_from(rt, object, progress, job, threads, &mut callers)?;
+    leave_all(rt.alloc(), callers)
+}
+
+/// Lets go what a refused opening hands back.
+fn let_go<U: Unit<Value = u64> + Drop>(_fault: OpenFault<U>) -> AllocError {
+    AllocError
+}
+
+/// The object, in a place that threads can share, with its passes.
+fn share<U: Unit<Value = u64> + Drop, C: CallLedger, P: Ledger>(
+    alloc: Global,
+    object: Object<U, C, P>,
+    passes: Vec<Pass<u64, C, P>>,
+) -> Result<(Arc<Object<U, C, P>>, Vec<Pass<u64, C, P>>), AllocError>
+    ensures object { IfOk result (λ r. arc_value r.0 ≡ object) }
+    ensures passes { IfOk result (λ r. r.1.items ≡ passes.items) }
+{
+    let object = Arc::new(alloc, object)?;
+    Ok((object, passes))
+}
+
+/// Opens an object over the core that threads can share, with a fresh pass for each of its seats.
+fn open_shared<U: Unit<Value = u64> + Drop, C: CallLedger, P: Ledger>(
+    alloc: Global,
+    core: Core<U>,
+    threads: u16,
+    calls: Blank,
+    procedures: Blank,
+) -> Result<(Arc<Object<U, C, P>>, Vec<Pass<u64, C, P>>), AllocError>
+    requires shape { core.object.making.shape ≡ C.shape }
+    requires calls { (calls.name ≡ C.name) × (calls.parts ≡ C.parts) × (calls.parts ≡ threads + 1) }
+    requires procedures { (procedures.name ≡ P.name) × (procedures.parts ≡ P.parts) × (procedures.parts ≡ threads + 1) }
+    ensures seats { IfOk result (λ r. arc_value r.0 ≡ threads) }
+    ensures fresh { IfOk result (λ r. AreFresh threads r.1.items) }
+{
+    match Object::<U, C, P>::open(alloc, core, threads, calls, procedures) {
+        Ok((object, passes)) => share(alloc, object, passes),
+        Err(fault) => Err(let_go(fault)),
+    }
+}
+
 /// Opens an object over the core, has threads call it, closes it, and reports.
 pub(crate) fn run<
     U: Unit<Value = u64> + Send + Sync + Drop + 'static,
@@ -68,20 +150,9 @@ pub(crate) fn run<
     ensures report { IfOk result (IsRun U.meaning threads job.calls) }
     ensures fault { IfErr result (λ fault. fault ≡ StressFault.OutOfMemory) }
 {
-    let opened = Object::<U, C, P>::open(rt.alloc(), core, threads, calls, procedures);
-    let Ok((object, passes)) = opened else {
-        return Err(StressFault::OutOfMemory);
-    };
-    let Ok(object) = Arc::new(rt.alloc(), object) else {
-        return Err(StressFault::OutOfMemory);
-    };
-    let mut callers = seat_all(rt.alloc(), passes)?;
-    let running = Vec::with_capacity(rt.alloc(), callers.len())?;
-    load(rt, &object, progress, job, &mut callers, running);
-    if progress.was_short() {
-        return Err(StressFault::OutOfMemory);
-    }
-    report_on(object, leave_all(rt.alloc(), callers)?, job.calls)
+    let (object, passes) = open_shared::<U, C, P>(rt.alloc(), core, threads, calls, procedures)?;
+    let passes = call_from_all(rt, &object, progress, job, threads, passes)?;
+    report_on(object, passes, job.calls)
 }
 
 /// Closes the object, and reports. All threads have ended, so nobody else has the object, and each seat's pass is here.

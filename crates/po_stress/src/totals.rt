@@ -1,6 +1,6 @@
 //! What a run over an object with fixed memory comes to.
 
-ghost use Rattle.std.specs.Prelude.{◌≡◌, ◌||◌, ◌-◌, true, IfOk, OnOk, OnErr};
+ghost use Rattle.std.specs.Prelude.{◌≡◌, ◌||◌, true, IfOk, OnOk, OnErr};
 ghost use Rattle.std.specs.Io.KnownBytes.{Appends};
 ghost use Rattle.po_stress.specs.Totals.{agree, last_words, line_with, totals_line, totals_status};
 ghost use Rattle.po_stress.specs.Reports.{TakesPart};
@@ -25,16 +25,15 @@ pub struct Totals {
 }
 
 impl Totals {
-    /// Those of a machine whose next call has this number, and whose calls are numbered from 1, with the ends that its
-    /// callers counted.
-    pub(crate) fn of(next: u64, ends: Ends) -> Totals
-        ensures issued { result.issued ≡ next - 1 }
+    /// Those of a machine that issued so many calls, with the ends that its callers counted.
+    pub(crate) fn of(issued: u64, ends: Ends) -> Totals
+        ensures issued { result.issued ≡ issued }
         ensures completed { result.completed ≡ ends.completed }
         ensures cancelled { result.cancelled ≡ ends.cancelled }
         ensures program_error { result.program_error ≡ ends.program_error }
     {
         Totals {
-            issued: next.saturating_sub(1),
+            issued,
             completed: ends.completed,
             cancelled: ends.cancelled,
             program_error: ends.program_error,
