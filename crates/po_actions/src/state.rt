@@ -370,6 +370,7 @@ impl<U: Unit> State<U> {
     }
 
     /// The inner event that follows, if one does.
+    #[inline]
     pub fn pick(&mut self, order: Order, last: Option<u16>) -> Option<Event<U::Value>>
         ensures picked { result ≡ pick U.meaning order last self.old.state }
         ensures same { self.new ≡ self.old }

@@ -16,6 +16,8 @@ use po_unit::Unit;
 ///
 /// Only the barriers of entries on which a key is queued are evaluated, each once at most, which a test shows, since no
 /// clause counts calls. It takes no memory.
+// What calls it stays small so, and becomes part of the loop of a command.
+#[inline(never)]
 pub fn examine<U: Unit>(unit: &U, queues: &Queues, order: Order, last: Option<u16>) -> Look
     requires { U.meaning.entries unit.now ≡ queues.now.total }
     ensures next { result ≡ serviced_next U.meaning unit.now queues.now order last }

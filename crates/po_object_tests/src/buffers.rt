@@ -2,9 +2,9 @@
 
 ghost use Rattle.po_classic_units.specs.Sizes.{IsSize};
 
-use crate::asks::{PUT, same};
+use crate::asks::{GET, same};
 use crate::scenes::Scene;
-use crate::shelf::{perform, show};
+use crate::shelf::{NOT_FRESH, perform, show};
 use po_actions::{Core, Deadline, Order};
 use po_classic_units::{Buffer, ScriptUnit};
 use std::process::Abort;
@@ -63,17 +63,21 @@ fn all_seats(rt: HostRuntime) -> Result<(), Fail> {
     on_buffer(&rt, 1, u16::MAX, Scene::Idle)
 }
 
-/// A core of a buffer that has served a call.
+/// A core of a buffer on which a call waits.
 fn used_core<R: AllocGlobal>(rt: &R) -> Result<Core<Buffer>, Fail> {
     let mut core = empty_buffer(rt, 1)?;
-    core.issue(0, PUT, 7, Deadline::Never)?;
+    core.issue(0, GET, 0, Deadline::Never)?;
     Ok(core)
 }
 
-/// No object is opened over a core that has served a call.
+/// No object is opened over a core on which a call waits from before.
 #[test]
 fn a_used_core(rt: HostRuntime) -> Result<(), Fail> {
     let core = used_core(&rt)?;
-    same(&rt, perform(&rt, core, 1, Scene::Idle).is_none(), true);
+    same(
+        &rt,
+        perform(&rt, core, 1, Scene::Idle).err(),
+        Some(NOT_FRESH),
+    );
     Ok(())
 }

@@ -6,13 +6,16 @@ use crate::asks::same;
 use crate::scenes::{Scene, look, play};
 use po_actions::{Core, Volume};
 use po_object::hold::Pass;
-use po_object::{CallLedger, CloseFault, Closed, Object};
+use po_object::{CallLedger, CloseFault, Closed, Object, OpenFault};
 use po_unit::Unit;
 use std::marker::Brand;
 use std::process::Abort;
 use std::sync::Wait;
 use std::sync::ledger::{Blank, Ledger};
 use std::test::Fail;
+
+/// What is said of a core that has events already.
+pub const NOT_FRESH: &str = "not fresh";
 
 /// What is left of an object, and the volumes that were cut off from its history, in their order.
 #[derive(Drop)]
@@ -40,6 +43,14 @@ fn close_twice<U: Unit<Value = u64> + Drop, C: CallLedger, P: Ledger, R: Abort>(
     object.close(passes).ok()
 }
 
+/// Lets go what the fault hands back, and says which one it is.
+fn name_of<U: Unit<Value = u64> + Drop>(fault: OpenFault<U>) -> &'static str {
+    match &fault {
+        OpenFault::NotFresh(..) => NOT_FRESH,
+        OpenFault::OutOfMemory(..) => "out of memory",
+    }
+}
+
 /// Opens an object, plays the scene, and closes it: where it has two seats, first without the pass of one of them.
 fn open_and_close<
     U: Unit<Value = u64> + Drop,
@@ -53,13 +64,13 @@ fn open_and_close<
     calls: Blank,
     procedures: Blank,
     scene: Scene,
-) -> Option<Shelf<U>>
+) -> Result<Shelf<U>, &'static str>
     requires calls { (calls.name ≡ C.name) × (calls.parts ≡ C.parts) × (calls.parts ≡ seats + 1) }
     requires procedures { (procedures.name ≡ P.name) × (procedures.parts ≡ P.parts) × (procedures.parts ≡ seats + 1) }
     requires shape { core.object.making.shape ≡ C.shape }
 {
     let opened = Object::<U, C, P>::open(rt.alloc(), core, seats, calls, procedures);
-    let (object, mut passes) = opened.ok()?;
+    let (object, mut passes) = opened.map_err(name_of)?;
     let mut volumes = Vec::new(rt.alloc());
     play(rt, &object, &mut passes, scene, &mut volumes);
     let closed = if seats == 2 {
@@ -67,19 +78,19 @@ fn open_and_close<
     } else {
         object.close(passes).ok()
     };
-    Some(Shelf {
-        closed: closed?,
+    Ok(Shelf {
+        closed: closed.ok_or("not closed")?,
         volumes,
     })
 }
 
-/// Plays the scene with an object of so many seats over the core, and gives what is left of it.
+/// Plays the scene with an object of so many seats over the core, and gives what is left of it; else says why there is none.
 pub fn perform<U: Unit<Value = u64> + Drop, R: Abort + Wait + AllocGlobal>(
     rt: &R,
     core: Core<U>,
     seats: u16,
     scene: Scene,
-) -> Option<Shelf<U>> {
+) -> Result<Shelf<U>, &'static str> {
     let parts = u64::from(seats) + 1;
     let (calls, procedures) = (Blank::new(parts), Blank::new(parts));
     open_and_close::<U, Brand, Brand, R>(rt, core, seats, calls, procedures, scene)
@@ -92,7 +103,7 @@ pub fn show<U: Unit<Value = u64> + Drop, R: Abort + Wait + AllocGlobal>(
     seats: u16,
     scene: Scene,
 ) -> Result<(), Fail> {
-    let shelf = perform(rt, core, seats, scene).ok_or("not opened, or not closed")?;
+    let shelf = perform(rt, core, seats, scene)?;
     look(rt, &shelf.closed, scene);
     Ok(())
 }

@@ -16,13 +16,13 @@ fn cut_off<U: Unit<Value = u64> + Drop, R: Abort + Wait + AllocGlobal>(
     rt: &R,
     core: Core<U>,
     value: u64,
-) -> Option<Vec<Volume<u64>>> {
+) -> Result<Vec<Volume<u64>>, &'static str> {
     let shelf = perform(rt, core, 1, Scene::Cuts(value))?;
     let Shelf {
         closed: _closed,
         volumes,
     } = shelf;
-    Some(volumes)
+    Ok(volumes)
 }
 
 /// What the comparison says where no volume that is given begins at the place.
@@ -70,18 +70,16 @@ fn compare_all<U: Unit<Value = u64> + Drop, R: Abort + Wait + AllocGlobal>(
     rt: &R,
     core: Core<U>,
     others: &mut Vec<Volume<u64>>,
-) -> Option<()> {
+) -> Result<(), &'static str> {
     let mut shelf = perform(rt, core, 1, Scene::Cuts(7))?;
     compare_orders(rt, &shelf.closed, &mut shelf.volumes);
     compare_other(rt, &shelf.closed, &mut shelf.volumes, others);
-    Some(())
+    Ok(())
 }
 
 #[test]
 fn volumes_of_two_objects(rt: HostRuntime) -> Result<(), Fail> {
-    let others = cut_off(&rt, empty_buffer(&rt, 1)?, 8);
-    let mut others = others.ok_or("not opened, or not closed")?;
-    let compared = compare_all(&rt, empty_buffer(&rt, 1)?, &mut others);
-    compared.ok_or("not opened, or not closed")?;
+    let mut others = cut_off(&rt, empty_buffer(&rt, 1)?, 8)?;
+    compare_all(&rt, empty_buffer(&rt, 1)?, &mut others)?;
     Ok(())
 }

@@ -52,7 +52,8 @@ const MOST_THREADS: u16 = 64;
 const PIECE: usize = 24 << 20;
 
 /// What is said of other words.
-const USAGE_TEXT: &str = "usage: po_thread_bench [small | full [ROUNDS] | row WORK THREADS TURNS]";
+const USAGE_TEXT: &str =
+    "usage: po_thread_bench [small | full [ROUNDS] | row [bounded-]WORK THREADS TURNS]";
 
 /// What the words of the command line ask for.
 #[derive(Clone, Copy)]
@@ -85,10 +86,14 @@ fn task(work: &str, threads: &str, turns: &str) -> Option<Task> {
     if threads < 1 || threads > MOST_THREADS {
         return None;
     }
-    let (kind, work) = kind_of(work);
+    let (kind, word) = kind_of(work);
+    let work = Work::named(word)?;
+    if matches!(kind, Kind::Bounded) && !work.needs_object() {
+        return None;
+    }
     Some(Task {
         kind,
-        work: Work::named(work)?,
+        work,
         threads,
         turns: turns.parse().ok()?,
     })

@@ -55,6 +55,11 @@ impl Work {
         }
     }
 
+    /// Whether it is done on a protected object.
+    pub(crate) fn needs_object(self) -> bool {
+        !matches!(self, Work::Mutex | Work::Monitor)
+    }
+
     /// The work with this word.
     pub(crate) fn named(word: &str) -> Option<Work> {
         match word {
