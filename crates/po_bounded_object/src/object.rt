@@ -1,12 +1,13 @@
 //! An object that threads share: its machine behind a lock, and where the callers of its seats wait.
 
-ghost use Rattle.std.specs.Prelude.{◌≡◌, ◌≤◌, None, Some, IfOk, IfErr, OnOk, OnErr, IsSome};
+ghost use Rattle.std.specs.Prelude.{◌≡◌, ◌≤◌, None, Some, IfOk, IfErr, IfSome, OnOk, OnErr, IsSome};
 ghost use Rattle.po_index.specs.Numbering.{flat_number};
 ghost use Rattle.po_calls.specs.declared.call.Deadline.TheVariants.{Never, At};
 ghost use Rattle.po_actions.specs.Refusals.{entry_of, entry_refusal, if_unindexed};
 ghost use Rattle.po_actions.specs.declared.refusal.Refusal.{Refusal};
 ghost use Rattle.po_object.specs.Filing.{IsFinished, IsCalled, running};
-ghost use Rattle.po_object.specs.Replies.{IsFunctionReply, IsProcedureReply};
+ghost use Rattle.po_object.specs.Replies.{IsFunctionReply, IsProcedureReply, IsTickReply, IsFinalReply, IsCountReply};
+ghost use Rattle.po_bounded_object.specs.Replies.{IsAbortReply};
 ghost use Rattle.po_bounded_object.specs.Refused.{IsCallRefusal, IsProcedureRefusal, IsFunctionRefusal, IsTickRefusal};
 
 use crate::hold::{BoundedHold, BoundedPass};
@@ -167,6 +168,7 @@ impl<U: Unit, C: CallLedger, P: Ledger, F: Ledger> BoundedObject<U, C, P, F> {
     /// Refused 7 and 8.
     pub fn tick<R: Wait>(&self, rt: &R, t: u64) -> Result<u64, Refusal>
         ensures raised { IfOk result (λ clock. t ≤ clock) }
+        ensures reply { IfOk result (λ clock. IsTickReply U.meaning t clock) }
         ensures refused { IfErr result IsTickRefusal }
     {
         let mut hold = self.change(rt);
@@ -181,6 +183,7 @@ impl<U: Unit, C: CallLedger, P: Ledger, F: Ledger> BoundedObject<U, C, P, F> {
     ///
     /// Refused 7.
     pub fn finalize<R: Wait>(&self, rt: &R) -> Result<(), Refusal>
+        ensures reply { OnOk result (IsFinalReply U.meaning) }
         ensures refused { IfErr result (λ r. r ≡ Refusal.Finalized) }
     {
         let mut hold = self.change(rt);
@@ -195,6 +198,7 @@ impl<U: Unit, C: CallLedger, P: Ledger, F: Ledger> BoundedObject<U, C, P, F> {
     ///
     /// Refused 10, where no call of the seat is queued.
     pub fn abort_seat<R: Wait>(&self, rt: &R, seat: u16) -> Result<Aborted, Refusal>
+        ensures reply { IfOk result (λ aborted. IsAbortReply U.meaning seat aborted) }
         ensures refused { IfErr result (λ r. r ≡ Refusal.NoCall) }
     {
         let mut hold = self.change(rt);
@@ -210,6 +214,7 @@ impl<U: Unit, C: CallLedger, P: Ledger, F: Ledger> BoundedObject<U, C, P, F> {
     ///
     /// Refused 1 and 3.
     pub fn try_count(&self, entry: EntryRef) -> Result<Option<u64>, Refusal>
+        ensures reply { IfOk result (λ count. IfSome count (λ n. IsCountReply U.meaning (entry_of C.shape entry) n)) }
         ensures allowed { IfOk result (λ count. IsSome count → if_unindexed (flat_number C.shape entry) None ≡ None) }
         ensures refused { IfErr result (λ r. if_unindexed (flat_number C.shape entry) None ≡ Some r) }
     {

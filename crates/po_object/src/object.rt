@@ -1,13 +1,13 @@
 //! An object that threads share: its core behind a lock, and where the callers of its seats wait.
 
-ghost use Rattle.std.specs.Prelude.{◌≡◌, ◌+◌, ◌≤◌, None, Some, IfOk, IfErr, OnOk, OnErr, IsSome};
+ghost use Rattle.std.specs.Prelude.{◌≡◌, ◌+◌, ◌≤◌, None, Some, IfOk, IfErr, IfSome, OnOk, OnErr, IsSome};
 ghost use Rattle.po_index.specs.Numbering.{flat_number};
 ghost use Rattle.po_calls.specs.declared.call.Deadline.TheVariants.{Never, At};
 ghost use Rattle.po_actions.specs.Refusals.{entry_of, entry_refusal, if_unindexed};
 ghost use Rattle.po_actions.specs.declared.refusal.Refusal.{Refusal};
 ghost use Rattle.po_receipts.specs.Answers.{AskedBySeats};
 ghost use Rattle.po_object.specs.Filing.{IsFinished, IsCalled, running};
-ghost use Rattle.po_object.specs.Replies.{IsFunctionReply, IsProcedureReply};
+ghost use Rattle.po_object.specs.Replies.{IsFunctionReply, IsProcedureReply, IsTickReply, IsFinalReply, IsAbortReply, IsCountReply};
 ghost use Rattle.po_object.specs.Refused.{IsCallRefusal, IsProcedureRefusal, IsFunctionRefusal, IsTickRefusal, IsCutRefusal};
 
 use crate::hold::{Hold, Pass};
@@ -182,6 +182,7 @@ impl<U: Unit, C: CallLedger, P: Ledger> Object<U, C, P> {
     /// Refused as `Core::tick` is.
     pub fn tick<R: Wait>(&self, rt: &R, t: u64) -> Result<u64, Refusal>
         ensures raised { IfOk result (λ clock. t ≤ clock) }
+        ensures reply { IfOk result (λ clock. IsTickReply U.meaning t clock) }
         ensures refused { IfErr result IsTickRefusal }
     {
         let mut hold = self.change(rt);
@@ -196,6 +197,7 @@ impl<U: Unit, C: CallLedger, P: Ledger> Object<U, C, P> {
     ///
     /// Refused as `Core::finalize` is.
     pub fn finalize<R: Wait>(&self, rt: &R) -> Result<(), Refusal>
+        ensures reply { OnOk result (IsFinalReply U.meaning) }
         ensures refused { IfErr result (λ r. r ≡ Refusal.Finalized) }
     {
         let mut hold = self.change(rt);
@@ -210,6 +212,7 @@ impl<U: Unit, C: CallLedger, P: Ledger> Object<U, C, P> {
     ///
     /// Refused 10, where no call of the seat is queued.
     pub fn abort_seat<R: Wait>(&self, rt: &R, seat: u16) -> Result<Aborted, Refusal>
+        ensures reply { IfOk result (λ aborted. IsAbortReply U.meaning seat aborted) }
         ensures refused { IfErr result (λ r. r ≡ Refusal.NoCall) }
     {
         let mut hold = self.change(rt);
@@ -225,6 +228,7 @@ impl<U: Unit, C: CallLedger, P: Ledger> Object<U, C, P> {
     ///
     /// Refused as `Core::count` is.
     pub fn try_count(&self, entry: EntryRef) -> Result<Option<u64>, Refusal>
+        ensures reply { IfOk result (λ count. IfSome count (λ n. IsCountReply U.meaning (entry_of C.shape entry) n)) }
         ensures allowed { IfOk result (λ count. IsSome count → if_unindexed (flat_number C.shape entry) None ≡ None) }
         ensures refused { IfErr result (λ r. if_unindexed (flat_number C.shape entry) None ≡ Some r) }
     {
