@@ -51,13 +51,14 @@ def prepare():
     """Builds both programs that carry out scripts."""
     for name in ("carry_out", "two_functions"):
         build(name, "-O1")
-    # The first call may have to build pobj, and says on standard error how far that is.
+    # A build says on standard error how far it is.
+    words = ["run"] if "POBJ" in os.environ else ["build"]
     try:
-        first = subprocess.run([POBJ, "run"], stdin=subprocess.DEVNULL, stdout=subprocess.DEVNULL, timeout=BUILD_LIMIT)
+        first = subprocess.run([POBJ, *words], stdin=subprocess.DEVNULL, stdout=subprocess.DEVNULL, timeout=BUILD_LIMIT)
     except subprocess.TimeoutExpired as late:
         raise Failed(f"{POBJ} took more than {BUILD_LIMIT} seconds to build") from late
     if first.returncode != 0:
-        raise Failed(f"{POBJ} can't be run: status {first.returncode}")
+        raise Failed(f"{POBJ} can't be built or run: status {first.returncode}")
 
 
 def run(words, text, limit=LIMIT):

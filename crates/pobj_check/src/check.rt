@@ -1,36 +1,11 @@
-//! `pobj check`: a script is read and not carried out, and its faults are explained.
+//! A script is read and not carried out, and its faults are explained.
 
-use crate::command_line::NAME;
-use crate::status::{FINDINGS, GOOD, NO_MEANS};
-use clap::{Arg, ArgMatches, Command};
 use po_check::{CheckFault, TextReport, Verdict, check_script};
+use po_command_line::{FINDINGS, GOOD, NAME, NO_MEANS};
 use po_script::OverStd;
-use std::alloc::{AllocError, Global};
 use std::fs::File;
 use std::io::{self, BufWriter, Eprint, Input, Print, Read, Write};
 use std::rt::Files;
-
-/// The word that asks for a check of a script.
-pub(crate) const CHECK: &str = "check";
-
-/// The words behind `check`.
-pub(crate) fn check_command<'a>(alloc: Global) -> Result<Command<'a>, AllocError> {
-    let file = Arg::new(alloc, "FILE").help("The script; standard input where none is named");
-    Command::new(alloc, CHECK)
-        .about("Reads a script and carries out nothing: explains each line with a fault")
-        .after_help(
-            "Each fault is explained in a line, and so is each command that is sure to be refused. The status\nis 1 where there is one, and 0 where there is none.",
-        )
-        .arg(file)
-}
-
-/// The file that the words behind `check` name, if they name one.
-pub(crate) fn file_of(alloc: Global, matches: &ArgMatches) -> Result<Option<String>, AllocError> {
-    match matches.get_str("FILE") {
-        Some(name) => Ok(Some(String::from_str(alloc, name)?)),
-        None => Ok(None),
-    }
-}
 
 /// Checks the script that the reader gives, and writes what is found to standard output.
 fn check_from<R: Print + AllocGlobal, T: Read + Drop>(

@@ -1,21 +1,21 @@
-//! The statuses with which the program ends.
+//! The statuses with which the programs end.
 
 use po_script::RunFault;
 
 /// The status of a good end.
-pub(crate) const GOOD: u8 = 0;
+pub const GOOD: u8 = 0;
 
 /// The status where the script has a fault.
 const SCRIPT_FAULT: u8 = 1;
 
 /// The status where a check finds something.
-pub(crate) const FINDINGS: u8 = 1;
+pub const FINDINGS: u8 = 1;
 
 /// The status where the words of the command line are refused.
 pub(crate) const USAGE: u8 = 2;
 
 /// The status where memory was wanting, or a read or a write failed.
-pub(crate) const NO_MEANS: u8 = 4;
+pub const NO_MEANS: u8 = 4;
 
 /// The status of a fault.
 pub(crate) fn status_of(fault: &RunFault) -> u8 {

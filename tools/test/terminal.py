@@ -1,4 +1,4 @@
-"""Types a script at a terminal: each answer comes before the next line is typed, and a fault is said in words."""
+"""Types a script at a terminal: each answer comes before the next line is typed, and a fault is told."""
 
 import os
 import pty
@@ -13,7 +13,7 @@ TYPED = [
     ("unit buffer 2\ncall Get 0\n", "#1"),
     ("call Put 7\n", "1 done 7"),
     ("cal Put 8\n", "pobj: line 4: unknown command"),
-    ("", "line 4, column 1: unknown command 'cal'; did you mean 'call'?"),
+    ("", "pobj: `pobj check FILE` explains what is wrong with a script"),
 ]
 
 

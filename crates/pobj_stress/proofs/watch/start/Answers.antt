@@ -7,9 +7,9 @@ use denote.RattleType.{RattleType}
 use denote.Struct.Declared as Declared
 use denote.Struct.Tuple as Tuple
 use mathlib.Core.List.{List, [], ◌∷◌}
-use Rattle.po_main.proofs.watch.Shared.TheSendSync as shared
-use Rattle.po_main.specs.contracts.watch.Shared as Shared
-use Rattle.po_main.proofs.watch.start.Goals as goal
+use Rattle.pobj_stress.proofs.watch.Shared.TheSendSync as shared
+use Rattle.pobj_stress.specs.contracts.watch.Shared as Shared
+use Rattle.pobj_stress.proofs.watch.start.Goals as goal
 use Rattle.std.below.std_heap.proofs.GlobalAllocator.TheSendSync as frees
 use Rattle.std.proofs.alloc.Global.TheSendSync as global
 use Rattle.std.proofs.sync.Arc.TheSendSync as arc
@@ -21,7 +21,7 @@ pub spawn-requires-send-F : goal.spawn-requires-send-F
 spawn-requires-send-F g c κs within =
     let a = arc.the_send Shared.the_row Global.the_row Heap.ghosts shared.the_send global.the_send shared.the_sync global.the_sync frees.the_frees in
     let s = c.type_bounds.send-R in
-    let ν : List ℕ = 112 ∷ 111 ∷ 95 ∷ 109 ∷ 97 ∷ 105 ∷ 110 ∷ 58 ∷ 58 ∷ 119 ∷ 97 ∷ 116 ∷ 99 ∷ 104 ∷ 58 ∷ 58 ∷ 102 ∷ 110 ∷ 58 ∷ 58 ∷ 115 ∷ 116 ∷ 97 ∷ 114 ∷ 116 ∷ 58 ∷ 58 ∷ 106 ∷ 111 ∷ 98 ∷ 43 ∷ 83 ∷ 101 ∷ 108 ∷ 102 ∷ [] in
+    let ν : List ℕ = 112 ∷ 111 ∷ 98 ∷ 106 ∷ 95 ∷ 115 ∷ 116 ∷ 114 ∷ 101 ∷ 115 ∷ 115 ∷ 58 ∷ 58 ∷ 119 ∷ 97 ∷ 116 ∷ 99 ∷ 104 ∷ 58 ∷ 58 ∷ 102 ∷ 110 ∷ 58 ∷ 58 ∷ 115 ∷ 116 ∷ 97 ∷ 114 ∷ 116 ∷ 58 ∷ 58 ∷ 106 ∷ 111 ∷ 98 ∷ 43 ∷ 83 ∷ 101 ∷ 108 ∷ 102 ∷ [] in
     let Ts : List RattleType = Param.copied 0 g.row.R ∷ Arc.the_row Shared.the_row Global.the_row Heap.ghosts ∷ [] in
     Send.param_send 1 _ (Send.arg_send _ Exit.no _
     (Send.recorded_send (Tuple.field_at ν Ts).row _ _ (Tuple.type_at ν Ts).to_one (Send.struct_send (Declared.shape (Tuple.type_at ν Ts))

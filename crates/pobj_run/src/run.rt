@@ -1,10 +1,7 @@
-//! `pobj run`: a script from standard input is carried out on a protected object.
+//! A script from standard input is carried out on a protected object.
 
 ghost use Rattle.std.specs.Prelude.{◌≡◌, false};
 
-use crate::explain::explain;
-use crate::fault::Fault;
-use crate::keeping::Keeping;
 use crate::terminals::Terminals;
 use po_script::{OverStd, RunFault, Source, run_script};
 use std::alloc::Global;
@@ -48,35 +45,13 @@ fn answer<R: Print + AllocGlobal, S: Source>(
     }
 }
 
-/// Carries out the script on standard input, keeps it, and says of a fault in words what is wrong.
-fn run_explained<R: Input + Print + AllocGlobal>(
-    rt: &R,
-    terminals: Terminals,
-) -> Result<(), Fault> {
-    let alloc = rt.alloc();
-    let mut source = Keeping::new(alloc, OverStd::new(rt.reader()));
-    let Err(fault) = answer(rt, &mut source, terminals) else {
-        return Ok(());
-    };
-    let explanation = match fault {
-        RunFault::Script { line, .. } => explain(alloc, source.given(), line),
-        _ => None,
-    };
-    Err(Fault::Run(fault, explanation))
-}
-
-/// Carries out the script on standard input. Where standard error is a terminal, the script is kept, so that a fault can be
-/// said in words too.
+/// Carries out the script on standard input. Who types it is told how.
 pub(crate) fn run<R: Input + Print + Eprint + AllocGlobal>(
     rt: &R,
     terminals: Terminals,
-) -> Result<(), Fault> {
-    if !terminals.errors {
-        answer(rt, &mut OverStd::new(rt.reader()), terminals)?;
-        return Ok(());
-    }
-    if terminals.input {
+) -> Result<(), RunFault> {
+    if terminals.input && terminals.errors {
         let _ = eprintln!(rt; "{HINT}");
     }
-    run_explained(rt, terminals)
+    answer(rt, &mut OverStd::new(rt.reader()), terminals)
 }

@@ -1,38 +1,38 @@
-//! Why the program doesn't do what it was asked for, or not to its end.
+//! Why a program doesn't do what it was asked for, or not to its end.
 
-use crate::command_line::NAME;
 use crate::status::{GOOD, NO_MEANS, USAGE, status_of};
+use crate::words::NAME;
 use clap::Error;
 use clap::error::ErrorKind;
 use po_script::RunFault;
 use std::alloc::AllocError;
 use std::io::{Eprint, Print};
 
-/// Why the program doesn't do what it was asked for, or not to its end.
+/// Why a program doesn't do what it was asked for, or not to its end.
 #[derive(Drop)]
-pub(crate) enum Fault {
+pub enum Fault {
     /// The words of the command line ask for help, or are refused.
     Words(Error),
-    /// The script has a fault, memory was wanting, or a read or a write failed; and what explains it, if something does.
-    Run(RunFault, Option<String>),
+    /// The script has a fault, memory was wanting, or a read or a write failed.
+    Run(RunFault),
 }
 
 impl From<RunFault> for Fault {
     fn from(fault: RunFault) -> Fault {
-        Fault::Run(fault, None)
+        Fault::Run(fault)
     }
 }
 
 impl From<AllocError> for Fault {
     fn from(_error: AllocError) -> Fault {
-        Fault::Run(RunFault::Memory, None)
+        Fault::Run(RunFault::Memory)
     }
 }
 
 impl From<Error> for Fault {
     fn from(error: Error) -> Fault {
         if error.kind() == ErrorKind::OutOfMemory {
-            Fault::Run(RunFault::Memory, None)
+            Fault::Run(RunFault::Memory)
         } else {
             Fault::Words(error)
         }
@@ -41,14 +41,11 @@ impl From<Error> for Fault {
 
 impl Fault {
     /// Prints the fault, or the help that was asked for, and gives the status.
-    pub(crate) fn print<R: Print + Eprint>(&self, rt: &R) -> u8 {
+    pub fn print<R: Print + Eprint>(&self, rt: &R) -> u8 {
         match self {
             Fault::Words(error) => print_words(rt, error),
-            Fault::Run(fault, explanation) => {
+            Fault::Run(fault) => {
                 let _ = eprintln!(rt; "{NAME}: {fault}");
-                if let Some(text) = explanation {
-                    let _ = eprintln!(rt; "{text}");
-                }
                 status_of(fault)
             }
         }

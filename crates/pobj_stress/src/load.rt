@@ -3,9 +3,9 @@
 ghost use Rattle.std.specs.Prelude.{◌≤◌};
 ghost use Rattle.po_stress.specs.declared.runs.TheConstants.{MOST_THREADS, MOST_CALLS};
 
-use crate::command_line::refuse_load;
-use crate::fault::Fault;
+use crate::asked::refuse_load;
 use crate::watch::Watch;
+use po_command_line::Fault;
 use po_script::{IoFailed, OverStd, RunFault, Sink};
 use po_stress::{
     Progress, Report, StressFault, StressUnit, Totals, stress_bounded, stress_watched,
@@ -83,7 +83,7 @@ pub(crate) fn run<R: Print + Eprint + Threads + Wait + AllocGlobal + Copy + Send
     terminal: bool,
 ) -> Result<u8, Fault> {
     let Ok(progress) = Arc::new(rt.alloc(), Progress::new()) else {
-        return Err(Fault::Run(RunFault::Memory, None));
+        return Err(Fault::Run(RunFault::Memory));
     };
     let watch = if terminal {
         Watch::start(rt, &progress)
@@ -96,7 +96,7 @@ pub(crate) fn run<R: Print + Eprint + Threads + Wait + AllocGlobal + Copy + Send
     }
     match told {
         Ok(told) => Ok(write(&rt, &told)?),
-        Err(StressFault::OutOfMemory) => Err(Fault::Run(RunFault::Memory, None)),
+        Err(StressFault::OutOfMemory) => Err(Fault::Run(RunFault::Memory)),
         Err(fault) => {
             let reason = format!(in rt.alloc(); "{fault}")?;
             Err(Fault::from(refuse_load(rt.alloc(), reason.as_str())?))

@@ -1,0 +1,25 @@
+//! The program behind `pobj check`: a script is read and not carried out, and its faults are explained.
+#![tactic(auto)]
+
+mod asked;
+mod check;
+
+use po_command_line::Fault;
+use std::env::Env;
+use std::io::{Eprint, Input, Print};
+use std::process::ExitCode;
+use std::rt::Files;
+
+/// Checks the script that the words of the command line name, and gives the status.
+fn start<R: Env + Input + Print + Eprint + Files + AllocGlobal>(rt: &R) -> Result<u8, Fault> {
+    let file = asked::parse(rt)?;
+    Ok(check::check(rt, file))
+}
+
+fn main(rt: HostRuntime) -> ExitCode {
+    let status = match start(&rt) {
+        Ok(status) => status,
+        Err(fault) => fault.print(&rt),
+    };
+    ExitCode::from(status)
+}

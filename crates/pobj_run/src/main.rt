@@ -1,0 +1,48 @@
+//! The program behind `pobj run`: a script from standard input is carried out on a protected object.
+#![tactic(auto)]
+
+mod asked;
+mod run;
+mod terminals;
+
+use po_command_line::{Fault, GOOD, NAME};
+use po_script::RunFault;
+use std::env::Env;
+use std::io::{Eprint, Input, IsTerminal, Print};
+use std::process::ExitCode;
+use terminals::Terminals;
+
+/// Where the fault of a script is explained.
+const EXPLAINED: &str = "`pobj check FILE` explains what is wrong with a script";
+
+/// Carries out the script, if the words of the command line ask for that.
+fn start<R: Env + Input + Print + Eprint + AllocGlobal>(
+    rt: &R,
+    terminals: Terminals,
+) -> Result<(), Fault> {
+    asked::parse(rt)?;
+    run::run(rt, terminals)?;
+    Ok(())
+}
+
+/// Prints the fault, or the help that was asked for, and gives the status. Who reads along is told what explains the fault of
+/// a script.
+fn tell<R: Print + Eprint>(rt: &R, fault: &Fault, terminals: Terminals) -> u8 {
+    let status = fault.print(rt);
+    if terminals.errors && matches!(fault, Fault::Run(RunFault::Script { .. })) {
+        let _ = eprintln!(rt; "{NAME}: {EXPLAINED}");
+    }
+    status
+}
+
+fn main(rt: HostRuntime) -> ExitCode {
+    let terminals = Terminals {
+        input: rt.stdin().is_terminal(),
+        errors: rt.stderr().is_terminal(),
+    };
+    let status = match start(&rt, terminals) {
+        Ok(()) => GOOD,
+        Err(fault) => tell(&rt, &fault, terminals),
+    };
+    ExitCode::from(status)
+}

@@ -1,0 +1,88 @@
+# shellcheck shell=bash
+# Whether `pobj` builds and tries what it has to, in a small repository of its own with a toolchain that only acts. Read by `test`.
+
+# A call of `pobj` there, with the status that it has to end with.
+call_there() {
+  local want=$1 got
+  shift
+  PATH=$scratch/build/bin "$scratch/build/pobj" "$@" </dev/null >"$scratch/out" 2>"$scratch/err"
+  got=$?
+  if [ "$got" -eq "$want" ]; then pass; else fail "pobj $* there: status $got, wanted $want: $(cat "$scratch/err")"; fi
+}
+
+# Whether what the last call wrote has the text: on standard output (out), or on standard error (err).
+wrote_there() {
+  if grep -qF -- "$2" "$scratch/$1"; then pass; else fail "wanted on $1: $2; written: $(cat "$scratch/$1")"; fi
+}
+
+# The toolchain that acts: its trial ends as the text says.
+act_as() {
+  cat >"$scratch/build/bin/rt" <<END
+#!/bin/sh
+case "\$1" in
+  try) $1 ;;
+  *) printf '#!/bin/sh\necho ran\n' >out/pobj_run; chmod +x out/pobj_run ;;
+esac
+END
+  chmod +x "$scratch/build/bin/rt"
+}
+
+# Makes the repository, which has no toolchain so far.
+make_repository() {
+  local work=$scratch/build tool
+  mkdir -p "$work/bin" "$work/crates/pobj_run/src"
+  cp -r pobj tools "$work/"
+  echo 'pobj_run:' >"$work/crates.txt"
+  for tool in awk bash sh cat chmod find flock grep head mkdir mktemp mv nproc rm sleep stat tail touch; do
+    ln -s "$(command -v "$tool")" "$work/bin/$tool"
+  done
+}
+
+# A trial that is told to stop leaves nothing running.
+stopped() {
+  local pid look
+  act_as "echo \$\$ >$scratch/child; exec sleep 60"
+  touch "$scratch/build/crates/pobj_run/src/main.rt"
+  PATH=$scratch/build/bin "$scratch/build/pobj" run </dev/null >/dev/null 2>&1 &
+  pid=$!
+  for look in $(seq 100); do
+    [ ! -s "$scratch/child" ] || break
+    sleep 0.1
+  done
+  kill -TERM "$pid"
+  wait "$pid"
+  if [ ! -s "$scratch/child" ] || kill -0 "$(cat "$scratch/child")" 2>/dev/null; then
+    fail "a trial that was told to stop, after $look looks, runs on or never ran"
+  else
+    pass
+  fi
+}
+
+# No toolchain; trials that answer, that are refused, and that don't end; a build that fails; one that makes a program; and a
+# trial again where a source is newer.
+builds() {
+  make_repository
+  call_there 6 run
+  act_as 'cat >/dev/null; echo tried; echo "pobj: own" >&2; echo "checked: ended" >&2; echo "run=ended status=1 proved=no" >&2; exit 1'
+  call_there 1 run
+  wrote_there out tried
+  wrote_there err "an unproved trial"
+  wrote_there err "pobj: own"
+  if grep -q '^checked' "$scratch/err"; then fail "the toolchain's lines are shown"; else pass; fi
+  act_as 'echo "error: refused" >&2; echo "run=none proved=no" >&2; exit 1'
+  call_there 5 run
+  wrote_there err "the trial gave no answer"
+  printf '#!/bin/sh\nexit 1\n' >"$scratch/build/bin/rt"
+  call_there 5 build
+  act_as 'exit 2'
+  call_there 0 build
+  call_there 0 run
+  wrote_there out ran
+  sleep 0.1
+  touch "$scratch/build/crates/pobj_run/src/main.rt"
+  call_there 5 run
+  wrote_there err "a source is newer"
+  call_there 0 build
+  call_there 2 build everything
+  stopped
+}

@@ -1,0 +1,102 @@
+# shellcheck shell=bash
+# The scripts of examples/ and cases/: NAME.pobj, or NAME.make, a line that writes it, with what it has to write: NAME.out, and where
+# they are there NAME.err, NAME.status and the words of the command line in NAME.words. Read by `test`.
+
+# Sets what the case is about: its words, its status, and the program that carries it out.
+read_case() {
+  words=run
+  want=0
+  [ ! -f "$1.words" ] || words=$(cat "$1.words")
+  [ ! -f "$1.status" ] || want=$(cat "$1.status")
+  # shellcheck disable=SC2086
+  program_of $words
+}
+
+# The paths of all cases, without their endings.
+all_cases() {
+  local file
+  for file in examples/*.pobj cases/*.pobj cases/*.make; do
+    [ ! -f "$file" ] || echo "${file%.*}"
+  done
+}
+
+# Writes the script of the case.
+script_of() {
+  if [ -f "$1.make" ]; then bash "$1.make"; else cat "$1.pobj"; fi
+}
+
+# Carries out a case by the built program.
+run_case() {
+  local base=$1 got words want program
+  read_case "$base"
+  # shellcheck disable=SC2086
+  ./pobj $words < <(script_of "$base") >"$scratch/out" 2>"$scratch/err"
+  got=$?
+  : >"$scratch/want"
+  [ ! -f "$base.err" ] || cp "$base.err" "$scratch/want"
+  if [ "$got" -eq "$want" ] && cmp -s "$scratch/out" "$base.out" && cmp -s "$scratch/err" "$scratch/want"; then
+    pass
+  else
+    fail "$base: status $got, wanted $want"
+    diff "$base.out" "$scratch/out"
+    diff "$scratch/want" "$scratch/err"
+  fi
+}
+
+# A run from a file into a file, one of which fails: the last word is what has to be said of it.
+broken() {
+  local got
+  ./pobj run <"$1" >"$2" 2>"$scratch/err"
+  got=$?
+  if [ "$got" -eq 4 ] && [ "$(cat "$scratch/err")" = "pobj: $3" ]; then
+    pass
+  else
+    fail "from $1 into $2: status $got, $(cat "$scratch/err")"
+  fi
+}
+
+# Carries out each case by the built programs, and scripts whose reading or writing fails.
+run_cases() {
+  local base
+  for base in $(all_cases); do
+    run_case "$base"
+  done
+  broken / "$scratch/out" "read failed"
+  broken examples/buffer.pobj /dev/full "write failed"
+}
+
+# A script that is typed at a terminal.
+typed() {
+  if timeout 120 python3 tools/test/terminal.py ./pobj; then pass; else fail "a script that is typed"; fi
+}
+
+# Lays out the cases of the program as a trial takes them, those with big scripts left out.
+lay_out_cases() {
+  local base name words want program
+  mkdir -p "$scratch/$1/cases"
+  for base in $(all_cases); do
+    read_case "$base"
+    name=$scratch/$1/cases/${base#*/}
+    if [ "$program" = "$1" ] && [ ! -f "$base.make" ]; then
+      cp "$base.pobj" "$name"
+      cp "$base.out" "$name.stdout"
+      tr ' ' '\n' <<<"$words" | sed '/^$/d' >"$name.args"
+      echo "$want" >"$scratch/$1/${base#*/}.want"
+    fi
+  done
+}
+
+# Carries out the cases of the program by one trial of its sources. It compares what they write and their statuses.
+try_cases() {
+  local file name
+  lay_out_cases "$1"
+  (cd "crates/$1" && rt try --seconds 120 --cases "$scratch/$1/cases") >"$scratch/$1/said" 2>&1
+  for file in "$scratch/$1"/*.want; do
+    name=$(basename "$file" .want)
+    if grep -qE "^case=$name run=ended status=$(cat "$file") .*output=expected" "$scratch/$1/said"; then
+      pass
+    else
+      fail "$name, by a trial: $(grep "^case=$name " "$scratch/$1/said" || tail -n 3 "$scratch/$1/said")"
+    fi
+  done
+}

@@ -1,0 +1,89 @@
+# shellcheck shell=bash
+# The proofs of the crates from nothing, with their wrong bodies: `rt ci` over a copy. Read by `test`.
+
+# The crates whose wrong bodies the last full run saw refused, each with the sum of its files, behind the commit of that run.
+tested=tools/test/tested.txt
+
+# The sum of what a crate's wrong bodies are tried on, and of these.
+sum_of() {
+  (cd "crates/$1" && find src specs proofs must-fail -type f 2>/dev/null | LC_ALL=C sort | xargs sha256sum | sha256sum | cut -c1-16)
+}
+
+# Whether the crate is as the last full run met it.
+is_tested() { grep -qx "$1 $(sum_of "$1")" "$tested" 2>/dev/null; }
+
+# The names of the crates of crates.txt.
+crate_names() { sed -nE 's/^([a-z_0-9]+).*:.*/\1/p' crates.txt; }
+
+# Copies the crates into a folder, without what was built.
+copy_crates() {
+  mkdir -p "$1/.git" "$1/crates"
+  cp crates.txt HANDLES "$1/"
+  tar -c --exclude='crates/*/out' crates | tar -x -C "$1"
+}
+
+# Leaves out of the copy the wrong bodies of each crate that is as the last full run met it.
+leave_out_tested() {
+  local name
+  for name in $(crate_names); do
+    if is_tested "$name"; then rm -rf "$1/crates/$name/must-fail"; fi
+  done
+}
+
+# Leaves out of the copy the crates that are tests alone: they were run before, with a check at each operation.
+leave_out_tests() {
+  local name
+  for name in $(crate_names); do
+    if [[ $name == *_tests && -f crates/$name/src/lib.rt ]]; then
+      rm -rf "$1/crates/$name"
+      sed -i "/^$name\b/d" "$1/crates.txt"
+    fi
+  done
+}
+
+# Proves what is in the copy, tries its wrong bodies, runs its programs and its tests, and takes over the programs.
+prove() {
+  local status name
+  (cd "$1" && rt ci 2>&1) | sed -u "s,$1/,,g" | tee "$scratch/proofs"
+  status=${PIPESTATUS[0]}
+  count "$scratch/proofs" "rt ci"
+  [ "$status" -eq 0 ] || fail "rt ci ended with status $status"
+  for name in "$1"/crates/*/out/; do
+    name=$(basename "$(dirname "$name")")
+    [ ! -x "$1/crates/$name/out/$name" ] || take_over "$1" "$name"
+  done
+}
+
+# Takes over a program that was built in the copy.
+take_over() {
+  mkdir -p "crates/$2/out"
+  cp "$1/crates/$2/out/$2" "crates/$2/out/$2.new"
+  mv "crates/$2/out/$2.new" "crates/$2/out/$2"
+  rm -f "crates/$2/out/$2.begun"
+}
+
+# All proofs, with the wrong bodies of what changed since the last full run.
+prove_changed() {
+  copy_crates "$scratch/copy"
+  leave_out_tested "$scratch/copy"
+  leave_out_tests "$scratch/copy"
+  prove "$scratch/copy"
+}
+
+# All proofs, those of tests too, and all wrong bodies. What passed is noted.
+prove_all() {
+  copy_crates "$scratch/copy"
+  prove "$scratch/copy"
+  if [ "$failed" -eq 0 ]; then note_tested; fi
+}
+
+# Notes the crates as a full run has met them.
+note_tested() {
+  local name
+  {
+    echo "# The crates as the last ./test all met them, at commit $(git rev-parse --short HEAD), each with the sum of its files."
+    for name in $(crate_names); do
+      echo "$name $(sum_of "$name")"
+    done
+  } >"$tested"
+}

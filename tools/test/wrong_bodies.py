@@ -1,0 +1,94 @@
+#!/usr/bin/env python3
+"""Tries the wrong bodies of crates (crates/NAME/must-fail/*.edit) over what `rt check` kept in their folders `out`: the prover
+has to refuse each. Without names those of all crates. Prints a line for each, and at the end 'N passed, M failed'.
+
+`rt ci` tries them too, from nothing; this takes half a minute each."""
+
+import os
+import pathlib
+import re
+import shutil
+import subprocess
+import sys
+import tempfile
+
+TOP = pathlib.Path(__file__).resolve().parent.parent.parent
+
+
+def edited(edit, crate):
+    """The texts of the files that the edit changes, by their paths in the crate. A ValueError says why it can't be applied."""
+    texts, path, old = {}, None, None
+    for line in edit.read_text().split("\n"):
+        if line.startswith("file: "):
+            path = line[6:].strip()
+            texts.setdefault(path, (crate / path).read_text())
+        elif line.startswith("old: "):
+            old = line[5:]
+        elif line.startswith("new:"):
+            if texts[path].count(old) != 1:
+                raise ValueError(f"its old text stands in {path} {texts[path].count(old)} times")
+            texts[path] = texts[path].replace(old, line[4:].removeprefix(" "))
+    return texts
+
+
+def only(path):
+    """The words by which `rt check` checks the module of this file alone."""
+    parts = pathlib.PurePath(path).with_suffix("").parts
+    return ["--only", "::".join(parts[1:])] if parts[0] == "src" and parts[1:] not in (("lib",), ("main",)) else []
+
+
+def is_refused(crate, texts):
+    """Whether the prover refuses the crate in this folder with these texts, and what it said."""
+    kept = {path: (crate / path).read_text() for path in texts}
+    try:
+        for path, text in texts.items():
+            (crate / path).write_text(text)
+        words = ["rt", "check"]
+        for path in texts:
+            words += only(path)
+        ran = subprocess.run(words, cwd=crate, stdin=subprocess.DEVNULL, capture_output=True, text=True, errors="replace")
+    finally:
+        for path, text in kept.items():
+            (crate / path).write_text(text)
+    said = ran.stdout + ran.stderr
+    return ran.returncode == 1 and "logic=not-proved" in said and not re.search(r"\berror\[[\w-]+\]", said), said
+
+
+def try_edit(edit, crate):
+    """Tries one wrong body in the copy of its crate, prints what came of it, and answers whether it was refused."""
+    try:
+        refused, said = is_refused(crate, edited(edit, crate))
+    except (OSError, ValueError) as fault:
+        refused, said = False, str(fault)
+    name = f"{crate.name}/{edit.stem}"
+    print(f"{name}: refused" if refused else f"FAILED: {name}: not refused, or not tried: {said[-400:]}", flush=True)
+    return refused
+
+
+def copy_sources(to):
+    """Copies what the toolchain reads into a folder; what it kept here it finds by itself."""
+    for name in ("crates.txt", "HANDLES"):
+        shutil.copy(TOP / name, to / name)
+    shutil.copytree(TOP / "crates", to / "crates", ignore=shutil.ignore_patterns("out", "must-fail"))
+
+
+def main(names):
+    """Tries the wrong bodies of these crates, and gives the status."""
+    crates = names or sorted(it.name for it in (TOP / "crates").iterdir())
+    lacking = [it for it in crates if not (TOP / "crates" / it / "src").is_dir()]
+    if lacking:
+        print(f"no such crate: {lacking[0]}", file=sys.stderr)
+        return 2
+    results = []
+    with tempfile.TemporaryDirectory() as room:
+        copy_sources(pathlib.Path(room))
+        for name in crates:
+            for edit in sorted((TOP / "crates" / name / "must-fail").glob("*.edit")):
+                results.append(try_edit(edit, pathlib.Path(room) / "crates" / name))
+    print(f"{sum(results)} passed, {len(results) - sum(results)} failed")
+    return 0 if all(results) else 1
+
+
+if __name__ == "__main__":
+    os.chdir(TOP)
+    sys.exit(main(sys.argv[1:]))

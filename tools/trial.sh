@@ -1,0 +1,103 @@
+# shellcheck shell=bash
+# A trial of a program's sources: the toolchain runs them with a check at each operation, and proves nothing. Read by `pobj`.
+
+# The most bytes of standard input that a trial takes, and the most seconds that its program runs.
+most_input=67108864
+most_seconds=60
+
+# Says why a trial can't serve, and what does.
+refuse_trial() {
+  say "$1, which a trial of the sources can't serve: '$(build_words "$program")' proves and builds the program, which can"
+  exit 5
+}
+
+# Says that this is a trial, how long it takes, and what ends trials.
+announce_trial() {
+  local why="the program isn't built" path
+  path_of "$program"
+  [ ! -x "$path" ] || why="a source is newer than the program"
+  say "$why, so this is an unproved trial of the sources: about a minute"
+  say "'$(build_words "$program")' proves and builds it: about $(minutes_of "$program") minutes on 4 processors (here are $(nproc)), then milliseconds a call"
+}
+
+# Ends the trial that still runs, and removes what was kept for it.
+end_trial() {
+  if [ -n "$trial" ]; then
+    kill -TERM "$trial" 2>/dev/null || true
+    wait "$trial" 2>/dev/null || true
+  fi
+  rm -rf "$room"
+}
+
+# Keeps what the program reads: a trial hands it over whole.
+keep_input() {
+  head -c $((most_input + 1)) >"$room/input" || refuse_trial "the script can't be read"
+  [ "$(stat -c %s "$room/input")" -le "$most_input" ] || refuse_trial "the script has more than 64 MiB"
+}
+
+# Keeps the script that the words name; a script on standard input takes the place of its name.
+keep_script() {
+  local file=${words[-1]}
+  [ ! -d "$file" ] || refuse_trial "$file is a folder"
+  if [ -e "$file" ]; then
+    keep_input <"$file"
+    words=(check)
+  fi
+}
+
+# Keeps the input of the program that carries out `words`.
+keep_input_of_words() {
+  : >"$room/input"
+  case "$program ${#words[@]} ${words[*]}" in
+    "pobj_run 1 run" | "pobj_check 1 check")
+      [ ! -t 0 ] || refuse_trial "the script is typed"
+      keep_input
+      ;;
+    "pobj_check 2 check "[!-]* | "pobj_check 3 check -- "*) keep_script ;;
+  esac
+}
+
+# Runs the trial, and keeps what the program and the toolchain write.
+run_trial() {
+  (cd "$top/crates/$program" && exec rt try --seconds "$most_seconds" -- "${words[@]}" <"$room/input" >"$room/output" 2>"$room/said") &
+  trial=$!
+  wait "$trial" || true
+  trial=
+}
+
+# What the program wrote on standard error: the toolchain's lines stand behind it.
+errors_of_program() {
+  awk '{ line[NR] = $0 } !/^(checked|races|interpreter|run|rt)[:=]/ { last = NR } END { for (n = 1; n <= last; n++) print line[n] }' "$room/said"
+}
+
+# Hands on what the program wrote, and ends with its status.
+hand_on() {
+  errors_of_program >&2
+  if ! cat "$room/output"; then
+    say "write failed"
+    exit 4
+  fi
+  exit "$1"
+}
+
+# Carries out the words by a trial of the program.
+try_sources() {
+  program=$1
+  shift
+  words=("$@")
+  trial=
+  room=$(mktemp -d)
+  trap end_trial EXIT
+  trap 'exit 129' HUP
+  trap 'exit 130' INT
+  trap 'exit 143' TERM
+  keep_input_of_words
+  announce_trial
+  run_trial
+  if [[ $(tail -n 1 "$room/said") =~ ^run=ended\ status=([0-9]+)\  ]]; then
+    hand_on "${BASH_REMATCH[1]}"
+  fi
+  grep -E '^(checked|error|rt)\b' "$room/said" | head -n 5 >&2 || true
+  say "the trial gave no answer: a program that runs for more than $most_seconds seconds, or writes more than 1 MiB, needs '$(build_words "$program")'"
+  exit 5
+}
