@@ -1,7 +1,11 @@
 //! Why a program doesn't do what it was asked for, or not to its end.
 
+ghost use Rattle.std.specs.Prelude.{◌≡◌, ◌≢◌, ◌⊎◌};
+ghost use Rattle.clap.specs.Values.{kind_of};
+ghost use Rattle.po_command_line.specs.Statuses.{status_of};
+
+use crate::commands::NAME;
 use crate::status::{GOOD, NO_MEANS, USAGE, status_of};
-use crate::words::NAME;
 use clap::Error;
 use clap::error::ErrorKind;
 use po_script::RunFault;
@@ -40,8 +44,17 @@ impl From<Error> for Fault {
 }
 
 impl Fault {
-    /// Prints the fault, or the help that was asked for, and gives the status.
-    pub fn print<R: Print + Eprint>(&self, rt: &R) -> u8 {
+    /// Prints the fault, or the help that was asked for, and gives the status: of help 0, of words that are refused 2, and 4
+    /// where their text can't be printed.
+    pub fn print<R: Print + Eprint>(&self, rt: &R) -> u8
+        ensures run { (fault : RunFault) → self.now ≡ Fault.Run fault → result ≡ status_of fault }
+        ensures help { (error : Error) → self.now ≡ Fault.Words error
+            → (kind_of error ≡ ErrorKind.DisplayHelp) ⊎ (kind_of error ≡ ErrorKind.DisplayVersion)
+            → (result ≡ 0) ⊎ (result ≡ 4) }
+        ensures refused { (error : Error) → self.now ≡ Fault.Words error
+            → kind_of error ≢ ErrorKind.DisplayHelp → kind_of error ≢ ErrorKind.DisplayVersion
+            → (result ≡ 2) ⊎ (result ≡ 4) }
+    {
         match self {
             Fault::Words(error) => print_words(rt, error),
             Fault::Run(fault) => {
@@ -53,7 +66,12 @@ impl Fault {
 }
 
 /// Prints the text of help, or of words that were refused, and gives the status.
-fn print_words<R: Print + Eprint>(rt: &R, error: &Error) -> u8 {
+fn print_words<R: Print + Eprint>(rt: &R, error: &Error) -> u8
+    ensures help { (kind_of error.now ≡ ErrorKind.DisplayHelp) ⊎ (kind_of error.now ≡ ErrorKind.DisplayVersion)
+        → (result ≡ 0) ⊎ (result ≡ 4) }
+    ensures refused { kind_of error.now ≢ ErrorKind.DisplayHelp → kind_of error.now ≢ ErrorKind.DisplayVersion
+        → (result ≡ 2) ⊎ (result ≡ 4) }
+{
     if error.print(rt).is_err() {
         let _ = eprintln!(rt; "{NAME}: {}", RunFault::Write);
         return NO_MEANS;

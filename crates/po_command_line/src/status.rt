@@ -1,5 +1,8 @@
 //! The statuses with which the programs end.
 
+ghost use Rattle.std.specs.Prelude.{◌≡◌};
+ghost use Rattle.po_command_line.specs.Statuses.{status_of};
+
 use po_script::RunFault;
 
 /// The status of a good end.
@@ -18,7 +21,9 @@ pub(crate) const USAGE: u8 = 2;
 pub const NO_MEANS: u8 = 4;
 
 /// The status of a fault.
-pub(crate) fn status_of(fault: &RunFault) -> u8 {
+pub(crate) fn status_of(fault: &RunFault) -> u8
+    ensures { result ≡ status_of fault.now }
+{
     match fault {
         RunFault::Script { .. } => SCRIPT_FAULT,
         RunFault::Read | RunFault::Write | RunFault::Memory => NO_MEANS,

@@ -1,4 +1,4 @@
-//! The words of the command line, and the command `pobj` to which they belong.
+//! The command `pobj`, its words, and the commands behind it.
 
 use crate::fault::Fault;
 use clap::error::ErrorKind;
@@ -87,8 +87,9 @@ pub fn run_command<'a>(alloc: Global) -> Command<'a> {
 
 /// The command `check`, without what may stand behind it.
 pub fn check_command<'a>(alloc: Global) -> Command<'a> {
-    Command::new(alloc, CHECK)
-        .about("Reads a script and carries out nothing: explains each line with a fault")
+    Command::new(alloc, CHECK).about(
+        "Reads a script and carries out nothing: explains each line with a fault",
+    )
 }
 
 /// The command `stress` under this name, without what may stand behind it.
