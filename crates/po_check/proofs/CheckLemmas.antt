@@ -131,17 +131,17 @@ module _ (units : ScriptUnits) where
       letter_goes line line number total known verdict facts bytes start now b s other (s.line_is ∙ sym (kept-full (cut bytes).rest b (rw s.line_is at full)))
 
   pub within_all : (most : ℕ) (bytes : List ℕ) → length bytes ≤ most → claims_within units most bytes ≡ claims_from units Nothing 1 ((cut bytes).full ++ (cut bytes).rest ∷ [])
-  within_all most bytes h = ap (λ (b : Bool). cond b (whole_claims units (take most bytes) ++ limit_claim (cut (take most bytes)) ∷ []) (claims_from units Nothing 1 ((cut bytes).full ++ (cut bytes).rest ∷ []))) (le-ltb most (length bytes) h)
+  within_all most bytes h = ap (λ (b : Bool). cond b (whole_claims units (take most bytes) ++ limit_claim units (cut (take most bytes)) ∷ []) (claims_from units Nothing 1 ((cut bytes).full ++ (cut bytes).rest ∷ []))) (le-ltb most (length bytes) h)
 
   positive : (more : List ℕ) → (more ≡ [] → ⊥) → 0 < length more
   positive [] some = absurd (some refl)
   positive (b ∷ bs) some = omega arith
 
-  within_past : (most : ℕ) (bytes more : List ℕ) → length bytes ≡ most → (more ≡ [] → ⊥) → claims_within units most (bytes ++ more) ≡ whole_claims units bytes ++ limit_claim (cut bytes) ∷ []
+  within_past : (most : ℕ) (bytes more : List ℕ) → length bytes ≡ most → (more ≡ [] → ⊥) → claims_within units most (bytes ++ more) ≡ whole_claims units bytes ++ limit_claim units (cut bytes) ∷ []
   within_past most bytes more all some =
       let past = lt-ltb most (length (bytes ++ more)) (omega (arith, length-append bytes more, positive more some)) in
-      ap (λ (b : Bool). cond b (whole_claims units (take most (bytes ++ more)) ++ limit_claim (cut (take most (bytes ++ more))) ∷ []) (claims_from units Nothing 1 ((cut (bytes ++ more)).full ++ (cut (bytes ++ more)).rest ∷ []))) past
-      ∙ ap (λ b. whole_claims units b ++ limit_claim (cut b) ∷ []) (take_at bytes more most all)
+      ap (λ (b : Bool). cond b (whole_claims units (take most (bytes ++ more)) ++ limit_claim units (cut (take most (bytes ++ more))) ∷ []) (claims_from units Nothing 1 ((cut (bytes ++ more)).full ++ (cut (bytes ++ more)).rest ∷ []))) past
+      ∙ ap (λ b. whole_claims units b ++ limit_claim units (cut b) ∷ []) (take_at bytes more most all)
 
   -- whether a line is too long is seen from the bytes that are kept
   kept_long : (rest : List ℕ) → ltb 4096 (length (take 4097 rest)) ≡ ltb 4096 (length rest)
@@ -161,9 +161,9 @@ module _ (units : ScriptUnits) where
   faulty v [] c = refl
   faulty v (d ∷ claims) c = refl
 
-  pub past_ends : (line : List ℕ) (number total : ℕ) (known : Known) (verdict : Verdict) (facts : Option Facts) (bytes more : List ℕ) (start now later : Option (List Claim)) (kind : FaultKind) → StandsBy units line number total known verdict facts bytes start now → total ≡ 67108864 → (more ≡ [] → ⊥) → kind ≡ cond (ltb 4096 (length line)) LineTooLong ScriptTooLong → Tells now later (HasFault number kind ∷ []) → Tells start later (claims_of units (bytes ++ more)) × (Faulty ≡ verdict_of (claims_of units (bytes ++ more)))
+  pub past_ends : (line : List ℕ) (number total : ℕ) (known : Known) (verdict : Verdict) (facts : Option Facts) (bytes more : List ℕ) (start now later : Option (List Claim)) (kind : FaultKind) → StandsBy units line number total known verdict facts bytes start now → total ≡ 67108864 → (more ≡ [] → ⊥) → kind ≡ cond (ltb 4096 (length line)) LineTooLong ScriptTooLong → Tells now later (HasFault number kind known ∷ []) → Tells start later (claims_of units (bytes ++ more)) × (Faulty ≡ verdict_of (claims_of units (bytes ++ more)))
   past_ends line number total known verdict facts bytes more start now later kind s all some ek told =
       let same : ltb 4096 (length line) ≡ ltb 4096 (length (cut bytes).rest) = ap (λ (l : List ℕ). ltb 4096 (length l)) s.line_is ∙ kept_long (cut bytes).rest in
-      let limit : HasFault number kind ≡ limit_claim (cut bytes) = rw (s.number_is, ek, same) refl in
-      let whole : claims_of units (bytes ++ more) ≡ whole_claims units bytes ++ HasFault number kind ∷ [] = within_past 67108864 bytes more (sym s.total_is ∙ all) some ∙ ap (λ c. whole_claims units bytes ++ c ∷ []) (sym limit) in
-      (rw whole (tells-trans start now later _ _ s.told told), rw whole (faulty Clean (whole_claims units bytes) (HasFault number kind)))
+      let limit : HasFault number kind known ≡ limit_claim units (cut bytes) = rw (s.number_is, ek, same, s.known_is) refl in
+      let whole : claims_of units (bytes ++ more) ≡ whole_claims units bytes ++ HasFault number kind known ∷ [] = within_past 67108864 bytes more (sym s.total_is ∙ all) some ∙ ap (λ c. whole_claims units bytes ++ c ∷ []) (sym limit) in
+      (rw whole (tells-trans start now later _ _ s.told told), rw whole (faulty Clean (whole_claims units bytes) (HasFault number kind known)))

@@ -60,7 +60,7 @@ module _ (units : ScriptUnits) where
   pub early_within : (most : ℕ) (start now : Option (List Claim)) (bytes more : List ℕ) → length bytes ≤ most → TellsFirst start now (whole_claims units bytes) → TellsFirst start now (claims_within units most (bytes ++ more))
   early_within most start now bytes more few told = go (ltb most (length (bytes ++ more)))
     where
-      go : (past : Bool) → TellsFirst start now (cond past (whole_claims units (take most (bytes ++ more)) ++ limit_claim (cut (take most (bytes ++ more))) ∷ []) (claims_from units Nothing 1 ((cut (bytes ++ more)).full ++ (cut (bytes ++ more)).rest ∷ [])))
+      go : (past : Bool) → TellsFirst start now (cond past (whole_claims units (take most (bytes ++ more)) ++ limit_claim units (cut (take most (bytes ++ more))) ∷ []) (claims_from units Nothing 1 ((cut (bytes ++ more)).full ++ (cut (bytes ++ more)).rest ∷ [])))
       go true =
           let cut_off = subst (λ b. TellsFirst start now (whole_claims units b)) (sym (take_within most bytes more few)) (early_more start now bytes (take (most - length bytes) more) told) in
           tells_more start now (whole_claims units (take most (bytes ++ more))) _ cut_off

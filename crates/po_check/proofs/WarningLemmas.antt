@@ -19,7 +19,7 @@ use Rattle.po_script.specs.SureRefusals.{Refuses, RefusesBehind}
 use Rattle.po_script.specs.Units.{ScriptUnits, Object, listed}
 use Rattle.po_script.proofs.ReadingLemmas.{reading_front, begun_by-push, text_by-append}
 use Rattle.po_check.specs.declared.known.Known.{Known}
-use Rattle.po_check.specs.declared.known.Known.TheVariants.{Nothing}
+use Rattle.po_check.specs.declared.known.Known.TheVariants.{Nothing, Begun}
 use Rattle.po_check.specs.declared.claim.Claim.{Claim}
 use Rattle.po_check.specs.declared.claim.Claim.TheVariants.{HasFault, IsRefused}
 use Rattle.po_check.specs.Claims.{says, known_after, refusal_at, warning, claims_at, claims_from, whole_claims, limit_claim, claims_within}
@@ -31,8 +31,8 @@ some_none x e = cc
 
 -- the line of a claim
 abbrev line_of_claim : Claim → ℕ
-line_of_claim (HasFault n kind) = n
-line_of_claim (IsRefused n refusal) = n
+line_of_claim (HasFault n kind known) = n
+line_of_claim (IsRefused n refusal known) = n
 
 module _ (units : ScriptUnits) where
   -- the claim is of one of the lines from number n on
@@ -42,13 +42,13 @@ module _ (units : ScriptUnits) where
   from_next : (n : ℕ) (claim : Claim) → IsFrom (n + 1) claim → IsFrom n claim
   from_next n claim is = (is.0 + 1, omega (arith, is.1))
 
-  warning_from : (n : ℕ) (refusal : Option Refusal) → All (IsFrom n) (warning n refusal)
-  warning_from n None = All-nil (IsFrom n)
-  warning_from n (Some refusal) = All-cons (IsFrom n) (IsRefused n refusal) [] (zero, omega arith) (All-nil (IsFrom n))
+  warning_from : (n : ℕ) (known : Known) (refusal : Option Refusal) → All (IsFrom n) (warning n known refusal)
+  warning_from n known None = All-nil (IsFrom n)
+  warning_from n known (Some refusal) = All-cons (IsFrom n) (IsRefused n refusal known) [] (zero, omega arith) (All-nil (IsFrom n))
 
   at_from : (known : Known) (n : ℕ) (said : Result (Option Command) FaultKind) → All (IsFrom n) (claims_at units known n said)
-  at_from known n (Err kind) = All-cons (IsFrom n) (HasFault n kind) [] (zero, omega arith) (All-nil (IsFrom n))
-  at_from known n (Ok command) = warning_from n (refusal_at units known command)
+  at_from known n (Err kind) = All-cons (IsFrom n) (HasFault n kind known) [] (zero, omega arith) (All-nil (IsFrom n))
+  at_from known n (Ok command) = warning_from n known (refusal_at units known command)
 
   -- what is said of lines from number n on is of such lines
   claims_are_from : (known : Known) (n : ℕ) (ls : List (List ℕ)) → All (IsFrom n) (claims_from units known n ls)
@@ -68,19 +68,19 @@ module _ (units : ScriptUnits) where
       pub refused : Refuses units (state_after units (opening_state units) (so_far ++ (reading (listed units) begun n (take i ls)).commands)) operation refusal
 
     abbrev HoldsFrom : List Command → Option UnitChoice → ℕ → List (List ℕ) → Claim → Type 0
-    HoldsFrom so_far begun n ls (HasFault k kind) = Unit {0}
-    HoldsFrom so_far begun n ls (IsRefused k refusal) =
+    HoldsFrom so_far begun n ls (HasFault k kind known) = Unit {0}
+    HoldsFrom so_far begun n ls (IsRefused k refusal known) =
         (i : ℕ) × (k ≡ n + i) × ((reading (listed units) begun n (take i ls)).fault ≡ None → IsRefusedFrom so_far begun n ls i refusal)
 
     -- behind a line with a fault nothing is reached
     after_fault : (so_far : List Command) (begun : Option UnitChoice) (n : ℕ) (l : List ℕ) (ls : List (List ℕ)) (kind : FaultKind) (claim : Claim) → line_of (listed units) begun l ≡ Err kind → IsFrom (n + 1) claim → HoldsFrom so_far begun n (l ∷ ls) claim
-    after_fault so_far begun n l ls kind (HasFault k other) is from = tt
-    after_fault so_far begun n l ls kind (IsRefused k refusal) is from =
+    after_fault so_far begun n l ls kind (HasFault k other known) is from = tt
+    after_fault so_far begun n l ls kind (IsRefused k refusal known) is from =
         (suc from.0, omega (arith, from.1), λ reached. absurd (some_none {A = ℕ × FaultKind} (n, kind) (ap (λ said. (with_line n begun said (λ later. reading (listed units) later (n + 1) (take from.0 ls))).fault) (sym is) ∙ reached)))
 
     after_nothing : (so_far : List Command) (begun : Option UnitChoice) (n : ℕ) (l : List ℕ) (ls : List (List ℕ)) (claim : Claim) → line_of (listed units) begun l ≡ Ok None → HoldsFrom so_far begun (n + 1) ls claim → HoldsFrom so_far begun n (l ∷ ls) claim
-    after_nothing so_far begun n l ls (HasFault k kind) is holds = tt
-    after_nothing so_far begun n l ls (IsRefused k refusal) is holds =
+    after_nothing so_far begun n l ls (HasFault k kind known) is holds = tt
+    after_nothing so_far begun n l ls (IsRefused k refusal known) is holds =
         let skips : (i : ℕ) → reading (listed units) begun n (l ∷ take i ls) ≡ reading (listed units) begun (n + 1) (take i ls) = λ i. ap (λ said. with_line n begun said (λ later. reading (listed units) later (n + 1) (take i ls))) is in (
           suc holds.0,
           omega (arith, holds.1),
@@ -94,8 +94,8 @@ module _ (units : ScriptUnits) where
         )
 
     after_command : (so_far : List Command) (begun : Option UnitChoice) (n : ℕ) (l : List ℕ) (ls : List (List ℕ)) (c : Command) (claim : Claim) → line_of (listed units) begun l ≡ Ok (Some c) → HoldsFrom (so_far ++ c ∷ []) (begun_after begun c) (n + 1) ls claim → HoldsFrom so_far begun n (l ∷ ls) claim
-    after_command so_far begun n l ls c (HasFault k kind) is holds = tt
-    after_command so_far begun n l ls c (IsRefused k refusal) is holds =
+    after_command so_far begun n l ls c (HasFault k kind known) is holds = tt
+    after_command so_far begun n l ls c (IsRefused k refusal known) is holds =
         let goes : (i : ℕ) → reading (listed units) begun n (l ∷ take i ls) ≡ prepend c (reading (listed units) (begun_after begun c) (n + 1) (take i ls)) = λ i. ap (λ said. with_line n begun said (λ later. reading (listed units) later (n + 1) (take i ls))) is in (
           suc holds.0,
           omega (arith, holds.1),
@@ -110,11 +110,11 @@ module _ (units : ScriptUnits) where
         )
 
     -- the warning of a line's own operation
-    own_warning : (so_far : List Command) (begun : Option UnitChoice) (n : ℕ) (l : List ℕ) (ls : List (List ℕ)) (operation : Operation) (refusal : Option Refusal) → begun_by None so_far ≡ begun → line_of (listed units) begun l ≡ Ok (Some (Operate operation)) → refusal_at units (known_of begun) (Some (Operate operation)) ≡ refusal → All (HoldsFrom so_far begun n (l ∷ ls)) (warning n refusal)
+    own_warning : (so_far : List Command) (begun : Option UnitChoice) (n : ℕ) (l : List ℕ) (ls : List (List ℕ)) (operation : Operation) (refusal : Option Refusal) → begun_by None so_far ≡ begun → line_of (listed units) begun l ≡ Ok (Some (Operate operation)) → refusal_at units (known_of begun) (Some (Operate operation)) ≡ refusal → All (HoldsFrom so_far begun n (l ∷ ls)) (warning n (known_of begun) refusal)
     own_warning so_far begun n l ls operation None from is sure = All-nil (HoldsFrom so_far begun n (l ∷ ls))
     own_warning so_far None n l ls operation (Some refusal) from is sure = absurd cc
     own_warning so_far (Some unit) n l ls operation (Some refusal) from is sure =
-        All-cons (HoldsFrom so_far (Some unit) n (l ∷ ls)) (IsRefused n refusal) [] (
+        All-cons (HoldsFrom so_far (Some unit) n (l ∷ ls)) (IsRefused n refusal (Begun unit)) [] (
           zero,
           omega arith,
           λ reached. record {
@@ -136,18 +136,18 @@ module _ (units : ScriptUnits) where
     line_holds : (so_far : List Command) (begun : Option UnitChoice) (n : ℕ) (l : List ℕ) (ls : List (List ℕ)) (said : Result (Option Command) FaultKind) → begun_by None so_far ≡ begun → line_of (listed units) begun l ≡ said → ((next : List Command) (later : Option UnitChoice) → begun_by None next ≡ later → All (HoldsFrom next later (n + 1) ls) (claims_from units (known_of later) (n + 1) ls)) → All (HoldsFrom so_far begun n (l ∷ ls)) (claims_at units (known_of begun) n said ++ claims_from units (known_after (known_of begun) said) (n + 1) ls)
     line_holds so_far begun n l ls (Err kind) from is step =
         let known = known_after (known_of begun) (Err kind) in
-        All-cons (HoldsFrom so_far begun n (l ∷ ls)) (HasFault n kind) (claims_from units known (n + 1) ls) tt
+        All-cons (HoldsFrom so_far begun n (l ∷ ls)) (HasFault n kind (known_of begun)) (claims_from units known (n + 1) ls) tt
         (All-weaker (IsFrom (n + 1)) (HoldsFrom so_far begun n (l ∷ ls)) (λ claim is_from. after_fault so_far begun n l ls kind claim is is_from) (claims_from units known (n + 1) ls) (claims_are_from known (n + 1) ls))
     line_holds so_far begun n l ls (Ok None) from is step =
-        subst (λ refusal. All (HoldsFrom so_far begun n (l ∷ ls)) (warning n refusal ++ claims_from units (known_of begun) (n + 1) ls)) (sym (silent_nothing begun))
+        subst (λ refusal. All (HoldsFrom so_far begun n (l ∷ ls)) (warning n (known_of begun) refusal ++ claims_from units (known_of begun) (n + 1) ls)) (sym (silent_nothing begun))
         (All-weaker (HoldsFrom so_far begun (n + 1) ls) (HoldsFrom so_far begun n (l ∷ ls)) (λ claim holds. after_nothing so_far begun n l ls claim is holds) (claims_from units (known_of begun) (n + 1) ls) (step so_far begun from))
     line_holds so_far begun n l ls (Ok (Some (Begin beginning))) from is step =
-        subst (λ refusal. All (HoldsFrom so_far begun n (l ∷ ls)) (warning n refusal ++ claims_from units (known_of (Some beginning.unit)) (n + 1) ls)) (sym (silent_begin begun beginning))
+        subst (λ refusal. All (HoldsFrom so_far begun n (l ∷ ls)) (warning n (known_of begun) refusal ++ claims_from units (known_of (Some beginning.unit)) (n + 1) ls)) (sym (silent_begin begun beginning))
         (All-weaker (HoldsFrom (so_far ++ Begin beginning ∷ []) (Some beginning.unit) (n + 1) ls) (HoldsFrom so_far begun n (l ∷ ls)) (λ claim holds. after_command so_far begun n l ls (Begin beginning) claim is holds) (claims_from units (known_of (Some beginning.unit)) (n + 1) ls)
         (step (so_far ++ Begin beginning ∷ []) (Some beginning.unit) (begun_by-push None so_far (Begin beginning))))
     line_holds so_far begun n l ls (Ok (Some (Operate operation))) from is step =
         let next : begun_by None (so_far ++ Operate operation ∷ []) ≡ begun = begun_by-push None so_far (Operate operation) ∙ from in
-        All-append (HoldsFrom so_far begun n (l ∷ ls)) (warning n (refusal_at units (known_of begun) (Some (Operate operation)))) (claims_from units (known_of begun) (n + 1) ls)
+        All-append (HoldsFrom so_far begun n (l ∷ ls)) (warning n (known_of begun) (refusal_at units (known_of begun) (Some (Operate operation)))) (claims_from units (known_of begun) (n + 1) ls)
         (own_warning so_far begun n l ls operation (refusal_at units (known_of begun) (Some (Operate operation))) from is refl)
         (All-weaker (HoldsFrom (so_far ++ Operate operation ∷ []) begun (n + 1) ls) (HoldsFrom so_far begun n (l ∷ ls)) (λ claim holds. after_command so_far begun n l ls (Operate operation) claim is holds) (claims_from units (known_of begun) (n + 1) ls)
         (step (so_far ++ Operate operation ∷ []) begun next))
@@ -162,10 +162,10 @@ module _ (units : ScriptUnits) where
     claims_hold : (most : ℕ) (bytes : List ℕ) → All (HoldsFrom [] None 1 (lines_within most bytes)) (claims_within units most bytes)
     claims_hold most bytes = go (ltb most (length bytes))
       where
-        go : (past : Bool) → All (HoldsFrom [] None 1 (cond past (cut (take most bytes)).full ((cut bytes).full ++ (cut bytes).rest ∷ []))) (cond past (whole_claims units (take most bytes) ++ limit_claim (cut (take most bytes)) ∷ []) (claims_from units Nothing 1 ((cut bytes).full ++ (cut bytes).rest ∷ [])))
+        go : (past : Bool) → All (HoldsFrom [] None 1 (cond past (cut (take most bytes)).full ((cut bytes).full ++ (cut bytes).rest ∷ []))) (cond past (whole_claims units (take most bytes) ++ limit_claim units (cut (take most bytes)) ∷ []) (claims_from units Nothing 1 ((cut bytes).full ++ (cut bytes).rest ∷ [])))
         go true =
             let full = (cut (take most bytes)).full in
-            let last = limit_claim (cut (take most bytes)) in
+            let last = limit_claim units (cut (take most bytes)) in
             All-append (HoldsFrom [] None 1 full) (whole_claims units (take most bytes)) (last ∷ []) (lines_hold [] None 1 full refl)
             (All-cons (HoldsFrom [] None 1 full) last [] tt (All-nil (HoldsFrom [] None 1 full)))
         go false = lines_hold [] None 1 ((cut bytes).full ++ (cut bytes).rest ∷ []) refl
@@ -219,9 +219,9 @@ module _ (units : ScriptUnits) where
 
     -- a line with a warning is refused by a run that reaches it
     pub warns : (most : ℕ) (bytes : List ℕ) → WarnsOfRefusals units most bytes
-    warns most bytes = λ n refusal said reached.
+    warns most bytes = λ n refusal known said reached.
         let ls = lines_within most bytes in
-        let holds : HoldsFrom [] None 1 ls (IsRefused n refusal) = subst (HoldsFrom [] None 1 ls) said.2 (claims_hold most bytes said.0 (IsRefused n refusal) said.1) in
+        let holds : HoldsFrom [] None 1 ls (IsRefused n refusal known) = subst (HoldsFrom [] None 1 ls) said.2 (claims_hold most bytes said.0 (IsRefused n refusal known) said.1) in
         let is : suc holds.0 ≡ n = omega (arith, holds.1) in
         let back : n - 1 ≡ holds.0 = omega (arith, holds.1) in
         subst (λ k. IsRefusedInRun units most bytes k refusal) is (in_run most bytes holds.0 refusal (holds.2 (subst (λ k. (reading (listed units) None 1 (take k ls)).fault ≡ None) back reached)))

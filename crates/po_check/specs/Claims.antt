@@ -38,14 +38,14 @@ abbrev pub refusal_at : ScriptUnits → Known → Option Command → Option Refu
 refusal_at units (Begun unit) (Some (Operate operation)) = sure_refusal (facts_at units unit.number unit.size) operation
 refusal_at units known command = None
 
-abbrev pub warning : ℕ → Option Refusal → List Claim
-warning n None = []
-warning n (Some refusal) = IsRefused n refusal ∷ []
+abbrev pub warning : ℕ → Known → Option Refusal → List Claim
+warning n known None = []
+warning n known (Some refusal) = IsRefused n refusal known ∷ []
 
--- what is said of line n: its fault, or that it is sure to be refused
+-- what is said of line n, and what is known of the unit before it: its fault, or that it is sure to be refused
 abbrev pub claims_at : ScriptUnits → Known → ℕ → Result (Option Command) FaultKind → List Claim
-claims_at units known n (Err kind) = HasFault n kind ∷ []
-claims_at units known n (Ok command) = warning n (refusal_at units known command)
+claims_at units known n (Err kind) = HasFault n kind known ∷ []
+claims_at units known n (Ok command) = warning n known (refusal_at units known command)
 
 -- what is said of the lines from number n on
 abbrev pub claims_from : ScriptUnits → Known → ℕ → List (List ℕ) → List Claim
@@ -64,14 +64,14 @@ abbrev pub whole_claims : ScriptUnits → List ℕ → List Claim
 whole_claims units bytes = claims_from units Nothing 1 (cut bytes).full
 
 -- the fault of the line at whose end the script is too long
-abbrev pub limit_claim : Cut → Claim
-limit_claim c = HasFault (length c.full + 1) (if nat_lt 4096 (length c.rest) then LineTooLong else ScriptTooLong)
+abbrev pub limit_claim : ScriptUnits → Cut → Claim
+limit_claim units c = HasFault (length c.full + 1) (if nat_lt 4096 (length c.rest) then LineTooLong else ScriptTooLong) (known_behind units Nothing c.full)
 
 -- what is said of a script of at most so many bytes; what stands behind the last newline is a line too
 abbrev pub claims_within : ScriptUnits → ℕ → List ℕ → List Claim
 claims_within units most bytes =
     if nat_lt most (length bytes)
-    then whole_claims units (take most bytes) ++ limit_claim (cut (take most bytes)) ∷ []
+    then whole_claims units (take most bytes) ++ limit_claim units (cut (take most bytes)) ∷ []
     else claims_from units Nothing 1 ((cut bytes).full ++ (cut bytes).rest ∷ [])
 
 -- what is said of the script, line by line: a script has at most 67,108,864 bytes
@@ -81,8 +81,8 @@ claims_of units bytes = claims_within units 67108864 bytes
 -- the fault that is said first, with its line
 abbrev pub first_fault : List Claim → Option (ℕ × FaultKind)
 first_fault [] = None
-first_fault (HasFault n kind ∷ claims) = Some (n, kind)
-first_fault (IsRefused n refusal ∷ claims) = first_fault claims
+first_fault (HasFault n kind known ∷ claims) = Some (n, kind)
+first_fault (IsRefused n refusal known ∷ claims) = first_fault claims
 
 -- what a check comes to that said these claims after what it had come to
 abbrev pub verdict_with : Verdict → List Claim → Verdict

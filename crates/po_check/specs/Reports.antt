@@ -3,6 +3,7 @@ use Rattle.std.specs.Prelude.{ℕ, ◌≡◌, List, [], ◌∷◌, ◌++◌, Opt
 use Rattle.std.specs.Option.{option_map}
 use Rattle.po_check.specs.declared.claim.Claim.{Claim}
 use Rattle.po_check.specs.declared.claim.Claim.TheVariants.{HasFault, IsRefused}
+use Rattle.po_check.specs.declared.known.Known.{Known}
 use Rattle.po_check.specs.declared.finding.Finding.{Finding}
 use Rattle.po_check.specs.declared.finding.Found.{Found}
 use Rattle.po_check.specs.declared.finding.Found.TheVariants.{Fault, Refused}
@@ -17,16 +18,16 @@ abbrev pub TellsFirst : Option (List Claim) → Option (List Claim) → List Cla
 TellsFirst old new claims =
     (first : List Claim) × (later : List Claim) × (claims ≡ first ++ later) × Tells old new first
 
--- what is said of line n by what is found there
-abbrev pub claim_by : ℕ → Found → Claim
-claim_by n (Fault fault) = HasFault n (kind_of fault.reason)
-claim_by n (Refused operation refusal) = IsRefused n refusal
+-- what is said of line n by what is known of the unit before it and found there
+abbrev pub claim_by : ℕ → Known → Found → Claim
+claim_by n known (Fault fault) = HasFault n (kind_of fault.reason) known
+claim_by n known (Refused operation refusal) = IsRefused n refusal known
 
 -- what a finding says
 abbrev pub claim_of : Finding → Claim
-claim_of finding = claim_by finding.number finding.found
+claim_of finding = claim_by finding.number finding.known finding.found
 
--- what is said of line n by what is found there, if anything is
-abbrev pub claims_of_found : ℕ → Option Found → List Claim
-claims_of_found n None = []
-claims_of_found n (Some found) = claim_by n found ∷ []
+-- what is said of line n by what is known of the unit before it and found there, if anything is
+abbrev pub claims_of_found : ℕ → Known → Option Found → List Claim
+claims_of_found n known None = []
+claims_of_found n known (Some found) = claim_by n known found ∷ []

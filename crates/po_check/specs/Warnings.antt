@@ -10,6 +10,7 @@ use Rattle.po_script.specs.Lines.{refused_line}
 use Rattle.po_script.specs.Session.{opening_state}
 use Rattle.po_script.specs.SureRefusals.{Refuses}
 use Rattle.po_script.specs.Units.{ScriptUnits, listed}
+use Rattle.po_check.specs.declared.known.Known.{Known}
 use Rattle.po_check.specs.declared.claim.Claim.TheVariants.{IsRefused}
 use Rattle.po_check.specs.Claims.{claims_within}
 
@@ -46,8 +47,8 @@ module _ (units : ScriptUnits) (most : ℕ) (bytes : List ℕ) where
 -- A line with a warning of a refusal is refused with that refusal by a run that reaches it.
 abbrev pub WarnsOfRefusals : ScriptUnits → ℕ → List ℕ → Type 0
 WarnsOfRefusals units most bytes =
-    (n : ℕ) (refusal : Refusal)
-    → Contains (claims_within units most bytes) (IsRefused n refusal)
+    (n : ℕ) (refusal : Refusal) (known : Known)
+    → Contains (claims_within units most bytes) (IsRefused n refusal known)
     → IsReached units most bytes n
     → IsRefusedInRun units most bytes n refusal
 

@@ -78,7 +78,7 @@ impl Checker {
     /// What is found in a line that says this.
     fn found<O: ScriptObject>(&self, said: Result<Option<Command>, LineFault>) -> Option<Found>
         ensures { self.now.facts ≡ facts_known O.units self.now.known
-            → (n : ℕ) → claims_of_found n result ≡ claims_at O.units self.now.known n (by_kind said) }
+            → (n : ℕ) → claims_of_found n self.now.known result ≡ claims_at O.units self.now.known n (by_kind said) }
     {
         match (said, &self.facts) {
             (Err(fault), _) => Some(Found::Fault(fault)),
@@ -108,8 +108,8 @@ impl Checker {
     ) -> Result<(), CheckFault>
         ensures known { self.new.known ≡ self.old.known }
         ensures facts { self.new.facts ≡ self.old.facts }
-        ensures told { OnOk result (Tells (P.told report.old) (P.told report.new) (claims_of_found number found)) }
-        ensures verdict { OnOk result (self.new.verdict ≡ verdict_with self.old.verdict (claims_of_found number found)) }
+        ensures told { OnOk result (Tells (P.told report.old) (P.told report.new) (claims_of_found number self.old.known found)) }
+        ensures verdict { OnOk result (self.new.verdict ≡ verdict_with self.old.verdict (claims_of_found number self.old.known found)) }
         ensures err { IfErr result (λ fault. (fault ≢ CheckFault.Read) × (P.told report.new ≡ P.told report.old)) }
     {
         let Some(found) = found else {

@@ -1,13 +1,22 @@
 //! What a check says of a line.
 
+use crate::known::Known;
 use po_actions::Refusal;
 use po_language::FaultKind;
 
-/// What a check says of a line. Lines are numbered from 1.
+/// What a check says of a line, and what is known of the unit where it says that. Lines are numbered from 1.
 #[derive(Clone, Copy, Debug, PartialEq, Eq)]
 pub enum Claim {
     /// This line has this fault.
-    HasFault { line: u64, kind: FaultKind },
+    HasFault {
+        line: u64,
+        kind: FaultKind,
+        known: Known,
+    },
     /// The command of this line is sure to be refused, with this refusal, whatever was carried out before it.
-    IsRefused { line: u64, refusal: Refusal },
+    IsRefused {
+        line: u64,
+        refusal: Refusal,
+        known: Known,
+    },
 }

@@ -37,10 +37,12 @@ impl Finding {
             Found::Fault(fault) => Claim::HasFault {
                 line: self.number,
                 kind: fault.kind(),
+                known: self.known,
             },
             Found::Refused(_, refusal) => Claim::IsRefused {
                 line: self.number,
                 refusal,
+                known: self.known,
             },
         }
     }

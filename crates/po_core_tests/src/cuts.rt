@@ -1,16 +1,10 @@
 //! Cores whose histories are cut, against values worked out by hand.
 
-use crate::transcript::{Step, compare};
-use po_actions::{Core, Order, Start};
-use po_classic_units::{Buffer, Relay, ScriptUnit, Signal};
-use po_index::EntryRef;
+use crate::transcript::{Run, Step, from, run_on, single};
+use po_actions::Order;
+use po_classic_units::{Buffer, Relay, Signal};
 use std::process::Abort;
 use std::test::Fail;
-
-/// The single entry of a declaration.
-fn single(entry: u16) -> EntryRef {
-    EntryRef { entry, index: None }
-}
 
 /// Compares what a new buffer with room for one value answers.
 fn on_buffer<R: Abort + AllocGlobal>(
@@ -19,49 +13,14 @@ fn on_buffer<R: Abort + AllocGlobal>(
     text: &str,
     events: &str,
 ) -> Result<(), Fail> {
-    let unit = Buffer::new(rt.alloc(), 1)?;
-    let shape = unit.shape(rt.alloc())?;
-    let core = Core::new(rt.alloc(), unit, shape, Order::Textual, 1)?;
-    compare(rt, core, steps, text, events)
-}
-
-/// From where an object starts whose first event gets this place.
-fn from_place(first_place: u64) -> Start {
-    Start {
-        first_number: 1,
-        first_place,
-        max_queue: None,
-    }
-}
-
-/// Compares what a new relay answers, in rotating order, whose first event gets this place.
-fn on_relay<R: Abort + AllocGlobal>(
-    rt: &R,
-    first_place: u64,
-    steps: &[Step],
-    text: &str,
-    events: &str,
-) -> Result<(), Fail> {
-    let unit = Relay::new();
-    let shape = unit.shape(rt.alloc())?;
-    let start = from_place(first_place);
-    let core = Core::start(rt.alloc(), unit, shape, Order::Rotating, start)?;
-    compare(rt, core, steps, text, events)
-}
-
-/// Compares what a new signal answers, whose first event gets this place.
-fn on_signal<R: Abort + AllocGlobal>(
-    rt: &R,
-    first_place: u64,
-    steps: &[Step],
-    text: &str,
-    events: &str,
-) -> Result<(), Fail> {
-    let unit = Signal::new();
-    let shape = unit.shape(rt.alloc())?;
-    let start = from_place(first_place);
-    let core = Core::start(rt.alloc(), unit, shape, Order::Textual, start)?;
-    compare(rt, core, steps, text, events)
+    let run = Run {
+        order: Order::Textual,
+        start: from(1, 0),
+        steps,
+        text,
+        events,
+    };
+    run_on(rt, Buffer::new(rt.alloc(), 1)?, run)
 }
 
 #[test]
@@ -104,13 +63,14 @@ fn a_base_keeps_where_calls_arrived(rt: HostRuntime) -> Result<(), Fail> {
         Step::Base,
         Step::Place,
     ];
-    on_relay(
-        &rt,
-        10,
-        &steps,
-        "#1; clock 3; #2; base 10: ended 0 next 1 clock 0 ran 0 last None finalized false; volume 10: Issue Tick(3) Issue ; base 13: 1 at 10 2 at 12 ended 0 next 3 clock 3 ran 0 last None finalized false; done 1; volume 13: Ran Serve(1) Serve(1) ; base 16: 1 at 14 2 at 15 ended 0 next 3 clock 3 ran 1 last Some(1) finalized false; place 16; ",
-        "",
-    )
+    let run = Run {
+        order: Order::Rotating,
+        start: from(1, 10),
+        steps: &steps,
+        text: "#1; clock 3; #2; base 10: ended 0 next 1 clock 0 ran 0 last None finalized false; volume 10: Issue Tick(3) Issue ; base 13: 1 at 10 2 at 12 ended 0 next 3 clock 3 ran 0 last None finalized false; done 1; volume 13: Ran Serve(1) Serve(1) ; base 16: 1 at 14 2 at 15 ended 0 next 3 clock 3 ran 1 last Some(1) finalized false; place 16; ",
+        events: "",
+    };
+    run_on(&rt, Relay::new(), run)
 }
 
 #[test]
@@ -142,11 +102,12 @@ fn places_are_spent_at_their_end(rt: HostRuntime) -> Result<(), Fail> {
         Step::Finalize,
         Step::Place,
     ];
-    on_signal(
-        &rt,
-        18446744073709551614,
-        &steps,
-        "done 0; refused 8; refused 8; clock 1; #1, 1 done 5; final; place 18446744073709551618; ",
-        "Ran Tick(1) Issue Final ",
-    )
+    let run = Run {
+        order: Order::Textual,
+        start: from(1, 18446744073709551614),
+        steps: &steps,
+        text: "done 0; refused 8; refused 8; clock 1; #1, 1 done 5; final; place 18446744073709551618; ",
+        events: "Ran Tick(1) Issue Final ",
+    };
+    run_on(&rt, Signal::new(), run)
 }

@@ -1,19 +1,22 @@
-//! A unit whose calls are requeued three times, twice of them without abort, and what its cores answer.
+//! A unit whose calls are requeued three times, twice of them without abort, what its cores answer, and how often they evaluate
+//! its barriers, which no clause counts.
 
-use crate::transcript::{Step, compare};
-use po_actions::{Core, Order};
-use po_index::{Decl, EntryRef, Shape};
+use crate::transcript::{Run, Step, from, run_with, single};
+use po_actions::Order;
+use po_index::{Decl, Shape};
 use po_unit::{Outcome, Unit};
 use std::alloc::AllocError;
 use std::marker::Model;
 use std::process::Abort;
+use std::sync::atomic;
+use std::sync::atomic::AtomicU64;
 use std::test::Fail;
 
 /// The number of the last entry.
 const LAST: u16 = 3;
 
 /// A declaration of a single entry.
-fn single(public: bool) -> Decl {
+fn declared(public: bool) -> Decl {
     Decl {
         public,
         family: false,
@@ -23,13 +26,15 @@ fn single(public: bool) -> Decl {
 }
 
 /// A level, and four entries, of which the first and the last are public: each is open from the level of its number on.
-/// The first requeues on the second and that one on the third, without abort, and the third on the last, with abort.
+/// The first requeues on the second and that one on the third, without abort, and the third on the last, with abort. How often
+/// each barrier is evaluated is counted where no clause sees it.
 #[derive(Drop)]
-struct Ladder {
+struct Ladder<'a> {
     level: u64,
+    evaluations: &'a [AtomicU64; 4],
 }
 
-impl Model for Ladder {
+impl<'a> Model for Ladder<'a> {
     ghost use Rattle.po_core_tests.specs.Ladder.{LadderState};
 
     ghost Value = { LadderState };
@@ -37,7 +42,7 @@ impl Model for Ladder {
     ghost view = { λ s. record { level = s.level } };
 }
 
-impl Unit for Ladder {
+impl<'a> Unit for Ladder<'a> {
     type Value = u64;
 
     ghost use Rattle.po_core_tests.specs.Ladder.{ladder_meaning, ladder_lawful};
@@ -57,6 +62,7 @@ impl Unit for Ladder {
     }
 
     fn barrier(&self, e: u16, _counts: &[u64]) -> Result<bool, u32> {
+        self.evaluations[usize::from(e)].fetch_add(1, atomic::Ordering::SeqCst);
         Ok(u64::from(e) <= self.level)
     }
 
@@ -85,8 +91,11 @@ impl Unit for Ladder {
         LAST.saturating_sub(e) as u8
     }
 
-    fn copy(&self) -> Result<Ladder, AllocError> {
-        Ok(Ladder { level: self.level })
+    fn copy(&self) -> Result<Self, AllocError> {
+        Ok(Ladder {
+            level: self.level,
+            evaluations: self.evaluations,
+        })
     }
 
     ghost lawful = { ladder_lawful };
@@ -98,25 +107,50 @@ impl Unit for Ladder {
 
 /// A call on a single entry.
 fn call(entry: u16, value: u64) -> Step {
-    Step::Call(EntryRef { entry, index: None }, value)
+    Step::Call(single(entry), value)
 }
 
-/// Compares what a new ladder answers.
+/// Compares what a new ladder answers, and how often each barrier was evaluated.
 fn on_ladder<R: Abort + AllocGlobal>(
     rt: &R,
     order: Order,
     steps: &[Step],
     text: &str,
     events: &str,
+    evaluated: [u64; 4],
 ) -> Result<(), Fail> {
-    let decls = [single(true), single(false), single(false), single(true)];
-    let shape = Shape::new(rt.alloc(), &decls)?;
-    let core = Core::new(rt.alloc(), Ladder { level: 0 }, shape, order, 1)?;
-    compare(rt, core, steps, text, events)
+    let none = || AtomicU64::new(0);
+    let evaluations = [none(), none(), none(), none()];
+    let ladder = Ladder {
+        level: 0,
+        evaluations: &evaluations,
+    };
+    let decls = [
+        declared(true),
+        declared(false),
+        declared(false),
+        declared(true),
+    ];
+    let shape = Shape::new(rt.alloc(), &decls);
+    let run = Run {
+        order,
+        start: from(1, 0),
+        steps,
+        text,
+        events,
+    };
+    run_with(rt, ladder, shape, run)?;
+    for (count, wanted) in evaluations.iter().zip(evaluated) {
+        assert_eq!(rt; count.load(atomic::Ordering::SeqCst), wanted);
+    }
+    Ok(())
 }
 
 // The attempt to cancel a sealed call marks it once, and the mark outlasts a requeue without abort: a further attempt
-// leaves no event. The requeue with abort then cancels the call.
+// leaves no event, and nothing is serviced. The requeue with abort then cancels the call.
+//
+// The first barrier is evaluated when the call arrives; the second behind that, and by the first procedure; the third behind
+// the first procedure's requeue, and by the second procedure.
 #[test]
 fn a_requeue_without_abort_keeps_the_mark(rt: HostRuntime) -> Result<(), Fail> {
     let steps = [
@@ -132,11 +166,16 @@ fn a_requeue_without_abort_keeps_the_mark(rt: HostRuntime) -> Result<(), Fail> {
         &steps,
         "#1; kept; done 1; kept; done 2, 1 cancelled; ",
         "Issue Abort(1) Ran Serve(1) Ran Serve(2) ",
+        [1, 2, 2, 0],
     )
 }
 
 // A requeued call counts from its latest queueing: the second call was queued before the first one came to the third
 // entry, so that its entry is served before that one.
+//
+// Each examination evaluates the barriers of all entries on which calls are queued, once each: one behind the first call, one
+// behind the second, two of the first procedure and three of the second that find a call. The last barrier is evaluated once
+// more, when the second call arrives.
 #[test]
 fn the_oldest_is_who_arrived_first(rt: HostRuntime) -> Result<(), Fail> {
     let steps = [
@@ -151,5 +190,6 @@ fn the_oldest_is_who_arrived_first(rt: HostRuntime) -> Result<(), Fail> {
         &steps,
         "#1; #2; done 1; done 3, 2 done 6, 1 done 5; ",
         "Issue Issue Ran Serve(1) Ran Serve(3) Serve(2) Serve(3) ",
+        [1, 3, 3, 6],
     )
 }

@@ -1,8 +1,8 @@
 //! The order in which refusals come, what they leave, and their texts.
 
-use crate::transcript::{Step, compare};
-use po_actions::{Core, MakeFault, Order, Refusal, Start};
-use po_classic_units::{Allocator, ScriptUnit};
+use crate::transcript::{Run, Step, from, run_on};
+use po_actions::{MakeFault, Order, Refusal, Start};
+use po_classic_units::Allocator;
 use po_index::EntryRef;
 use std::fmt::Write;
 use std::process::Abort;
@@ -67,21 +67,21 @@ fn on_allocator<R: Abort + AllocGlobal>(
     text: &str,
     events: &str,
 ) -> Result<(), Fail> {
-    let unit = Allocator::new(1);
-    let shape = unit.shape(rt.alloc())?;
-    let core = Core::start(rt.alloc(), unit, shape, Order::Textual, start)?;
-    compare(rt, core, steps, text, events)
+    let run = Run {
+        order: Order::Textual,
+        start,
+        steps,
+        text,
+        events,
+    };
+    run_on(rt, Allocator::new(1), run)
 }
 
 // Where several conditions hold, the first in the order of a call is answered: here no number is left for a call and no
 // place for a procedure or a cut, and from the finalization on the object is finalized too.
 #[test]
 fn refusals_come_by_rising_number(rt: HostRuntime) -> Result<(), Fail> {
-    let start = Start {
-        first_number: 18446744073709551615,
-        first_place: 18446744073709551615,
-        max_queue: None,
-    };
+    let start = from(18446744073709551615, 18446744073709551615);
     let steps = [
         NOTHING,
         GRANT,
@@ -129,11 +129,7 @@ fn refusals_come_by_rising_number(rt: HostRuntime) -> Result<(), Fail> {
 // procedure may have.
 #[test]
 fn refusals_leave_what_was_ended(rt: HostRuntime) -> Result<(), Fail> {
-    let start = Start {
-        first_number: 1,
-        first_place: 18446744073709551609,
-        max_queue: None,
-    };
+    let start = from(1, 18446744073709551609);
     let steps = [
         REQUEST,
         CLAIM,

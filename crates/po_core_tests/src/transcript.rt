@@ -1,8 +1,9 @@
 //! What the commands on a core answered, as text, for tests. No clause says what a command did, so a test's proof carries
 //! none of it.
 
-use po_actions::{Aborted, Core, Deadline, End, Event, Place, Refusal, Ticket};
-use po_index::EntryRef;
+use po_actions::{Aborted, Core, Deadline, End, Event, Order, Place, Refusal, Start, Ticket};
+use po_classic_units::ScriptUnit;
+use po_index::{EntryRef, Shape, ShapeFault};
 use po_unit::Unit;
 use std::alloc::Global;
 use std::fmt::Write;
@@ -37,6 +38,20 @@ pub(crate) enum Step {
     Cut,
     /// From where the history replays.
     Base,
+}
+
+/// The beginning of a core whose first call and first event have these numbers, and whose queues have no greatest length.
+pub(crate) fn from(first_number: u64, first_place: u64) -> Start {
+    Start {
+        first_number,
+        first_place,
+        max_queue: None,
+    }
+}
+
+/// The single entry of a declaration.
+pub(crate) fn single(entry: u16) -> EntryRef {
+    EntryRef { entry, index: None }
 }
 
 /// A core, the tickets of its calls, and what its commands answered: first the answer, then the calls that ended.
@@ -90,39 +105,50 @@ fn events_of(alloc: Global, events: &[Event<u64>]) -> Result<String, Fail> {
     Ok(text)
 }
 
-/// Carries out the steps on a core, and compares what they answered and what the history then has.
-pub(crate) fn compare<R: Abort + AllocGlobal, U: Unit<Value = u64> + Drop>(
+/// A run on a new core: the order and the beginning of the core, the steps, what they answer, and what the history then has.
+#[derive(Clone, Copy)]
+pub(crate) struct Run<'a> {
+    pub(crate) order: Order,
+    pub(crate) start: Start,
+    pub(crate) steps: &'a [Step],
+    pub(crate) text: &'a str,
+    pub(crate) events: &'a str,
+}
+
+/// Runs on a new core over a unit that comes with the machine.
+pub(crate) fn run_on<R: Abort + AllocGlobal, U: ScriptUnit>(
     rt: &R,
-    core: Core<U>,
-    steps: &[Step],
-    text: &str,
-    events: &str,
+    unit: U,
+    run: Run,
 ) -> Result<(), Fail> {
-    let mut run = Transcript {
-        core,
+    let shape = unit.shape(rt.alloc());
+    run_with(rt, unit, shape, run)
+}
+
+/// Runs on a new core over a unit of this shape, and compares what is answered and noted with what is wanted.
+pub(crate) fn run_with<R: Abort + AllocGlobal, U: Unit<Value = u64> + Drop>(
+    rt: &R,
+    unit: U,
+    shape: Result<Shape, ShapeFault>,
+    run: Run,
+) -> Result<(), Fail> {
+    let mut transcript = Transcript {
+        core: Core::start(rt.alloc(), unit, shape?, run.order, run.start)?,
         owner: 0,
         tickets: Vec::new(rt.alloc()),
         text: String::new(rt.alloc()),
     };
-    let compared = run.compare(rt, steps, text, events);
-    drop(run);
-    compared
+    transcript.compare(rt, run)
 }
 
 impl<U: Unit<Value = u64> + Drop> Transcript<U> {
-    fn compare<R: Abort + AllocGlobal>(
-        &mut self,
-        rt: &R,
-        steps: &[Step],
-        text: &str,
-        events: &str,
-    ) -> Result<(), Fail> {
-        for step in steps {
+    fn compare<R: Abort + AllocGlobal>(&mut self, rt: &R, run: Run) -> Result<(), Fail> {
+        for step in run.steps {
             self.step(*step)?;
         }
-        assert_eq!(rt; self.text.as_str(), text);
+        assert_eq!(rt; self.text.as_str(), run.text);
         let kinds = events_of(rt.alloc(), self.core.events())?;
-        assert_eq!(rt; kinds.as_str(), events);
+        assert_eq!(rt; kinds.as_str(), run.events);
         Ok(())
     }
 

@@ -11,32 +11,34 @@ use std::process::Abort;
 use std::sync::atomic::{AtomicU64, Ordering};
 use std::test::Fail;
 
-/// Five entries, of which one is open or none, with a count of the evaluations of each barrier, which no clause sees.
+/// Five entries, of which one is open or none, and the barrier of one propagates an exception or of none, with a count of the
+/// evaluations of each barrier, which no clause sees.
 #[derive(Drop)]
 struct Counted {
     open_entry: u16,
+    broken_entry: u16,
     evaluations: [AtomicU64; 5],
 }
 
 impl Model for Counted {
     ghost use Rattle.std.specs.Prelude.{ℕ};
 
-    ghost Value = { ℕ };
+    ghost Value = { ℕ × ℕ };
 
-    ghost view = { λ s. s.open_entry };
+    ghost view = { λ s. (s.open_entry, s.broken_entry) };
 }
 
 impl Unit for Counted {
     type Value = u64;
 
-    ghost use Rattle.std.specs.Prelude.{Ok, refl, ◌==◌};
+    ghost use Rattle.std.specs.Prelude.{Ok, Err, refl, ◌==◌, if◌then◌else◌};
     ghost use Rattle.po_unit.specs.declared.outcome.Outcome.TheVariants.{Complete};
 
     ghost meaning = { record {
       entries = λ s. 5;
       procedures = λ s. 1;
       functions = λ s. 1;
-      gate = λ s e c. Ok (e == s);
+      gate = λ s e c. if e == s.1 then Err 13 else Ok (e == s.0);
       body = λ s e v c. (s, Complete v);
       procedure = λ s op v c. (s, Ok v);
       function = λ s op v c. Ok v;
@@ -57,6 +59,9 @@ impl Unit for Counted {
 
     fn barrier(&self, e: u16, _counts: &[u64]) -> Result<bool, u32> {
         self.evaluations[usize::from(e)].fetch_add(1, Ordering::SeqCst);
+        if e == self.broken_entry {
+            return Err(13);
+        }
         Ok(e == self.open_entry)
     }
 
@@ -77,7 +82,7 @@ impl Unit for Counted {
     }
 
     fn copy(&self) -> Result<Counted, AllocError> {
-        Ok(all_closed_but(self.open_entry))
+        Ok(all_closed_but(self.open_entry, self.broken_entry))
     }
 
     ghost lawful = { record {
@@ -91,13 +96,14 @@ impl Unit for Counted {
     ghost equality = { Prim.search rules };
 }
 
-/// With this entry open, if there is such an entry, and no barrier evaluated.
-fn all_closed_but(open_entry: u16) -> Counted
-    ensures { result ≡ open_entry }
+/// With this entry open and the barrier of that one broken, where there are such entries, and no barrier evaluated.
+fn all_closed_but(open_entry: u16, broken_entry: u16) -> Counted
+    ensures { result ≡ (open_entry, broken_entry) }
 {
     let none = || AtomicU64::new(0);
     Counted {
         open_entry,
+        broken_entry,
         evaluations: [none(), none(), none(), none(), none()],
     }
 }
@@ -115,12 +121,14 @@ fn filled(alloc: Global) -> Result<Queues, AllocError>
     Ok(queues)
 }
 
-/// Examines with this entry open, if there is such an entry, and compares what is told and how often each barrier was
-/// evaluated.
+/// No entry.
+const NONE: u16 = 5;
+
+/// Examines the unit's entries, and compares what is told and how often each barrier was evaluated.
 fn assert_evaluated(
     rt: &impl Abort,
     queues: &Queues,
-    open_entry: u16,
+    unit: Counted,
     order: Order,
     last: Option<u16>,
     told: Look,
@@ -128,7 +136,6 @@ fn assert_evaluated(
 )
     requires { queues.now.total ≡ 5 }
 {
-    let unit = all_closed_but(open_entry);
     assert_eq!(rt; examine(&unit, queues, order, last), told);
     for (count, wanted) in unit.evaluations.iter().zip(evaluated) {
         assert_eq!(rt; count.load(Ordering::SeqCst), wanted);
@@ -140,25 +147,54 @@ fn evaluates_each_closed_barrier_once(rt: HostRuntime) -> Result<(), Fail> {
     let queues = filled(rt.alloc())?;
     for order in [Order::Textual, Order::Oldest, Order::Rotating] {
         for last in [None, Some(0), Some(3), Some(4), Some(u16::MAX)] {
-            assert_evaluated(&rt, &queues, 5, order, last, Look::Quiet, [0, 1, 0, 1, 1]);
+            let closed = all_closed_but(NONE, NONE);
+            assert_evaluated(
+                &rt,
+                &queues,
+                closed,
+                order,
+                last,
+                Look::Quiet,
+                [0, 1, 0, 1, 1],
+            );
         }
     }
     Ok(())
 }
 
+// In the order Oldest each barrier is evaluated, since the first keys' stamps decide.
+const RUNS: [(Order, Option<u16>, [u64; 5]); 5] = [
+    (Order::Textual, None, [0, 1, 0, 1, 0]),
+    (Order::Rotating, None, [0, 1, 0, 1, 0]),
+    (Order::Rotating, Some(1), [0, 0, 0, 1, 0]),
+    (Order::Rotating, Some(3), [0, 1, 0, 1, 1]),
+    (Order::Oldest, None, [0, 1, 0, 1, 1]),
+];
+
 #[test]
 fn evaluates_no_barrier_after_the_open_one(rt: HostRuntime) -> Result<(), Fail> {
     let queues = filled(rt.alloc())?;
-    let runs = [
-        (Order::Textual, None, [0, 1, 0, 1, 0]),
-        (Order::Rotating, None, [0, 1, 0, 1, 0]),
-        (Order::Rotating, Some(1), [0, 0, 0, 1, 0]),
-        (Order::Rotating, Some(3), [0, 1, 0, 1, 1]),
-        // Each barrier is evaluated, since the first keys' stamps decide.
-        (Order::Oldest, None, [0, 1, 0, 1, 1]),
-    ];
-    for (order, last, evaluated) in runs {
-        assert_evaluated(&rt, &queues, 3, order, last, Look::Ready(3), evaluated);
+    for (order, last, evaluated) in RUNS {
+        let open = all_closed_but(3, NONE);
+        assert_evaluated(&rt, &queues, open, order, last, Look::Ready(3), evaluated);
+    }
+    Ok(())
+}
+
+#[test]
+fn evaluates_no_barrier_after_the_broken_one(rt: HostRuntime) -> Result<(), Fail> {
+    let queues = filled(rt.alloc())?;
+    for (order, last, evaluated) in RUNS {
+        let broken = all_closed_but(NONE, 3);
+        assert_evaluated(
+            &rt,
+            &queues,
+            broken,
+            order,
+            last,
+            Look::Broken(3),
+            evaluated,
+        );
     }
     Ok(())
 }

@@ -1,7 +1,7 @@
 //! Readers that give the script in pieces or fail, and writers that take the answers in pieces or fail.
 
 use crate::fakes::{Asked, Narrow, Pieces};
-use crate::rows::text_of;
+use crate::runs::text_of;
 use po_script::{OverStd, RunFault, Sink, Source, run_script};
 use std::alloc::Global;
 use std::process::Abort;

@@ -55,88 +55,7 @@ impl Source for Pieces<'_> {
     }
 }
 
-/// Gives so many comments of 4,096 bytes, and then so many bytes of another line.
-#[derive(Drop)]
-pub(crate) struct Comments {
-    comments: u64,
-    more: usize,
-    ended: bool,
-}
-
-impl Comments {
-    pub(crate) fn new(comments: u64, more: usize) -> Comments
-        ensures { result.ended ≡ false }
-    {
-        Comments {
-            comments,
-            more,
-            ended: false,
-        }
-    }
-}
-
-impl Source for Comments {
-    ghost left = { λ _. None };
-
-    ghost failed = { λ _. false };
-
-    ghost ended = { λ s. s.ended };
-
-    fn read(&mut self, buffer: &mut [u8]) -> Result<usize, IoFailed> {
-        buffer.fill(b'#');
-        if self.comments > 0 && buffer.len() == 4096 {
-            self.comments -= 1;
-            buffer[4095] = b'\n';
-            return Ok(4096);
-        }
-        let count = self.more.min(buffer.len());
-        self.more -= count;
-        if count == 0 {
-            self.ended = true;
-        }
-        Ok(count)
-    }
-}
-
-/// Gives so many newlines in pieces of one size.
-#[derive(Drop)]
-pub(crate) struct Newlines {
-    lines: usize,
-    size: usize,
-    ended: bool,
-}
-
-impl Newlines {
-    pub(crate) fn new(lines: usize, size: usize) -> Newlines
-        ensures { result.ended ≡ false }
-    {
-        Newlines {
-            lines,
-            size,
-            ended: false,
-        }
-    }
-}
-
-impl Source for Newlines {
-    ghost left = { λ _. None };
-
-    ghost failed = { λ _. false };
-
-    ghost ended = { λ s. s.ended };
-
-    fn read(&mut self, buffer: &mut [u8]) -> Result<usize, IoFailed> {
-        let count = self.size.min(self.lines).min(buffer.len());
-        buffer[..count].fill(b'\n');
-        self.lines -= count;
-        if count == 0 {
-            self.ended = true;
-        }
-        Ok(count)
-    }
-}
-
-/// Gives newlines for ever, one a read, and counts its reads.
+/// Gives a line without an end, a letter a read, and counts its reads.
 #[derive(Clone, Copy)]
 pub(crate) struct Endless {
     pub(crate) reads: u64,
@@ -151,7 +70,7 @@ impl Source for Endless {
 
     fn read(&mut self, buffer: &mut [u8]) -> Result<usize, IoFailed> {
         self.reads = self.reads.saturating_add(1);
-        buffer[0] = b'\n';
+        buffer[0] = b'x';
         Ok(1)
     }
 }

@@ -1,6 +1,7 @@
-//! Tests of scripts: what they write, and how their runs end.
+//! Tests of scripts whose readers or writers fail, or give and take their bytes in pieces, and of what a long run costs.
 //!
-//! They stand apart from what they test, so that the gate proves those crates once, and not a second time with their tests.
+//! They stand apart from what they test, so that the gate proves that crate once, and not a second time with its tests. What a
+//! script writes, and where its faults are, is shown by the scripts of examples/ and cases/.
 #![tactic(auto)]
 
 #[cfg(test)]
@@ -8,12 +9,6 @@ mod ends;
 #[cfg(test)]
 mod fakes;
 #[cfg(test)]
-mod faults;
-#[cfg(test)]
-mod rows;
+mod runs;
 #[cfg(test)]
 mod sizes;
-#[cfg(test)]
-mod units;
-#[cfg(test)]
-mod words;
