@@ -37,21 +37,27 @@ def only(path):
     return ["--only", "::".join(parts[1:])] if parts[0] == "src" and parts[1:] not in (("lib",), ("main",)) else []
 
 
+def says_refused(said):
+    """Whether the check came to the proofs, and one of them failed."""
+    told = re.search(r"^only=(\d+) proved=(\d+)", said, re.M)
+    if told:
+        return told[1] != told[2]
+    return "logic=not-proved" in said and not re.search(r"\berror\[[\w-]+\]", said)
+
+
 def is_refused(crate, texts):
     """Whether the prover refuses the crate in this folder with these texts, and what it said."""
     kept = {path: (crate / path).read_text() for path in texts}
+    words = ["rt", "check", *(word for path in texts for word in only(path))]
     try:
         for path, text in texts.items():
             (crate / path).write_text(text)
-        words = ["rt", "check"]
-        for path in texts:
-            words += only(path)
         ran = subprocess.run(words, cwd=crate, stdin=subprocess.DEVNULL, capture_output=True, text=True, errors="replace")
     finally:
         for path, text in kept.items():
             (crate / path).write_text(text)
     said = ran.stdout + ran.stderr
-    return ran.returncode == 1 and "logic=not-proved" in said and not re.search(r"\berror\[[\w-]+\]", said), said
+    return ran.returncode == 1 and says_refused(said), said
 
 
 def try_edit(edit, crate):
