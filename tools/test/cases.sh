@@ -55,6 +55,18 @@ broken() {
   fi
 }
 
+# Whether the three programs are built of the sources as they are: else `pobj` would try these.
+are_built() {
+  local program crates=()
+  for program in pobj_run pobj_check pobj_stress; do
+    list_crates "$program"
+    if ! is_fresh "$program"; then
+      fail "$program isn't built"
+      return 1
+    fi
+  done
+}
+
 # Carries out each case by the built programs, and scripts whose reading or writing fails.
 run_cases() {
   local base
