@@ -1,6 +1,8 @@
 //! A unit whose calls are requeued three times, twice of them without abort, what its cores answer, and how often they evaluate
 //! its barriers, which no clause counts.
 
+ghost use Rattle.std.specs.Prelude.{◌≡◌, ◌-◌};
+
 use crate::transcript::{Run, Step, from, run_with, single};
 use po_actions::Order;
 use po_index::{Decl, Shape};
@@ -31,7 +33,7 @@ fn declared(public: bool) -> Decl {
 #[derive(Drop)]
 struct Ladder<'a> {
     level: u64,
-    evaluations: &'a [AtomicU64; 4],
+    evaluations: &'a [AtomicU64],
 }
 
 impl<'a> Model for Ladder<'a> {
@@ -62,7 +64,9 @@ impl<'a> Unit for Ladder<'a> {
     }
 
     fn barrier(&self, e: u16, _counts: &[u64]) -> Result<bool, u32> {
-        self.evaluations[usize::from(e)].fetch_add(1, atomic::Ordering::SeqCst);
+        if let Some(count) = self.evaluations.get(usize::from(e)) {
+            count.fetch_add(1, atomic::Ordering::SeqCst);
+        }
         Ok(u64::from(e) <= self.level)
     }
 
@@ -87,7 +91,9 @@ impl<'a> Unit for Ladder<'a> {
         Ok(self.level)
     }
 
-    fn rank(e: u16, _v: u64) -> u8 {
+    fn rank(e: u16, _v: u64) -> u8
+        ensures { result ≡ 3 - e }
+    {
         LAST.saturating_sub(e) as u8
     }
 
