@@ -20,7 +20,7 @@ use std::alloc::Global;
 use std::io::{self, Input, Print, Read};
 
 /// How many bytes of standard input are looked at.
-const MOST: usize = 1024;
+const MOST: usize = 512;
 
 /// How many bytes are taken behind all allocations that count.
 const BEHIND: usize = 16;
