@@ -1,10 +1,13 @@
-//! Threads that share a bounded buffer whose memory is all taken at the opening.
+//! A bounded buffer whose memory is all taken when it is made: first one thread uses it by itself, then threads share one.
 //!
-//! Two producers put 100,000 values each into a buffer for four, and two consumers get 100,000 each. Then the object is
-//! closed, and its closing totals are told. What is printed is the same in every run.
+//! The one thread puts a million values into a machine and gets them, so the memory is the same after the first call and
+//! after the last. Then two producers put 100,000 values each into an object, and two consumers get 100,000 each; the object
+//! is closed, and its closing totals are told. What is printed is the same in every run.
 #![tactic(auto)]
 
 ghost use Rattle.std.specs.Prelude.{◌≡◌, ◌≤◌, ◌+◌, IfOk};
+
+mod alone;
 
 use anyhow::{Result, bail};
 use po_actions::{Order, Start};
@@ -184,6 +187,7 @@ fn counted(closed: &BoundedClosed<Buffer>) -> u64 {
 }
 
 fn main(rt: HostRuntime) -> Result<()> {
+    alone::run(&rt)?;
     let machine = empty_buffer(rt.alloc())?;
     let (calls, procedures, free) = (Blank::new(PARTS), Blank::new(PARTS), Blank::new(PARTS));
     let closed = use_object::<Brand, Brand, Brand, HostRuntime>(

@@ -1,6 +1,7 @@
 //! Scripts whose allocations are refused: such a run ends for want of memory, and what it wrote is the answers of some
 //! number of first lines.
 
+use crate::refusals::Refusals;
 use po_script::{OverStd, RunFault, run_script};
 use std::io::{self, Print};
 
@@ -71,7 +72,7 @@ fn is_of_lines(text: &[u8], answers: &[&str]) -> bool {
 }
 
 /// Runs the script without memory for what it writes: its fault, and how many bytes were written.
-fn run<R: AllocGlobal>(rt: &R, script: &str, text: &mut [u8]) -> (Result<(), RunFault>, usize) {
+fn write<R: AllocGlobal>(rt: &R, script: &str, text: &mut [u8]) -> (Result<(), RunFault>, usize) {
     let most = text.len();
     let mut reader = OverStd::new(script.as_bytes());
     let mut writer = OverStd::new(text);
@@ -79,34 +80,28 @@ fn run<R: AllocGlobal>(rt: &R, script: &str, text: &mut [u8]) -> (Result<(), Run
     (ran, most.saturating_sub(writer.into_inner().len()))
 }
 
-/// Runs the script, once more where memory was wanting, prints what it wrote, and answers how often memory was wanting.
-fn print<R: Print + AllocGlobal>(rt: &R, script: &str, answers: &[&str]) -> io::Result<u64> {
-    for refusals in 0..2 {
+/// Runs the script, once more where memory was wanting, prints what it wrote, and counts how often memory was wanting.
+fn print<R: Print + AllocGlobal>(
+    rt: &R,
+    script: &str,
+    answers: &[&str],
+    refusals: &mut Refusals,
+) -> io::Result<()> {
+    for _ in 0..2 {
         let mut bytes = [0u8; MOST];
-        let (ran, count) = run(rt, script, &mut bytes);
+        let (ran, count) = write(rt, script, &mut bytes);
         let text = &bytes[..count.min(MOST)];
         match ran {
-            Ok(()) => {
-                print!(rt; "{}", str::from_utf8(text).unwrap_or("no text\n"))?;
-                return Ok(refusals);
-            }
-            Err(RunFault::Memory) => {}
-            Err(fault) => {
-                println!(rt; "{fault}")?;
-                return Ok(refusals);
-            }
-        }
-        if !is_of_lines(text, answers) {
-            println!(rt; "a line was answered in part")?;
+            Ok(()) => return print!(rt; "{}", str::from_utf8(text).unwrap_or("no text\n")),
+            Err(RunFault::Memory) => refusals.note(is_of_lines(text, answers)),
+            Err(fault) => return println!(rt; "{fault}"),
         }
     }
-    println!(rt; "refused twice")?;
-    Ok(2)
+    println!(rt; "refused twice")
 }
 
-/// Runs both scripts, and answers how often memory was wanting.
-pub(crate) fn run_both<R: Print + AllocGlobal>(rt: &R) -> io::Result<u64> {
-    let pulse = print(rt, PULSE, &PULSE_ANSWERS)?;
-    let allocator = print(rt, ALLOCATOR, &ALLOCATOR_ANSWERS)?;
-    Ok(pulse.saturating_add(allocator))
+/// Runs both scripts, and counts how often memory was wanting.
+pub(crate) fn run<R: Print + AllocGlobal>(rt: &R, refusals: &mut Refusals) -> io::Result<()> {
+    print(rt, PULSE, &PULSE_ANSWERS, refusals)?;
+    print(rt, ALLOCATOR, &ALLOCATOR_ANSWERS, refusals)
 }

@@ -2,8 +2,11 @@
 //! found none has changed neither its pass nor the object, and both do their work when they are asked again; what takes no
 //! memory answers the same, whatever was refused.
 
-ghost use Rattle.std.specs.Prelude.{◌≡◌, ◌+◌};
+ghost use Rattle.std.specs.Prelude.{◌≡◌};
+ghost use Rattle.po_classic_units.specs.Sizes.{IsSizeWhere};
 
+use crate::cores::make_again;
+use crate::refusals::Refusals;
 use po_actions::{Core, End, Order, Refusal, Volume};
 use po_classic_units::{Allocator, ScriptUnit};
 use po_index::EntryRef;
@@ -96,26 +99,23 @@ fn answer_of<U: Unit<Value = u64> + Drop, C: CallLedger, P: Ledger, R: Wait>(
     }
 }
 
-/// Asks the object, once more where memory was wanting, prints the answer, and gives how often memory was wanting.
+/// Asks the object, once more where memory was wanting, prints the answer, and counts how often memory was wanting.
 fn print_answer<U: Unit<Value = u64> + Drop, C: CallLedger, P: Ledger, R: Print + Wait>(
     rt: &R,
     object: &Object<U, C, P>,
     pass: &mut Pass<u64, C, P>,
     what: Ask,
-) -> io::Result<u64> {
-    for refusals in 0..2 {
+    refusals: &mut Refusals,
+) -> io::Result<()> {
+    for _ in 0..2 {
         let before = see(rt, object, pass);
         let answer = answer_of(rt, object, pass, what);
         if !matches!(answer, Err(Refusal::OutOfMemory)) {
-            println!(rt; "{answer:?}")?;
-            return Ok(refusals);
+            return println!(rt; "{answer:?}");
         }
-        if before != see(rt, object, pass) {
-            println!(rt; "changed")?;
-        }
+        refusals.note(before == see(rt, object, pass));
     }
-    println!(rt; "refused twice")?;
-    Ok(2)
+    println!(rt; "refused twice")
 }
 
 /// Asks for all of these, and counts how often memory was wanting.
@@ -124,35 +124,29 @@ fn print_all<U: Unit<Value = u64> + Drop, C: CallLedger, P: Ledger, R: Print + W
     object: &Object<U, C, P>,
     pass: &mut Pass<u64, C, P>,
     all: &[Ask],
-    refusals: &mut u64,
+    refusals: &mut Refusals,
 ) -> io::Result<()> {
     for what in all {
-        *refusals = refusals.saturating_add(print_answer(rt, object, pass, *what)?);
+        print_answer(rt, object, pass, *what, refusals)?;
     }
     Ok(())
 }
 
 /// Cuts the history, once more where memory was wanting, and counts how often memory was wanting.
-fn cut<U: Unit<Value = u64> + Drop, C: CallLedger, P: Ledger, R: Print + Wait>(
+fn cut<U: Unit<Value = u64> + Drop, C: CallLedger, P: Ledger, R: Wait>(
     rt: &R,
     object: &Object<U, C, P>,
     pass: &Pass<u64, C, P>,
-    refusals: &mut u64,
-) -> io::Result<Option<Volume<u64>>> {
+    refusals: &mut Refusals,
+) -> Option<Volume<u64>> {
     for _ in 0..2 {
         let before = see(rt, object, pass);
         if let Ok(volume) = object.cut(rt) {
-            let events = volume.events().len();
-            println!(rt; "volume {} of {events}", volume.first_place())?;
-            return Ok(Some(volume));
+            return Some(volume);
         }
-        *refusals = refusals.saturating_add(1);
-        if before != see(rt, object, pass) {
-            println!(rt; "changed")?;
-        }
+        refusals.note(before == see(rt, object, pass));
     }
-    println!(rt; "refused twice")?;
-    Ok(None)
+    None
 }
 
 /// Prints what takes no memory, and finalizes the object.
@@ -172,10 +166,10 @@ fn ask_and_cut<U: Unit<Value = u64> + Drop, C: CallLedger, P: Ledger, R: Print +
     object: &Object<U, C, P>,
     pass: &mut Pass<u64, C, P>,
     all: &[Ask],
-    refusals: &mut u64,
+    refusals: &mut Refusals,
 ) -> io::Result<Option<Volume<u64>>> {
     print_all(rt, object, pass, all, refusals)?;
-    cut(rt, object, pass, refusals)
+    Ok(cut(rt, object, pass, refusals))
 }
 
 /// Uses the object, whose history is cut twice, and gives the two volumes.
@@ -183,7 +177,7 @@ fn use_object<U: Unit<Value = u64> + Drop, C: CallLedger, P: Ledger, R: Print + 
     rt: &R,
     object: &Object<U, C, P>,
     pass: &mut Pass<u64, C, P>,
-    refusals: &mut u64,
+    refusals: &mut Refusals,
 ) -> io::Result<Option<[Volume<u64>; 2]>> {
     let first = [Ask::Call(1), Ask::Conditional(1), Ask::Timed(1, 0)];
     let second = [Ask::Procedure(1), Ask::Tick(5), Ask::Timed(1, 6)];
@@ -202,7 +196,7 @@ fn use_first<U: Unit<Value = u64> + Drop, C: CallLedger, P: Ledger, R: Print + W
     rt: &R,
     object: &Object<U, C, P>,
     passes: &mut Vec<Pass<u64, C, P>>,
-    refusals: &mut u64,
+    refusals: &mut Refusals,
 ) -> io::Result<Option<[Volume<u64>; 2]>> {
     match passes.first_mut() {
         Some(pass) => use_object(rt, object, pass, refusals),
@@ -220,39 +214,29 @@ fn issued_none<U: Unit>(core: &Core<U>) -> bool {
     core.next() == 1
 }
 
-/// Prints that a core isn't as it was made, if it isn't.
-fn print_change<U: Unit, R: Print>(rt: &R, core: &Core<U>) -> io::Result<()> {
-    if is_new(core) {
-        return Ok(());
-    }
-    println!(rt; "changed")
-}
-
 /// Opens an object with one seat, once more with what is handed back where memory was wanting.
-fn open<U: Unit<Value = u64> + Drop, C: CallLedger, P: Ledger, R: Print + AllocGlobal>(
-    rt: &R,
+fn open<U: Unit<Value = u64> + Drop, C: CallLedger, P: Ledger>(
+    alloc: Global,
     core: Core<U>,
     calls: Blank,
     procedures: Blank,
-    refusals: &mut u64,
-) -> io::Result<Option<(Object<U, C, P>, Vec<Pass<u64, C, P>>)>>
+    refusals: &mut Refusals,
+) -> Option<(Object<U, C, P>, Vec<Pass<u64, C, P>>)>
     requires shape { core.object.making.shape ≡ C.shape }
     requires calls { (calls.name ≡ C.name) × (calls.parts ≡ C.parts) × (calls.parts ≡ 2) }
     requires procedures { (procedures.name ≡ P.name) × (procedures.parts ≡ P.parts) × (procedures.parts ≡ 2) }
 {
-    match Object::open(rt.alloc(), core, 1, calls, procedures) {
-        Ok(opened) => Ok(Some(opened)),
+    match Object::open(alloc, core, 1, calls, procedures) {
+        Ok(opened) => Some(opened),
         Err(OpenFault::OutOfMemory(core, calls, procedures)) => {
-            *refusals = refusals.saturating_add(1);
-            let printed = print_change(rt, &core);
-            let opened = Object::open(rt.alloc(), core, 1, calls, procedures).ok();
-            printed.and(Ok(opened))
+            refusals.note(is_new(&core));
+            Object::open(alloc, core, 1, calls, procedures).ok()
         }
-        Err(_) => Ok(None),
+        Err(_) => None,
     }
 }
 
-/// Prints the receipts of a closed object, and what they and the history say together.
+/// Prints the history and the receipts of a closed object, and what they say together.
 fn print_closed<U: Unit<Value = u64>, R: Print>(
     rt: &R,
     closed: &Closed<U>,
@@ -263,6 +247,13 @@ fn print_closed<U: Unit<Value = u64>, R: Print>(
         closed.core().place(),
         closed.core().events().len()
     )?;
+    for volume in volumes {
+        println!(rt;
+            "volume {} of {}",
+            volume.first_place(),
+            volume.events().len()
+        )?;
+    }
     for pass in closed.passes() {
         for receipt in pass.receipts() {
             println!(rt; "{receipt:?}")?;
@@ -275,12 +266,12 @@ fn print_closed<U: Unit<Value = u64>, R: Print>(
 fn print_end<U: Unit<Value = u64>, R: Print>(
     rt: &R,
     closed: &Option<Closed<U>>,
-    volumes: &Option<[Volume<u64>; 2]>,
+    volumes: io::Result<Option<[Volume<u64>; 2]>>,
 ) -> io::Result<()> {
-    match (closed, volumes) {
+    match (closed, volumes?) {
         (_, None) => println!(rt; "no pass, or not cut"),
         (None, _) => println!(rt; "not closed"),
-        (Some(closed), Some(volumes)) => print_closed(rt, closed, volumes),
+        (Some(closed), Some(volumes)) => print_closed(rt, closed, &volumes),
     }
 }
 
@@ -290,38 +281,39 @@ fn try_object<U: Unit<Value = u64> + Drop, C: CallLedger, P: Ledger, R: Print + 
     core: Core<U>,
     calls: Blank,
     procedures: Blank,
-    refusals: &mut u64,
+    refusals: &mut Refusals,
 ) -> io::Result<()>
     requires shape { core.object.making.shape ≡ C.shape }
     requires calls { (calls.name ≡ C.name) × (calls.parts ≡ C.parts) × (calls.parts ≡ 2) }
     requires procedures { (procedures.name ≡ P.name) × (procedures.parts ≡ P.parts) × (procedures.parts ≡ 2) }
 {
-    let opened = open::<U, C, P, R>(rt, core, calls, procedures, refusals)?;
+    let opened = open::<U, C, P>(rt.alloc(), core, calls, procedures, refusals);
     let Some((object, mut passes)) = opened else {
         return println!(rt; "not opened");
     };
     let volumes = use_first(rt, &object, &mut passes, refusals);
     let closed = object.close(passes).ok();
-    print_end(rt, &closed, &volumes?)
+    print_end(rt, &closed, volumes)
 }
 
-/// A core of an allocator of 1, or none where memory was wanting.
-fn make_core(alloc: Global) -> Option<Core<Allocator>> {
-    let unit = Allocator::new(1);
-    let shape = unit.shape(alloc).ok()?;
-    Core::new(alloc, unit, shape, Order::Textual, 1).ok()
+/// Tries an object over a core of the unit of size 1, and counts how often memory was wanting.
+fn try_unit<U: ScriptUnit, R: Print + Wait + AllocGlobal>(
+    rt: &R,
+    refusals: &mut Refusals,
+) -> io::Result<()>
+    requires { IsSizeWhere U.known.names.is_sized 1 }
+{
+    let Some(core) = make_again::<U>(rt.alloc(), 1, Order::Textual, refusals) else {
+        return println!(rt; "refused twice");
+    };
+    let (calls, procedures) = (Blank::new(2), Blank::new(2));
+    try_object::<U, Brand, Brand, R>(rt, core, calls, procedures, refusals)
 }
 
-/// Tries an object over an allocator of 1, and answers how often memory was wanting.
-pub(crate) fn run<R: Print + Wait + AllocGlobal>(rt: &R) -> io::Result<u64> {
-    let made = make_core(rt.alloc());
-    let mut refusals = u64::from(made.is_none());
-    match made.or_else(|| make_core(rt.alloc())) {
-        Some(core) => {
-            let (calls, procedures) = (Blank::new(2), Blank::new(2));
-            try_object::<Allocator, Brand, Brand, R>(rt, core, calls, procedures, &mut refusals)?;
-        }
-        None => println!(rt; "refused twice")?,
-    }
-    Ok(refusals)
+/// Tries an object over an allocator of 1, and counts how often memory was wanting.
+pub(crate) fn run<R: Print + Wait + AllocGlobal>(
+    rt: &R,
+    refusals: &mut Refusals,
+) -> io::Result<()> {
+    try_unit::<Allocator, R>(rt, refusals)
 }
