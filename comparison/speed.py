@@ -26,7 +26,7 @@ ROUNDS = 15
 # The objects, and what stands before the word for the work where the program is to use them.
 PREFIXES = {"recorded": "", "bounded": "bounded-", "gnat": ""}
 OURS = ("recorded", "bounded")
-PROGRAM = programs.TOP / "crates/po_thread_bench/out/po_thread_bench"
+PROGRAM = programs.TOP / "crates/po_bench/out/po_bench"
 # The numbers of the last run, by row and program: calls a second, of each round.
 NUMBERS = programs.OUT / "speed.json"
 
@@ -45,10 +45,10 @@ def prepare():
     programs.build("speed", "-O2")
     if is_current():
         return
-    programs.say("po_thread_bench is built first, which takes minutes")
+    programs.say("po_bench is built first, which takes minutes")
     built = subprocess.run(["rt", "run", "--", "small"], cwd=PROGRAM.parent.parent, capture_output=True, text=True)
     if built.returncode != 0:
-        raise programs.Failed(f"po_thread_bench can't be built:\n{built.stdout[-2000:]}{built.stderr[-2000:]}")
+        raise programs.Failed(f"po_bench can't be built:\n{built.stdout[-2000:]}{built.stderr[-2000:]}")
 
 
 def words_of(name):

@@ -1,23 +1,24 @@
 //! Commands, in batches.
 
-use crate::engine::Engine;
+use crate::engine::{Engine, make_trap};
 use crate::measure::Measure;
 use po_actions::{Deadline, End};
+use po_classic_units::Trap;
 use std::io;
 use std::time::{Clock, Instant};
 
-/// A level at which the first entry is open.
+/// A level of the trap at which the entries of its family are open.
 pub(crate) const OPEN: u64 = 3;
 
-/// A command on a trap.
+/// A command.
 #[derive(Clone, Copy)]
 pub(crate) enum Command {
     /// A call on the first entry, which is open, and its collection.
     Call,
     /// The same as a conditional call, which is cancelled where the entry is closed (9.7.3).
     Conditional,
-    /// The procedure sets this level.
-    Set(u64),
+    /// The first procedure, with this value.
+    Run(u64),
     /// The clock rises by 1.
     Tick,
 }
@@ -28,14 +29,20 @@ impl Command {
         match self {
             Command::Call => matches!(engine.call(Deadline::Never), Some(End::Completed(_))),
             Command::Conditional => matches!(engine.call(Deadline::At(0)), Some(End::Cancelled)),
-            Command::Set(level) => engine.set(level),
+            Command::Run(value) => engine.run(value),
             Command::Tick => engine.raise_clock(),
         }
     }
 
     /// Carries the command out so many times, and answers how often it did what it is to do.
     pub(crate) fn repeat<E: Engine>(self, engine: &mut E, times: u64) -> u64 {
-        (0..times).filter(|_| self.carry_out(engine)).count() as u64
+        let mut done = 0u64;
+        for _ in 0..times {
+            if self.carry_out(engine) {
+                done = done.saturating_add(1);
+            }
+        }
+        done
     }
 
     /// Adds a batch of the command to the measure.
@@ -49,5 +56,17 @@ impl Command {
         let start = Instant::now(rt)?;
         let done = self.repeat(engine, times);
         measure.add(rt, start, done)
+    }
+
+    /// Adds a batch of the command, on an object of its own whose first entry is open, to the measure.
+    pub(crate) fn measure_alone<E: Engine<Unit = Trap>, R: Clock + AllocGlobal>(
+        self,
+        rt: &R,
+        times: u64,
+        measure: &mut Measure,
+    ) -> io::Result<()> {
+        let mut engine: E = make_trap(rt.alloc())?;
+        engine.run(OPEN);
+        self.measure(rt, &mut engine, times, measure)
     }
 }

@@ -1,7 +1,8 @@
 //! What commands are measured on: a core, or a machine, whose memory is fixed.
 
-use crate::cores::trap;
-use po_actions::{Core, Deadline, End, Order, Start};
+ghost use Rattle.std.specs.Prelude.{◌≡◌, IfSome};
+
+use po_actions::{Aborted, Core, Deadline, End, Order, Start, Ticket};
 use po_classic_units::{ScriptUnit, Trap};
 use po_index::EntryRef;
 use po_machine::Machine;
@@ -10,8 +11,8 @@ use std::alloc::{AllocError, Global};
 /// Who makes all calls.
 const OWNER: u16 = 0;
 
-/// The procedure Set of the trap.
-const SET: u16 = 0;
+/// The first procedure: Set of the trap, and Release of the allocator.
+const PROCEDURE: u16 = 0;
 
 /// The first entry of the family Wait of the trap.
 const WAIT: EntryRef = EntryRef {
@@ -32,36 +33,81 @@ const START: Start = Start {
     max_queue: None,
 };
 
-/// An object over a trap, whose commands are measured.
+/// A machine of the unit with memory for so many uncollected calls, or none where memory is wanting.
+pub(crate) fn make_machine<U: ScriptUnit>(
+    alloc: Global,
+    unit: U,
+    order: Order,
+    most: usize,
+) -> Option<Machine<U>>
+    ensures { IfSome result (λ machine. machine.most ≡ most) }
+{
+    let shape = unit.shape(alloc).ok()?;
+    Machine::start(alloc, unit, shape, order, START, most).ok()
+}
+
+/// An object whose commands are measured.
 pub(crate) trait Engine: Drop {
-    /// A trap at the level 0, unless memory is wanting.
-    fn make(alloc: Global) -> Result<Self, AllocError>;
+    /// Its unit.
+    type Unit;
 
-    /// Calls the first entry, and collects the end, if the call doesn't wait.
-    fn call(&mut self, deadline: Deadline) -> Option<End<u64>>;
+    /// An object with this unit, or none where memory is wanting.
+    fn make(alloc: Global, unit: Self::Unit, order: Order) -> Option<Self>;
 
-    /// Sets the level, and tells whether the procedure completed.
-    fn set(&mut self, level: u64) -> bool;
+    /// Calls an entry, and gives the ticket, if the call isn't refused.
+    fn issue(&mut self, entry: EntryRef, value: u64, deadline: Deadline) -> Option<Ticket>;
+
+    /// Collects the call of the ticket, if it has ended.
+    fn collect(&mut self, ticket: Ticket) -> Option<End<u64>>;
+
+    /// Runs the first procedure, and tells whether that wasn't refused.
+    fn run(&mut self, value: u64) -> bool;
 
     /// Raises the clock by 1, and tells whether that wasn't refused.
     fn raise_clock(&mut self) -> bool;
 
-    /// What the function replies.
+    /// What the first function replies.
     fn read(&self) -> Option<u64>;
-}
 
-impl Engine for Core<Trap> {
-    fn make(alloc: Global) -> Result<Core<Trap>, AllocError> {
-        trap(alloc)
-    }
-
+    /// Calls the first entry, and collects the end, if the call doesn't wait.
     fn call(&mut self, deadline: Deadline) -> Option<End<u64>> {
-        let ticket = self.issue(OWNER, WAIT, 1, deadline).ok()?;
+        let ticket = self.issue(WAIT, 1, deadline)?;
         self.collect(ticket)
     }
+}
 
-    fn set(&mut self, level: u64) -> bool {
-        matches!(self.run(OWNER, SET, level), Ok(Ok(_)))
+/// An object whose waiting calls are cancelled by their numbers.
+pub(crate) trait Cancelling: Engine {
+    /// Whether the call of the ticket waits.
+    fn is_waiting(&self, ticket: Ticket) -> bool;
+
+    /// Attempts to cancel the call of the ticket, and tells whether it is cancelled.
+    fn abort(&mut self, ticket: Ticket) -> bool;
+}
+
+/// A trap at the level 0, which closes the entries of its family Wait.
+pub(crate) fn make_trap<E: Engine<Unit = Trap>>(alloc: Global) -> Result<E, AllocError> {
+    E::make(alloc, Trap::new(), Order::Textual).ok_or(AllocError)
+}
+
+impl<U: ScriptUnit> Engine for Core<U> {
+    type Unit = U;
+
+    fn make(alloc: Global, unit: U, order: Order) -> Option<Core<U>> {
+        let shape = unit.shape(alloc).ok()?;
+        Core::start(alloc, unit, shape, order, START).ok()
+    }
+
+    fn issue(&mut self, entry: EntryRef, value: u64, deadline: Deadline) -> Option<Ticket> {
+        Core::issue(self, OWNER, entry, value, deadline).ok()
+    }
+
+    fn collect(&mut self, ticket: Ticket) -> Option<End<u64>> {
+        Core::collect(self, ticket)
+    }
+
+    fn run(&mut self, value: u64) -> bool {
+        Core::run(self, OWNER, PROCEDURE, value).is_ok()
     }
 
     fn raise_clock(&mut self) -> bool {
@@ -73,20 +119,33 @@ impl Engine for Core<Trap> {
     }
 }
 
-impl Engine for Machine<Trap> {
-    fn make(alloc: Global) -> Result<Machine<Trap>, AllocError> {
-        let unit = Trap::new();
-        let shape = unit.shape(alloc).map_err(|_| AllocError)?;
-        Machine::start(alloc, unit, shape, Order::Textual, START, MOST).map_err(|_| AllocError)
+impl<U: ScriptUnit> Cancelling for Core<U> {
+    fn is_waiting(&self, ticket: Ticket) -> bool {
+        Core::is_waiting(self, ticket.number)
     }
 
-    fn call(&mut self, deadline: Deadline) -> Option<End<u64>> {
-        let ticket = self.issue(OWNER, WAIT, 1, deadline).ok()?;
-        self.collect(ticket)
+    fn abort(&mut self, ticket: Ticket) -> bool {
+        matches!(Core::abort(self, ticket.number), Ok(Aborted::Cancelled))
+    }
+}
+
+impl<U: ScriptUnit> Engine for Machine<U> {
+    type Unit = U;
+
+    fn make(alloc: Global, unit: U, order: Order) -> Option<Machine<U>> {
+        make_machine(alloc, unit, order, MOST)
     }
 
-    fn set(&mut self, level: u64) -> bool {
-        matches!(self.run(OWNER, SET, level), Ok(Ok(_)))
+    fn issue(&mut self, entry: EntryRef, value: u64, deadline: Deadline) -> Option<Ticket> {
+        Machine::issue(self, OWNER, entry, value, deadline).ok()
+    }
+
+    fn collect(&mut self, ticket: Ticket) -> Option<End<u64>> {
+        Machine::collect(self, ticket)
+    }
+
+    fn run(&mut self, value: u64) -> bool {
+        Machine::run(self, OWNER, PROCEDURE, value).is_ok()
     }
 
     fn raise_clock(&mut self) -> bool {

@@ -3,21 +3,17 @@
 
 ghost use Rattle.po_classic_units.specs.Sizes.{IsSize};
 
+use crate::commands::Command;
+use crate::engine::Engine;
 use crate::measure::Measure;
 use crate::plan::Plan;
 use crate::report::pair;
 use po_actions::{Core, Deadline, Order};
-use po_classic_units::{Allocator, ScriptUnit};
+use po_classic_units::Allocator;
 use po_index::EntryRef;
-use std::alloc::{AllocError, Global};
+use std::alloc::AllocError;
 use std::io::{self, Print};
-use std::time::{Clock, Instant};
-
-/// Who makes all calls.
-const OWNER: u16 = 0;
-
-/// The procedure Release of the allocator.
-const RELEASE: u16 = 0;
+use std::time::Clock;
 
 /// The entry Request of the allocator.
 const REQUEST: EntryRef = EntryRef {
@@ -28,44 +24,33 @@ const REQUEST: EntryRef = EntryRef {
 /// The size of the allocator with few entries.
 const SMALL: u16 = 16;
 
-/// An allocator of this size. It has two entries more.
-fn make(alloc: Global, size: u16) -> Option<Core<Allocator>>
+/// Adds a batch of the procedure Release, which lets no call go, on an allocator of this size. It has two entries more.
+fn measure<E: Engine<Unit = Allocator>, R: Clock + AllocGlobal>(
+    rt: &R,
+    plan: &Plan,
+    size: u16,
+    measure: &mut Measure,
+) -> io::Result<()>
     requires { IsSize size }
 {
-    let unit = Allocator::new(size);
-    let shape = unit.shape(alloc).ok()?;
-    let mut core = Core::new(alloc, unit, shape, Order::Oldest, 1).ok()?;
+    let made: Option<E> = Engine::make(rt.alloc(), Allocator::new(size), Order::Oldest);
+    let mut engine = made.ok_or(AllocError)?;
     for number in [size, 1, size / 2, size] {
-        let value = u64::from(number);
-        core.issue(OWNER, REQUEST, value, Deadline::Never).ok()?;
+        let issued = engine.issue(REQUEST, u64::from(number), Deadline::Never);
+        issued.ok_or(AllocError)?;
     }
-    Some(core)
-}
-
-/// Runs the procedure so many times, which lets no call go, and answers how often it did so.
-fn release(core: &mut Core<Allocator>, times: u64) -> u64 {
-    let run = |_: &u64| core.run(OWNER, RELEASE, 0).is_ok();
-    (0..times).filter(run).count() as u64
-}
-
-/// Measures the procedure on an allocator of this size.
-fn measure<R: Clock + AllocGlobal>(rt: &R, plan: &Plan, size: u16) -> io::Result<Measure>
-    requires { IsSize size }
-{
-    let mut measure = Measure::new();
-    for _ in 0..plan.batches {
-        let mut core = make(rt.alloc(), size).ok_or(AllocError)?;
-        let start = Instant::now(rt)?;
-        let done = release(&mut core, plan.commands);
-        measure.add(rt, start, done)?;
-    }
-    Ok(measure)
+    Command::Run(0).measure(rt, &mut engine, plan.commands, measure)
 }
 
 /// Measures the procedure on both, and prints what it takes.
 pub(crate) fn print<R: Print + Clock + AllocGlobal>(rt: &R, plan: &Plan) -> io::Result<()> {
-    let few = measure(rt, plan, SMALL)?;
-    let many = measure(rt, plan, Allocator::MAX_SIZE)?;
+    let (mut few, mut many) = (Measure::new(), Measure::new());
+    for _ in 0..plan.batches {
+        measure::<Core<Allocator>, R>(rt, plan, SMALL, &mut few)?;
+    }
+    for _ in 0..plan.batches {
+        measure::<Core<Allocator>, R>(rt, plan, Allocator::MAX_SIZE, &mut many)?;
+    }
     pair(
         rt,
         plan,

@@ -6,7 +6,7 @@
 //! one with the least.
 
 use crate::commands::{Command, OPEN};
-use crate::cores::trap;
+use crate::engine::{Engine, make_trap};
 use crate::measure::Measure;
 use crate::plan::Plan;
 use crate::report::pair;
@@ -15,44 +15,46 @@ use po_classic_units::Trap;
 use std::io::{self, Print};
 use std::time::Clock;
 
-/// Begins a history, and adds the batch to the measure.
-fn begin<R: Clock + AllocGlobal>(
+/// Begins histories, and adds a batch on each to the measure.
+fn begin_all<E: Engine<Unit = Trap>, R: Clock + AllocGlobal>(
     rt: &R,
     plan: &Plan,
-    first: &mut Measure,
-) -> io::Result<Core<Trap>> {
-    let mut core = trap(rt.alloc())?;
-    Command::Set(OPEN).repeat(&mut core, 1);
-    Command::Call.measure(rt, &mut core, u64::from(plan.first), first)?;
-    Ok(core)
+    measure: &mut Measure,
+) -> io::Result<Vec<E>> {
+    let mut engines = Vec::new(rt.alloc());
+    for _ in 0..plan.begun_histories {
+        let mut engine: E = make_trap(rt.alloc())?;
+        engine.run(OPEN);
+        Command::Call.measure(rt, &mut engine, u64::from(plan.first), measure)?;
+        engines.push(engine)?;
+    }
+    Ok(engines)
 }
 
 /// Makes the history long, and adds the last batch to the measure.
-fn go_on<R: Clock>(
+fn go_on<E: Engine, R: Clock>(
     rt: &R,
     plan: &Plan,
-    core: &mut Core<Trap>,
-    last: &mut Measure,
+    engine: &mut E,
+    measure: &mut Measure,
 ) -> io::Result<()> {
-    Command::Call.repeat(core, u64::from(plan.middle));
-    Command::Call.measure(rt, core, u64::from(plan.last), last)
+    Command::Call.repeat(engine, u64::from(plan.middle));
+    Command::Call.measure(rt, engine, u64::from(plan.last), measure)
 }
 
 /// Begins histories, has some of them go on to their end, and adds a series of batches to both measures.
-fn measure<R: Clock + AllocGlobal>(
+fn measure<E: Engine<Unit = Trap>, R: Clock + AllocGlobal>(
     rt: &R,
     plan: &Plan,
     first: &mut Measure,
     last: &mut Measure,
 ) -> io::Result<()> {
-    let mut beginnings = Measure::new();
-    let mut ends = Measure::new();
-    let mut cores = Vec::new(rt.alloc());
-    for _ in 0..plan.begun_histories {
-        cores.push(begin(rt, plan, &mut beginnings)?)?;
-    }
-    for core in cores.iter_mut().take(plan.histories) {
-        go_on(rt, plan, core, &mut ends)?;
+    let (mut beginnings, mut ends) = (Measure::new(), Measure::new());
+    let mut engines: Vec<E> = begin_all(rt, plan, &mut beginnings)?;
+    for n in 0..plan.histories {
+        if let Some(engine) = engines.get_mut(n) {
+            go_on(rt, plan, engine, &mut ends)?;
+        }
     }
     first.add_series(beginnings);
     last.add_series(ends);
@@ -61,10 +63,9 @@ fn measure<R: Clock + AllocGlobal>(
 
 /// Measures calls at both ends of histories, in turn, and prints what they take.
 pub(crate) fn print<R: Print + Clock + AllocGlobal>(rt: &R, plan: &Plan) -> io::Result<()> {
-    let mut first = Measure::new();
-    let mut last = Measure::new();
+    let (mut first, mut last) = (Measure::new(), Measure::new());
     for _ in 0..plan.history_rounds {
-        measure(rt, plan, &mut first, &mut last)?;
+        measure::<Core<Trap>, R>(rt, plan, &mut first, &mut last)?;
     }
     let begun = u64::from(plan.first);
     let length = begun + u64::from(plan.middle) + u64::from(plan.last);

@@ -1,9 +1,8 @@
 //! Many calls on one machine, whose memory doesn't grow.
 
-use crate::commands::{Command, OPEN};
-use crate::engine::Engine;
+use crate::commands::Command;
 use crate::measure::Measure;
-use crate::plan::{MANY, Plan};
+use crate::plan::{MANY, Plan, ROUNDS};
 use crate::report::line;
 use po_classic_units::Trap;
 use po_machine::Machine;
@@ -12,9 +11,7 @@ use std::time::Clock;
 
 /// Issues and collects so many calls on one machine, and prints what one took.
 pub(crate) fn print<R: Print + Clock + AllocGlobal>(rt: &R, calls: u64) -> io::Result<()> {
-    let mut machine: Machine<Trap> = Engine::make(rt.alloc())?;
-    machine.set(OPEN);
     let mut all = Measure::new();
-    Command::Call.measure(rt, &mut machine, calls, &mut all)?;
-    line(rt, &Plan::full(MANY), "machine", all, all)
+    Command::Call.measure_alone::<Machine<Trap>, R>(rt, calls, &mut all)?;
+    line(rt, &Plan::full(MANY, ROUNDS), "machine", all, all)
 }

@@ -11,7 +11,7 @@ pub(crate) struct Measure {
     /// How many nanoseconds all batches took.
     nanos: u64,
     /// How many picoseconds a command took in the batch, or the series of batches, in which it took the least.
-    picos: u64,
+    pub picos: u64,
 }
 
 impl Measure {
@@ -46,17 +46,6 @@ impl Measure {
         self.nanos = self.nanos.saturating_add(nanos);
         self.picos = self.picos.min(picos_of(nanos, commands));
     }
-
-    /// The tenths of nanoseconds that a command took.
-    pub(crate) fn tenths(self) -> u64 {
-        self.picos / 100
-    }
-
-    /// The hundredths of what a command of the other measurement took that one of this took.
-    pub(crate) fn hundredths_of(self, other: Measure) -> u64 {
-        let hundredths = self.picos.saturating_mul(100);
-        hundredths.checked_div(other.picos).unwrap_or(0)
-    }
 }
 
 /// The nanoseconds since then.
@@ -66,7 +55,7 @@ pub(crate) fn nanos_since<R: Clock>(rt: &R, start: Instant) -> io::Result<u64> {
 }
 
 /// The picoseconds that one of so many commands took, or the most where there is none.
-fn picos_of(nanos: u64, commands: u64) -> u64 {
+pub(crate) fn picos_of(nanos: u64, commands: u64) -> u64 {
     let picos = nanos.saturating_mul(1_000).checked_div(commands);
     picos.unwrap_or(u64::MAX)
 }

@@ -3,6 +3,9 @@
 /// How many calls wait where many do, unless the command line says it.
 pub(crate) const MANY: u64 = 64_000;
 
+/// How many rounds of the rows of threads there are, unless the command line says it.
+pub(crate) const ROUNDS: u32 = 15;
+
 /// How much is measured, and whether times are printed.
 #[derive(Drop)]
 pub(crate) struct Plan {
@@ -34,6 +37,12 @@ pub(crate) struct Plan {
     pub last: u32,
     /// How many of the histories of a round go on to their end.
     pub histories: usize,
+    /// How many rounds of the rows of threads there are.
+    pub rounds: u32,
+    /// How often each thread does its work in a round.
+    pub turns: u64,
+    /// The same of work for which threads mostly wait.
+    pub waiting_turns: u64,
 }
 
 impl Plan {
@@ -54,11 +63,14 @@ impl Plan {
             middle: 200,
             last: 100,
             histories: 1,
+            rounds: 1,
+            turns: 24,
+            waiting_turns: 24,
         }
     }
 
-    /// Times, with so many calls that wait where many do.
-    pub(crate) fn full(many: u64) -> Plan {
+    /// Times, with so many calls that wait where many do, and so many rounds of the rows of threads.
+    pub(crate) fn full(many: u64, rounds: u32) -> Plan {
         Plan {
             times: true,
             batches: 20_000,
@@ -74,6 +86,9 @@ impl Plan {
             middle: 890_000,
             last: 100_000,
             histories: 3,
+            rounds,
+            turns: 20_000,
+            waiting_turns: 10_000,
         }
     }
 }

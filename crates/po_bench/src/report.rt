@@ -4,6 +4,20 @@ use crate::measure::Measure;
 use crate::plan::Plan;
 use std::io::{self, Print};
 
+/// Ends a line whose name and count are printed: with nothing more where counts alone are; else with the nanoseconds of each
+/// of the times, which are picoseconds, and the ratio of the first of them to the unit.
+pub(crate) fn end_line<R: Print>(rt: &R, plan: &Plan, times: &[u64], unit: u64) -> io::Result<()> {
+    if plan.times {
+        for picos in times {
+            print!(rt; " {}.{}", picos / 1_000, picos / 100 % 10)?;
+        }
+        let first = times.first().copied().unwrap_or(0);
+        let ratio = first.saturating_mul(100).checked_div(unit).unwrap_or(0);
+        print!(rt; " {}.{:02}", ratio / 100, ratio % 100)?;
+    }
+    println!(rt;)
+}
+
 /// Prints a measurement: its name, its commands, the nanoseconds of one, and their ratio to those of the unit.
 pub(crate) fn line<R: Print>(
     rt: &R,
@@ -13,21 +27,11 @@ pub(crate) fn line<R: Print>(
     unit: Measure,
 ) -> io::Result<()> {
     print!(rt; "{name} {}", measure.commands)?;
-    if plan.times {
-        let (tenths, ratio) = (measure.tenths(), measure.hundredths_of(unit));
-        print!(rt;
-            " {}.{} {}.{:02}",
-            tenths / 10,
-            tenths % 10,
-            ratio / 100,
-            ratio % 100
-        )?;
-    }
-    println!(rt;)
+    end_line(rt, plan, &[measure.picos], unit.picos)
 }
 
 /// Prints a measurement at two sizes. The ratio of the second line is the second to the first.
-pub(crate) fn pair<R: Print + AllocGlobal>(
+pub(crate) fn pair<R: Print>(
     rt: &R,
     plan: &Plan,
     name: &str,
@@ -35,8 +39,8 @@ pub(crate) fn pair<R: Print + AllocGlobal>(
     many: (u64, Measure),
 ) -> io::Result<()> {
     for (size, measure) in [few, many] {
-        let name = format!(in rt.alloc(); "{name}/{size}")?;
-        line(rt, plan, name.as_str(), measure, few.1)?;
+        print!(rt; "{name}/{size} {}", measure.commands)?;
+        end_line(rt, plan, &[measure.picos], few.1.picos)?;
     }
     Ok(())
 }

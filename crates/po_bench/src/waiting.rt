@@ -1,18 +1,15 @@
 //! What commands take while few and while many calls wait.
 
 use crate::commands::Command;
-use crate::cores::trap;
+use crate::engine::{Cancelling, Engine, make_trap};
 use crate::measure::Measure;
 use crate::plan::Plan;
 use crate::report::pair;
-use po_actions::{Aborted, Core, Deadline, Ticket};
+use po_actions::{Core, Deadline, Ticket};
 use po_classic_units::Trap;
 use po_index::EntryRef;
 use std::io::{self, Print};
 use std::time::{Clock, Instant};
-
-/// Who makes the waiting calls.
-const OWNER: u16 = 0;
 
 /// The time from which on the waiting calls expire. The clock never gets there.
 const FAR: u64 = 1 << 40;
@@ -64,69 +61,63 @@ impl Measures {
     }
 
     /// Adds a batch of each command. The calls that one batch issues are those that the next one cancels.
-    fn add<R: Clock>(
+    fn add<E: Cancelling, R: Clock>(
         &mut self,
         rt: &R,
-        core: &mut Core<Trap>,
+        engine: &mut E,
         tickets: &mut Vec<Ticket>,
         commands: u64,
     ) -> io::Result<()> {
-        Command::Set(0).measure(rt, core, commands, &mut self.procedure)?;
-        Command::Conditional.measure(rt, core, commands, &mut self.conditional)?;
-        Command::Tick.measure(rt, core, commands, &mut self.tick)?;
+        Command::Run(0).measure(rt, engine, commands, &mut self.procedure)?;
+        Command::Conditional.measure(rt, engine, commands, &mut self.conditional)?;
+        Command::Tick.measure(rt, engine, commands, &mut self.tick)?;
         let start = Instant::now(rt)?;
-        let issued = issue(core, tickets, commands);
+        let issued = issue(engine, tickets, commands);
         self.issue.add(rt, start, issued)?;
         let start = Instant::now(rt)?;
-        let aborted = abort(core, tickets);
+        let aborted = abort(engine, tickets.as_slice());
         self.abort.add(rt, start, aborted)?;
-        collect(core, tickets);
-        issue(core, tickets, commands);
+        collect(engine, tickets);
+        issue(engine, tickets, commands);
         let start = Instant::now(rt)?;
-        let aborted = abort_seats(core, tickets);
+        let aborted = abort_seats(engine, tickets.as_slice());
         self.abort_seat.add(rt, start, aborted)?;
-        collect(core, tickets);
+        collect(engine, tickets);
         Ok(())
     }
 }
 
-/// When the call that is issued as the n-th expires.
-fn deadline(n: u64) -> Deadline {
-    Deadline::At(FAR + n.wrapping_mul(SCATTER) % SPREAD)
-}
-
-/// Issues a call that waits, and tells whether its ticket was kept.
-fn issue_one(core: &mut Core<Trap>, tickets: &mut Vec<Ticket>, n: u64) -> bool {
-    let entry = ENTRIES[(n % 3) as usize];
-    match core.issue(OWNER, entry, n, deadline(n)) {
-        Ok(ticket) => tickets.push(ticket).is_ok(),
-        Err(_) => false,
-    }
-}
-
 /// Issues so many calls on the entries in turn, which wait, and answers how many tickets were kept.
-fn issue(core: &mut Core<Trap>, tickets: &mut Vec<Ticket>, calls: u64) -> u64 {
-    let kept = (0..calls).filter(|n| issue_one(core, tickets, *n));
-    kept.count() as u64
-}
-
-/// Attempts to cancel the call of the ticket, and tells whether it is cancelled.
-fn abort_one(core: &mut Core<Trap>, ticket: &Ticket) -> bool {
-    matches!(core.abort(ticket.number), Ok(Aborted::Cancelled))
+fn issue<E: Engine>(engine: &mut E, tickets: &mut Vec<Ticket>, calls: u64) -> u64 {
+    let mut kept = 0u64;
+    for n in 0..calls {
+        let deadline = Deadline::At(FAR + n.wrapping_mul(SCATTER) % SPREAD);
+        if let Some(ticket) = engine.issue(ENTRIES[(n % 3) as usize], n, deadline) {
+            if tickets.push(ticket).is_ok() {
+                kept = kept.saturating_add(1);
+            }
+        }
+    }
+    kept
 }
 
 /// Cancels the calls of the tickets, and answers how many it cancelled.
-fn abort(core: &mut Core<Trap>, tickets: &[Ticket]) -> u64 {
-    let cancelled = tickets.iter().filter(|ticket| abort_one(core, ticket));
-    cancelled.count() as u64
+fn abort<E: Cancelling>(engine: &mut E, tickets: &[Ticket]) -> u64 {
+    let mut cancelled = 0u64;
+    for ticket in tickets {
+        if engine.abort(*ticket) {
+            cancelled = cancelled.saturating_add(1);
+        }
+    }
+    cancelled
 }
 
 /// What `Hold::abort_seat` does for each ticket of which it knows that it is its seat's latest: looks whether the call waits,
 /// and cancels it. Answers how many it cancelled.
-fn abort_seats(core: &mut Core<Trap>, tickets: &[Ticket]) -> u64 {
+fn abort_seats<E: Cancelling>(engine: &mut E, tickets: &[Ticket]) -> u64 {
     let mut cancelled = 0u64;
     for ticket in tickets {
-        if core.is_waiting(ticket.number) && abort_one(core, ticket) {
+        if engine.is_waiting(*ticket) && engine.abort(*ticket) {
             cancelled = cancelled.saturating_add(1);
         }
     }
@@ -134,26 +125,26 @@ fn abort_seats(core: &mut Core<Trap>, tickets: &[Ticket]) -> u64 {
 }
 
 /// Collects the calls of the tickets.
-fn collect(core: &mut Core<Trap>, tickets: &mut Vec<Ticket>) {
+fn collect<E: Engine>(engine: &mut E, tickets: &mut Vec<Ticket>) {
     for ticket in tickets.iter() {
-        let _end = core.collect(*ticket);
+        let _end = engine.collect(*ticket);
     }
     tickets.clear();
 }
 
-/// Adds batches of the commands to the measures, on a core on which so many calls wait.
-fn measure<R: Clock + AllocGlobal>(
+/// Adds batches of the commands to the measures, on an object on which so many calls wait.
+fn measure<E: Cancelling + Engine<Unit = Trap>, R: Clock + AllocGlobal>(
     rt: &R,
     plan: &Plan,
     calls: u64,
     measures: &mut Measures,
 ) -> io::Result<()> {
-    let mut core = trap(rt.alloc())?;
+    let mut engine: E = make_trap(rt.alloc())?;
     let mut tickets = Vec::new(rt.alloc());
-    issue(&mut core, &mut tickets, calls);
+    issue(&mut engine, &mut tickets, calls);
     tickets.clear();
     for _ in 0..plan.waiting_batches {
-        measures.add(rt, &mut core, &mut tickets, plan.waiting_commands)?;
+        measures.add(rt, &mut engine, &mut tickets, plan.waiting_commands)?;
     }
     Ok(())
 }
@@ -161,12 +152,11 @@ fn measure<R: Clock + AllocGlobal>(
 /// Measures the commands while few and while many calls wait, in turn, and prints what they take.
 pub(crate) fn print<R: Print + Clock + AllocGlobal>(rt: &R, plan: &Plan) -> io::Result<()> {
     // For the memory alone, which the measurements then find touched.
-    measure(rt, plan, plan.many, &mut Measures::new())?;
-    let mut few = Measures::new();
-    let mut many = Measures::new();
+    measure::<Core<Trap>, R>(rt, plan, plan.many, &mut Measures::new())?;
+    let (mut few, mut many) = (Measures::new(), Measures::new());
     for _ in 0..plan.waiting_rounds {
-        measure(rt, plan, plan.few, &mut few)?;
-        measure(rt, plan, plan.many, &mut many)?;
+        measure::<Core<Trap>, R>(rt, plan, plan.few, &mut few)?;
+        measure::<Core<Trap>, R>(rt, plan, plan.many, &mut many)?;
     }
     for (name, few, many) in [
         ("procedure", few.procedure, many.procedure),

@@ -2,28 +2,28 @@
 
 ghost use Rattle.std.specs.Prelude.{◌≡◌, ◌≤◌, ◌+◌};
 
-use crate::called::Called;
-use crate::callers::carry_out;
-use crate::measure::Round;
-use crate::team::Team;
-use crate::work::{Job, Task};
-use po_actions::End;
+use crate::callers::Called;
+use crate::engine::make_machine;
+use crate::races::race;
+use crate::team::Round;
+use crate::work::Task;
+use po_actions::{End, Order};
 use po_bounded_object::hold::BoundedPass;
 use po_bounded_object::{BoundedObject, CallLedger};
+use po_classic_units::ScriptUnit;
 use po_index::EntryRef;
 use po_machine::Machine;
 use po_unit::Unit;
 use std::alloc::AllocError;
 use std::io;
+use std::marker::Brand;
+use std::sync::Wait;
 use std::sync::ledger::{Blank, Ledger};
-use std::sync::{Arc, Wait};
-use std::thread::{self, JoinHandle, Threads};
+use std::thread::Threads;
 use std::time::Clock;
 
-impl<U: Unit<Value = u64>, C: CallLedger, P: Ledger, F: Ledger> Called
+impl<U: Unit<Value = u64>, C: CallLedger, P: Ledger, F: Ledger> Called<BoundedPass<u64, C, P, F>>
     for BoundedObject<U, C, P, F> {
-    type Pass = BoundedPass<u64, C, P, F>;
-
     fn enter<R: Wait>(
         &self,
         rt: &R,
@@ -49,27 +49,9 @@ impl<U: Unit<Value = u64>, C: CallLedger, P: Ledger, F: Ledger> Called
     }
 }
 
-/// Starts a thread that does the work and gives its pass back.
-fn start<
-    U: Unit<Value = u64> + Send + Sync + Drop + 'static,
-    C: CallLedger + Send + Sync + 'static,
-    P: Ledger + Send + Sync + 'static,
-    F: Ledger + Send + Sync + 'static,
-    R: Threads + Wait + Clock + Copy + Send + 'static,
->(
-    rt: R,
-    object: Arc<BoundedObject<U, C, P, F>>,
-    team: Arc<Team>,
-    pass: BoundedPass<u64, C, P, F>,
-    job: Job,
-) -> Result<JoinHandle<BoundedPass<u64, C, P, F>>, AllocError> {
-    let all = move || -> BoundedPass<u64, C, P, F> { carry_out(&rt, &*object, &*team, pass, job) };
-    Ok(thread::spawn(&rt, all)?)
-}
-
 /// Has threads do the task on an object over the machine.
-pub(crate) fn race_on_bounded<
-    U: Unit<Value = u64> + Send + Sync + Drop + 'static,
+fn race_over<
+    U: ScriptUnit + Send + Sync + 'static,
     C: CallLedger + Send + Sync + 'static,
     P: Ledger + Send + Sync + 'static,
     F: Ledger + Send + Sync + 'static,
@@ -89,32 +71,20 @@ pub(crate) fn race_on_bounded<
     requires free { (free.name ≡ F.name) × (free.parts ≡ F.parts) × (free.parts ≡ task.threads + 1) }
 {
     let alloc = rt.alloc();
-    let opened = BoundedObject::<U, C, P, F>::open(
-        alloc,
-        machine,
-        task.threads,
-        calls,
-        procedures,
-        free,
-    );
-    let Ok((object, mut passes)) = opened else {
-        return Err(AllocError.into());
-    };
-    let object = Arc::new(alloc, object)?;
-    let team = Arc::new(alloc, Team::new(&rt, task.threads)?)?;
-    let mut running = Vec::new(alloc);
-    while let Some(pass) = passes.pop() {
-        let job = task.job(pass.seat());
-        running.push(start(
-            rt,
-            Arc::try_clone(&object)?,
-            Arc::try_clone(&team)?,
-            pass,
-            job,
-        )?)?;
+    match BoundedObject::<U, C, P, F>::open(alloc, machine, task.threads, calls, procedures, free) {
+        Ok((object, passes)) => race(rt, object, passes, task),
+        Err(_) => Err(AllocError.into()),
     }
-    while let Some(thread) = running.pop() {
-        let _pass = thread.join(&rt);
-    }
-    Ok(team.round())
+}
+
+/// Has threads do the task on an object of this unit, with memory for a call of each.
+pub(crate) fn race_bounded<
+    U: ScriptUnit + Send + Sync + 'static,
+    R: Threads + Wait + Clock + AllocGlobal + Copy + Send + 'static,
+>(rt: R, unit: U, task: Task) -> io::Result<Round> {
+    let most = usize::from(task.threads);
+    let machine = make_machine(rt.alloc(), unit, Order::Textual, most).ok_or(AllocError)?;
+    let parts = u64::from(task.threads) + 1;
+    let (calls, procedures, free) = (Blank::new(parts), Blank::new(parts), Blank::new(parts));
+    race_over::<U, Brand, Brand, Brand, R>(rt, machine, task, calls, procedures, free)
 }

@@ -1,6 +1,7 @@
-//! What the threads of a round share beside what they work on.
+//! What the threads of a round share beside what they work on, and what they did.
 
-use crate::measure::Round;
+use crate::measure::picos_of;
+use std::alloc::{AllocError, Global};
 use std::io;
 use std::sync::atomic::{AtomicU64, Ordering};
 use std::sync::{Barrier, Wait};
@@ -59,5 +60,57 @@ impl Team {
             nanos: ended.saturating_sub(begun),
             done: self.done.load(Ordering::SeqCst),
         }
+    }
+}
+
+/// What the threads of one round did.
+#[derive(Clone, Copy)]
+pub(crate) struct Round {
+    /// The nanoseconds from the first thread's beginning to the last one's end.
+    pub nanos: u64,
+    /// How often they did what they were to do.
+    pub done: u64,
+}
+
+/// What the rounds of one row took.
+#[derive(Drop)]
+pub(crate) struct Rounds {
+    /// The picoseconds of each round for each time, in their order.
+    picos: Vec<u64>,
+    /// How often the work was done in all rounds.
+    pub done: u64,
+}
+
+impl Rounds {
+    /// No round.
+    pub(crate) fn new(alloc: Global) -> Rounds {
+        Rounds {
+            picos: Vec::new(alloc),
+            done: 0,
+        }
+    }
+
+    /// Adds a round.
+    pub(crate) fn add(&mut self, round: Round) -> Result<(), AllocError> {
+        self.picos.push(picos_of(round.nanos, round.done))?;
+        self.picos.sort_unstable();
+        self.done = self.done.saturating_add(round.done);
+        Ok(())
+    }
+
+    /// The picoseconds for each time, in the round in the middle.
+    pub(crate) fn median(&self) -> u64 {
+        let middle = self.picos.len() / 2;
+        self.picos.get(middle).copied().unwrap_or(0)
+    }
+
+    /// The same, in the round in which it took the least.
+    pub(crate) fn lowest(&self) -> u64 {
+        self.picos.first().copied().unwrap_or(0)
+    }
+
+    /// The same, in the round in which it took the most.
+    pub(crate) fn highest(&self) -> u64 {
+        self.picos.last().copied().unwrap_or(0)
     }
 }

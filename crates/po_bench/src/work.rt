@@ -40,6 +40,18 @@ pub(crate) enum Work {
     Meeting,
 }
 
+/// All of it.
+const ALL: [Work; 8] = [
+    Work::Mutex,
+    Work::Monitor,
+    Work::Procedure,
+    Work::Function,
+    Work::Entry,
+    Work::Buffer,
+    Work::Allocator,
+    Work::Meeting,
+];
+
 impl Work {
     /// The word for it.
     pub(crate) fn name(self) -> &'static str {
@@ -62,47 +74,21 @@ impl Work {
 
     /// The work with this word.
     pub(crate) fn named(word: &str) -> Option<Work> {
-        match word {
-            "mutex" => Some(Work::Mutex),
-            "monitor" => Some(Work::Monitor),
-            "procedure" => Some(Work::Procedure),
-            "function" => Some(Work::Function),
-            "entry" => Some(Work::Entry),
-            "buffer" => Some(Work::Buffer),
-            "allocator" => Some(Work::Allocator),
-            "meeting" => Some(Work::Meeting),
-            _ => None,
+        for work in ALL {
+            if work.name() == word {
+                return Some(work);
+            }
         }
+        None
     }
-}
-
-/// What one thread of a round does.
-#[derive(Clone, Copy)]
-pub(crate) struct Job {
-    pub(crate) work: Work,
-    /// The thread's number, from 0 on.
-    pub(crate) thread: u64,
-    /// How often it does the work.
-    pub(crate) turns: u64,
 }
 
 /// What all threads of a round do.
 #[derive(Clone, Copy)]
 pub(crate) struct Task {
-    pub(crate) kind: Kind,
-    pub(crate) work: Work,
-    pub(crate) threads: u16,
+    pub kind: Kind,
+    pub work: Work,
+    pub threads: u16,
     /// How often each thread does the work.
-    pub(crate) turns: u64,
-}
-
-impl Task {
-    /// What the thread with this number does.
-    pub(crate) fn job(self, thread: u16) -> Job {
-        Job {
-            work: self.work,
-            thread: u64::from(thread),
-            turns: self.turns,
-        }
-    }
+    pub turns: u64,
 }
