@@ -3,13 +3,16 @@
 ghost use Rattle.std.specs.Prelude.{◌≡◌, ◌<◌};
 ghost use Rattle.po_thread_tests.specs.Signs.{signs_meaning};
 
-use crate::team::TURNS;
 use po_index::{Shape, ShapeFault};
 use po_unit::{Outcome, Unit};
 use std::alloc::{AllocError, Global};
 use std::marker::Model;
 use std::sync::Arc;
 use std::sync::atomic::{AtomicBool, Ordering};
+use std::thread;
+
+/// How often a function looks for the other one.
+const LOOKS: u32 = 10_000_000;
 
 /// A flag that a function is there, and a note that it saw the other one's flag, each for the values 0 and 1.
 #[derive(Drop)]
@@ -32,11 +35,12 @@ impl Board {
         requires { (own < 2) × (other < 2) }
     {
         self.flags[own].store(true, Ordering::SeqCst);
-        for _ in 0..TURNS {
+        for _ in 0..LOOKS {
             if self.flags[other].load(Ordering::SeqCst) {
                 self.notes[own].store(true, Ordering::SeqCst);
                 return;
             }
+            thread::yield_now();
         }
     }
 
@@ -57,7 +61,7 @@ pub(crate) struct Signs {
 }
 
 impl Model for Signs {
-    ghost use Rattle.po_thread_tests.specs.Signs.{NoData};
+    ghost use Rattle.po_thread_tests.specs.NoData.{NoData};
 
     ghost Value = { NoData };
 
