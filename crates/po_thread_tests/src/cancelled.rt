@@ -41,7 +41,7 @@ fn allocator(alloc: Global) -> Result<Made<Allocator>, AllocError> {
 fn ask<
     P: Send + Drop + 'static,
     O: Shared<P> + Send + Sync + Drop + 'static,
-    R: Threads + Wait + Copy + Send + 'static,
+    R: Threads + Wait + Clock + Copy + Send + 'static,
 >(
     rt: R,
     stage: &mut Stage<P, O>,
@@ -50,49 +50,43 @@ fn ask<
     calls: u64,
 ) -> Result<bool, AllocError> {
     stage.start(rt, Work::Call(entry, 1, end))?;
-    Ok(sees_waiting(&*stage.object, GRANT, calls))
+    Ok(sees_waiting(&rt, &*stage.object, GRANT, calls))
 }
 
-/// Attempts to cancel both calls, of which only that of seat 2 may be; its caller comes back.
-fn cancel_both<P: Drop, O: Shared<P> + Drop, R: Threads + Wait + Print>(
+/// Attempts to cancel both calls, of which only that of seat 2 may be: its caller comes back. Then seat 0 gives back the one
+/// that it has, so that the caller of seat 1 comes back.
+fn end_both<P: Drop, O: Shared<P> + Drop, R: Threads + Wait + Clock + Print>(
     rt: &R,
     stage: &mut Stage<P, O>,
 ) -> io::Result<()> {
     println!(rt; "cancel seat 1: {:?}", stage.object.cancel_seat(rt, 1))?;
     println!(rt; "cancel seat 2: {:?}", stage.object.cancel_seat(rt, 2))?;
-    stage.join(rt)?;
-    stage.print_last(rt, "Request 1")?;
-    println!(rt; "cancel seat 2: {:?}", stage.object.cancel_seat(rt, 2))
-}
-
-/// Seat 0 gives back the one that it has, so that the caller of seat 1 comes back.
-fn release<P: Drop, O: Shared<P> + Drop, R: Threads + Wait + Print>(
-    rt: &R,
-    stage: &mut Stage<P, O>,
-) -> io::Result<()> {
+    if !stage.come_back(rt, "Request 1", 2)? {
+        return Ok(());
+    }
+    println!(rt; "cancel seat 2: {:?}", stage.object.cancel_seat(rt, 2))?;
     println!(rt; "Release 1: {:?}", stage.run(rt, RELEASE, 1))?;
-    stage.join(rt)?;
-    stage.print_last(rt, "Claim 1")?;
-    println!(rt; "answered {}", stage.team.answered())
+    stage.come_back(rt, "Claim 1", 3)?;
+    Ok(())
 }
 
 /// Seat 0 has the one that there is. Seats 1 and 2 wait for it, and both of their calls are to be cancelled.
 pub(crate) fn play<
     P: Send + Drop + 'static,
     O: Shared<P> + Send + Sync + Drop + 'static,
-    R: Threads + Wait + Print + Copy + Send + 'static,
+    R: Threads + Wait + Clock + Print + Copy + Send + 'static,
 >(rt: R, stage: &mut Stage<P, O>) -> io::Result<()> {
     stage.start(rt, Work::Call(REQUEST, 1, End::Completed(1)))?;
-    stage.join(&rt)?;
-    stage.print_last(&rt, "Request 1")?;
+    if !stage.come_back(&rt, "Request 1", 1)? {
+        return Ok(());
+    }
     if !ask(rt, stage, CLAIM, End::Completed(1), 1)? {
         return println!(rt; "no call is seen to wait");
     }
     if !ask(rt, stage, REQUEST, End::Cancelled, 2)? {
         return println!(rt; "not both calls are seen to wait");
     }
-    cancel_both(&rt, stage)?;
-    release(&rt, stage)
+    end_both(&rt, stage)
 }
 
 /// An allocator of one, and three seats, each in a thread of its own.

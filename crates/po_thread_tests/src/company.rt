@@ -4,7 +4,7 @@ use crate::companies::{STAY, WAIT, make_company};
 use crate::scenes::Scene;
 use crate::shared::Shared;
 use crate::stage::Stage;
-use crate::threads::{Work, sees_sleeping, single};
+use crate::threads::{Work, sees_waiting, single};
 use crate::{bounded, recorded};
 use po_actions::End;
 use std::io::{self, Print};
@@ -28,7 +28,7 @@ pub(crate) fn play<
     R: Threads + Wait + Clock + Print + Copy + Send + 'static,
 >(rt: R, stage: &mut Stage<P, O>) -> io::Result<()> {
     stage.start_all(rt, WAITERS, Work::Call(WAIT, 7, End::Completed(7)))?;
-    if !sees_sleeping(&rt, &*stage.object, single(WAIT), WAITERS) {
+    if !sees_waiting(&rt, &*stage.object, single(WAIT), WAITERS) {
         return println!(rt; "not all calls are seen to wait");
     }
     stage.start(rt, Work::Call(STAY, 0, End::Cancelled))?;
@@ -39,8 +39,7 @@ pub(crate) fn play<
         "cancel the seventh: {:?}",
         stage.object.cancel_seat(&rt, STAYING)
     )?;
-    stage.join_all(&rt)?;
-    println!(rt; "came back {}", stage.team.answered())
+    stage.gather(&rt, "came back", WAITERS + 1)
 }
 
 /// Nobody is there.

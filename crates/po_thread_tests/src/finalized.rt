@@ -4,7 +4,7 @@ use crate::buffers::{GET, PUT, buffer};
 use crate::scenes::{NOT_CLOSED, Scene};
 use crate::shared::Shared;
 use crate::stage::Stage;
-use crate::threads::{Work, sees_sleeping, single};
+use crate::threads::{Work, sees_waiting, single};
 use crate::{bounded, recorded};
 use po_actions::End;
 use po_classic_units::Buffer;
@@ -28,15 +28,12 @@ pub(crate) fn play<
     R: Threads + Wait + Clock + Print + Copy + Send + 'static,
 >(rt: R, stage: &mut Stage<P, O>) -> io::Result<()> {
     stage.start_all(rt, WAITERS, Work::Call(GET, 0, End::ProgramError))?;
-    if !sees_sleeping(&rt, &*stage.object, single(GET), WAITERS) {
+    if !sees_waiting(&rt, &*stage.object, single(GET), WAITERS) {
         return println!(rt; "not all calls are seen to wait");
     }
     println!(rt; "finalize: {:?}", stage.object.end_all(&rt))?;
     println!(rt; "Put 1: {:?}", stage.call(&rt, PUT, 1))?;
-    if stage.print_answered(&rt, "Program_Error", WAITERS)? {
-        stage.join_all(&rt)?;
-    }
-    Ok(())
+    stage.gather(&rt, "Program_Error", WAITERS)
 }
 
 /// Whether all receipts agree with the history, which has then the law of a buffer that was new.

@@ -3,7 +3,7 @@
 use crate::buffers::{GET, PUT};
 use crate::shared::Shared;
 use crate::stage::Stage;
-use crate::threads::{Work, sees_sleeping, single};
+use crate::threads::{Work, sees_waiting, single};
 use po_actions::End;
 use std::io::{self, Print};
 use std::sync::Wait;
@@ -55,15 +55,14 @@ pub(crate) fn play<
     R: Threads + Wait + Clock + CpuClock + Print + Copy + Send + 'static,
 >(rt: R, stage: &mut Stage<P, O>) -> io::Result<()> {
     stage.start_all(rt, WAITERS, Work::Calls(GET, 2))?;
-    if !sees_sleeping(&rt, &*stage.object, single(GET), WAITERS) {
+    if !sees_waiting(&rt, &*stage.object, single(GET), WAITERS) {
         return println!(rt; "not all calls are seen to wait");
     }
     put_all(&rt, stage)?;
-    if !sees_sleeping(&rt, &*stage.object, single(GET), WAITERS) {
+    if !sees_waiting(&rt, &*stage.object, single(GET), WAITERS) {
         return println!(rt; "not all calls are seen to wait again");
     }
     print_rest(&rt)?;
     put_all(&rt, stage)?;
-    stage.join_all(&rt)?;
-    println!(rt; "got {}", stage.team.answered())
+    stage.gather(&rt, "got", 2 * WAITERS)
 }

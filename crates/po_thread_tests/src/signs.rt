@@ -3,16 +3,13 @@
 ghost use Rattle.std.specs.Prelude.{◌≡◌, ◌<◌};
 ghost use Rattle.po_thread_tests.specs.Signs.{signs_meaning};
 
+use crate::team::TURNS;
 use po_index::{Shape, ShapeFault};
 use po_unit::{Outcome, Unit};
 use std::alloc::{AllocError, Global};
 use std::marker::Model;
 use std::sync::Arc;
 use std::sync::atomic::{AtomicBool, Ordering};
-use std::thread;
-
-/// How often a function looks for the other one.
-const LOOKS: u32 = 10_000_000;
 
 /// A flag that a function is there, and a note that it saw the other one's flag, each for the values 0 and 1.
 #[derive(Drop)]
@@ -35,12 +32,11 @@ impl Board {
         requires { (own < 2) × (other < 2) }
     {
         self.flags[own].store(true, Ordering::SeqCst);
-        for _ in 0..LOOKS {
+        for _ in 0..TURNS {
             if self.flags[other].load(Ordering::SeqCst) {
                 self.notes[own].store(true, Ordering::SeqCst);
                 return;
             }
-            thread::yield_now();
         }
     }
 

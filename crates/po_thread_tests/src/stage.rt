@@ -92,6 +92,19 @@ impl<P: Drop, O: Drop> Stage<P, O> {
         println!(rt; "{name} {}", self.team.answered())?;
         Ok(all)
     }
+
+    /// The same, and where all had, takes the passes of all threads back.
+    pub(crate) fn gather<R: Threads + Clock + Print>(
+        &mut self,
+        rt: &R,
+        name: &str,
+        calls: u64,
+    ) -> io::Result<()> {
+        if self.print_answered(rt, name, calls)? {
+            self.join_all(rt)?;
+        }
+        Ok(())
+    }
 }
 
 impl<P: Drop, O: Shared<P> + Drop> Stage<P, O> {
@@ -117,12 +130,23 @@ impl<P: Drop, O: Shared<P> + Drop> Stage<P, O> {
         self.object.run_procedure(rt, pass, op, value)
     }
 
-    /// Prints what the pass that came back last keeps of its calls.
-    pub(crate) fn print_last<R: Print>(&self, rt: &R, name: &str) -> io::Result<()> {
-        match self.passes.last() {
-            Some(pass) => O::print_pass(rt, name, pass),
-            None => println!(rt; "{name}: no pass is here"),
+    /// Once so many calls in all have their answers, takes back the pass of the thread that was started last, and prints what
+    /// it keeps of its calls. Says whether they had.
+    pub(crate) fn come_back<R: Threads + Clock + Print>(
+        &mut self,
+        rt: &R,
+        name: &str,
+        calls: u64,
+    ) -> io::Result<bool> {
+        if !self.team.sees_answered(rt, calls) {
+            println!(rt; "{name} isn't answered as it should be")?;
+            return Ok(false);
         }
+        self.join(rt)?;
+        if let Some(pass) = self.passes.last() {
+            O::print_pass(rt, name, pass)?;
+        }
+        Ok(true)
     }
 }
 

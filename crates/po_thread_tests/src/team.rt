@@ -8,11 +8,11 @@ use std::time::{Clock, Duration};
 /// How often something is looked for before it is given up, where nobody sleeps between two looks.
 pub(crate) const TURNS: u64 = 100_000_000;
 
-/// How often it is looked whether calls are answered, before that is given up: for ten seconds.
-const LOOKS: u32 = 10_000;
+/// How often it is looked whether calls wait or are answered, before that is given up: for ten seconds.
+pub(crate) const LOOKS: u32 = 10_000;
 
 /// How long it is slept between two of these looks, in milliseconds.
-const PAUSE: u64 = 1;
+pub(crate) const PAUSE: u64 = 1;
 
 /// The line from which threads start together, and how many of their calls had the answer that they were to have.
 #[derive(Drop)]

@@ -1,7 +1,7 @@
 //! The threads that use an object.
 
 use crate::shared::Shared;
-use crate::team::{TURNS, Team};
+use crate::team::{LOOKS, PAUSE, Team};
 use po_actions::End;
 use po_index::EntryRef;
 use std::alloc::AllocError;
@@ -29,28 +29,21 @@ pub(crate) fn single(entry: u16) -> EntryRef {
     EntryRef { entry, index: None }
 }
 
-/// Looks until so many calls are seen to wait on the entry.
-pub(crate) fn sees_waiting<P, O: Shared<P>>(object: &O, entry: EntryRef, calls: u64) -> bool {
-    for _ in 0..TURNS {
-        if object.count_waiting(entry) == Ok(Some(calls)) {
-            return true;
-        }
-    }
-    false
-}
-
-/// Looks until so many calls are seen to wait on the entry, and then lets their callers fall asleep.
-pub(crate) fn sees_sleeping<P, O: Shared<P>, R: Clock>(
+/// Whether so many calls are seen to wait on the entry within ten seconds. Then their callers are let fall asleep.
+pub(crate) fn sees_waiting<P, O: Shared<P>, R: Clock>(
     rt: &R,
     object: &O,
     entry: EntryRef,
     calls: u64,
 ) -> bool {
-    let seen = sees_waiting(object, entry, calls);
-    if seen {
-        thread::sleep(rt, Duration::from_millis(UNTIL_ASLEEP));
+    for _ in 0..LOOKS {
+        if object.count_waiting(entry) == Ok(Some(calls)) {
+            thread::sleep(rt, Duration::from_millis(UNTIL_ASLEEP));
+            return true;
+        }
+        thread::sleep(rt, Duration::from_millis(PAUSE));
     }
-    seen
+    false
 }
 
 /// Does the work, counts what was answered as it should be, and gives the pass back.
