@@ -1,1 +1,3 @@
+pub mod Companies
+pub mod NoData
 pub mod Signs

@@ -2,9 +2,7 @@
 use Rattle.std.specs.Prelude.{ℕ, false, Ok, refl}
 use Rattle.po_unit.specs.Meaning.{Meaning, IsLawful}
 use Rattle.po_unit.specs.declared.outcome.Outcome.TheVariants.{Complete}
-
--- no data that calls could change
-pub record NoData : Type 0 where
+use Rattle.po_thread_tests.specs.NoData.{NoData}
 
 -- there is one function, and what it is given it gives back
 abbrev pub signs_meaning : Meaning NoData ℕ

@@ -1,15 +1,15 @@
 //! A history that is cut while many callers add to it: all receipts agree with its volumes, which are in order.
 
+use crate::shared::Shared;
 use crate::stage::Stage;
 use crate::team::Team;
 use crate::threads::Work;
 use po_actions::{Refusal, Volume};
-use po_object::{CallLedger, Closed, Object, ReconcileFault, reconcile};
+use po_object::{Closed, ReconcileFault, reconcile};
 use po_unit::Unit;
 use std::alloc::AllocError;
 use std::io::{self, Print};
 use std::sync::Wait;
-use std::sync::ledger::Ledger;
 use std::thread::Threads;
 
 /// How many threads call, half of them Put and half of them Get.
@@ -25,27 +25,27 @@ const CUTS: u64 = 100;
 const STEP: u64 = 790;
 
 /// Cuts the history each time that so many more calls are answered.
-fn cut_beside<U: Unit<Value = u64> + Drop, C: CallLedger, P: Ledger, R: Wait>(
+fn cut_beside<P, O: Shared<P>, R: Wait>(
     rt: &R,
-    object: &Object<U, C, P>,
+    object: &O,
     team: &Team,
     volumes: &mut Vec<Volume<u64>>,
 ) -> Result<(), Refusal> {
     for n in 0..CUTS {
         team.wait_for((n + 1) * STEP);
-        let volume = object.cut(rt)?;
-        volumes.push(volume).map_err(|_| AllocError)?;
+        if let Some(volume) = object.cut_history(rt)? {
+            volumes.push(volume).map_err(|_| AllocError)?;
+        }
     }
     Ok(())
 }
 
 /// All callers call, and the history is cut meanwhile.
 pub(crate) fn play<
-    U: Unit<Value = u64> + Send + Sync + Drop + 'static,
-    C: CallLedger + Send + Sync + 'static,
-    P: Ledger + Send + Sync + 'static,
+    P: Send + Drop + 'static,
+    O: Shared<P> + Send + Sync + Drop + 'static,
     R: Threads + Wait + Print + Copy + Send + 'static,
->(rt: R, stage: &mut Stage<U, C, P>) -> io::Result<()> {
+>(rt: R, stage: &mut Stage<P, O>) -> io::Result<()> {
     for caller in 0..CALLERS {
         stage.start(rt, Work::Calls(caller % 2, CALLS))?;
     }

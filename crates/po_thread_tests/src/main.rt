@@ -1,41 +1,62 @@
-//! A program for the gate: objects that several threads use at once.
+//! A program for the gate: objects that several threads use at once, runs of many threads, and their reports.
 //!
-//! Each part prints what was answered, which is the same whatever the threads' schedule is, and ends by closing its object
-//! and comparing the receipts of all callers with the history.
+//! What is printed is the same whatever the threads' schedule is. Each scene ends by closing its object; where the object
+//! keeps its history, the receipts of all callers are compared with it.
 #![tactic(auto)]
 
+mod answers;
+mod beside;
+mod bounded;
+mod buffers;
 mod cancelled;
+mod companies;
+mod company;
 mod cuts;
 mod finalized;
 mod held_lock;
+mod recorded;
+mod reports;
+mod runs;
 mod scenes;
+mod second_wait;
+mod shared;
 mod side_by_side;
 mod signs;
+mod sinks;
 mod stage;
 mod team;
 mod threads;
 
-use scenes::{Scene, buffer_core, show};
+use buffers::buffer;
+use scenes::Scene;
 use std::io::{self, Print};
 use std::sync::Wait;
 use std::thread::Threads;
+use std::time::{Clock, CpuClock};
 
-/// Plays the scene with a buffer for one value.
-fn show_buffer<R: Threads + Wait + Print + AllocGlobal + Copy + Send + 'static>(
+/// Plays the scene with a buffer for one value, on an object of each kind.
+fn show_both<R: Threads + Wait + Clock + CpuClock + Print + AllocGlobal + Copy + Send + 'static>(
     rt: R,
     seats: u16,
     scene: Scene,
 ) -> io::Result<()> {
-    let core = buffer_core(rt.alloc())?;
-    show(rt, core, seats, scene)
+    let alloc = rt.alloc();
+    recorded::show(rt, buffer(alloc)?, seats, scene)?;
+    bounded::show(rt, buffer(alloc)?, seats, scene)
 }
 
 fn main(rt: HostRuntime) -> io::Result<()> {
-    show_buffer(rt, 2, Scene::HeldLock)?;
+    beside::run(rt)?;
+    show_both(rt, 1, Scene::Answers)?;
+    show_both(rt, 2, Scene::HeldLock)?;
     side_by_side::run(rt)?;
-    show_buffer(rt, cuts::CALLERS, Scene::Cuts)?;
     finalized::run(rt)?;
     cancelled::run(rt)?;
-    show_buffer(rt, 0, Scene::Idle)?;
-    show_buffer(rt, u16::MAX, Scene::Idle)
+    company::run(rt)?;
+    show_both(rt, second_wait::SEATS, Scene::SecondWait)?;
+    show_both(rt, cuts::CALLERS, Scene::Cuts)?;
+    show_both(rt, 0, Scene::Idle)?;
+    show_both(rt, u16::MAX, Scene::Idle)?;
+    runs::print_all(rt)?;
+    reports::print_all(&rt)
 }

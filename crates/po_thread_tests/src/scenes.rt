@@ -1,24 +1,30 @@
-//! The scenes, and how each is played: on an object of its own, which is closed and looked at in the end.
-//!
-//! One function opens an object and closes it, for every unit. So a scene names entries by their numbers.
+//! The scenes: what is done with an object, from its opening to its closing, whether it keeps its history or not.
 
-ghost use Rattle.std.specs.Prelude.{◌≡◌, ◌+◌};
-
-use crate::stage::{Shelf, Stage};
-use crate::{cancelled, cuts, finalized, held_lock, side_by_side};
-use po_actions::{Core, Order};
-use po_classic_units::{Buffer, ScriptUnit};
-use po_object::{CallLedger, reconcile};
-use po_unit::Unit;
-use std::alloc::{AllocError, Global};
+use crate::shared::Shared;
+use crate::stage::Stage;
+use crate::{answers, cancelled, company, cuts, finalized, held_lock, second_wait, side_by_side};
+use po_actions::Start;
+use po_index::Shape;
 use std::io::{self, Print};
-use std::marker::Brand;
 use std::sync::Wait;
-use std::sync::ledger::{Blank, Ledger};
 use std::thread::Threads;
+use std::time::{Clock, CpuClock};
 
-/// What is done with an object, from its opening to its closing.
-#[derive(Clone, Copy)]
+/// A unit, and the shape of its entries.
+pub(crate) type Made<U> = (U, Shape);
+
+/// From where each object starts: calls from 1, events from 0, and no greatest length of a queue.
+pub(crate) const START: Start = Start {
+    first_number: 1,
+    first_place: 0,
+    max_queue: None,
+};
+
+/// What is printed of an object that can't be opened, or that a thread still has at the end.
+pub(crate) const NOT_CLOSED: &str = "not opened, or not closed";
+
+/// What is done with an object.
+#[derive(Clone, Copy, Debug)]
 pub(crate) enum Scene {
     /// A caller waits, and another lets it go.
     HeldLock,
@@ -30,115 +36,46 @@ pub(crate) enum Scene {
     Finalized,
     /// Calls of others are to be cancelled.
     Cancelled,
+    /// A call lets others go, and waits itself.
+    Company,
+    /// Callers wait a second time.
+    SecondWait,
+    /// What one thread is answered.
+    Answers,
     /// Nothing but that the passes are turned around: the highest seat comes first.
     Idle,
 }
 
 impl Scene {
     /// How many threads start together.
-    fn together(self) -> usize {
+    pub(crate) fn together(self) -> usize {
         match self {
-            Scene::HeldLock | Scene::Cancelled | Scene::Idle => 1,
             Scene::SideBySide => 2,
-            Scene::Finalized => 8,
             Scene::Cuts => 9,
+            Scene::Finalized | Scene::SecondWait => 8,
+            _ => 1,
         }
     }
 }
 
-/// A core of a buffer for one value.
-pub(crate) fn buffer_core(alloc: Global) -> Result<Core<Buffer>, AllocError> {
-    let unit = Buffer::new(alloc, 1)?;
-    let shape = unit.shape(alloc).map_err(|_| AllocError)?;
-    Core::new(alloc, unit, shape, Order::Textual, 1).map_err(|_| AllocError)
-}
-
 /// Plays the scene.
-fn play<
-    U: Unit<Value = u64> + Send + Sync + Drop + 'static,
-    C: CallLedger + Send + Sync + 'static,
-    P: Ledger + Send + Sync + 'static,
-    R: Threads + Wait + Print + Copy + Send + 'static,
->(rt: R, stage: &mut Stage<U, C, P>, scene: Scene) -> io::Result<()> {
+pub(crate) fn play<
+    P: Send + Drop + 'static,
+    O: Shared<P> + Send + Sync + Drop + 'static,
+    R: Threads + Wait + Clock + CpuClock + Print + Copy + Send + 'static,
+>(rt: R, stage: &mut Stage<P, O>, scene: Scene) -> io::Result<()> {
     match scene {
         Scene::HeldLock => held_lock::play(rt, stage),
         Scene::SideBySide => side_by_side::play(rt, stage),
         Scene::Cuts => cuts::play(rt, stage),
         Scene::Finalized => finalized::play(rt, stage),
         Scene::Cancelled => cancelled::play(rt, stage),
+        Scene::Company => company::play(rt, stage),
+        Scene::SecondWait => second_wait::play(rt, stage),
+        Scene::Answers => answers::play(&rt, stage),
         Scene::Idle => {
             stage.passes.reverse();
             Ok(())
         }
-    }
-}
-
-/// Opens an object, plays the scene, and closes the object.
-fn open_and_close<
-    U: Unit<Value = u64> + Send + Sync + Drop + 'static,
-    C: CallLedger + Send + Sync + 'static,
-    P: Ledger + Send + Sync + 'static,
-    R: Threads + Wait + Print + AllocGlobal + Copy + Send + 'static,
->(
-    rt: R,
-    core: Core<U>,
-    seats: u16,
-    calls: Blank,
-    procedures: Blank,
-    scene: Scene,
-) -> io::Result<Option<Shelf<U>>>
-    requires shape { core.object.making.shape ≡ C.shape }
-    requires calls { (calls.name ≡ C.name) × (calls.parts ≡ C.parts) × (calls.parts ≡ seats + 1) }
-    requires procedures { (procedures.name ≡ P.name) × (procedures.parts ≡ P.parts) × (procedures.parts ≡ seats + 1) }
-{
-    let together = scene.together();
-    let opened = Stage::<U, C, P>::open(rt.alloc(), core, seats, together, calls, procedures);
-    let Some(mut stage) = opened else {
-        return Ok(None);
-    };
-    let played = play(rt, &mut stage, scene);
-    let shelf = stage.close();
-    played?;
-    Ok(shelf)
-}
-
-/// Plays the scene with an object of so many seats over the core. Gives what is left of the object, or none where it wasn't
-/// opened or not closed.
-pub(crate) fn perform<
-    U: Unit<Value = u64> + Send + Sync + Drop + 'static,
-    R: Threads + Wait + Print + AllocGlobal + Copy + Send + 'static,
->(rt: R, core: Core<U>, seats: u16, scene: Scene) -> io::Result<Option<Shelf<U>>> {
-    let parts = u64::from(seats) + 1;
-    let (calls, procedures) = (Blank::new(parts), Blank::new(parts));
-    open_and_close::<U, Brand, Brand, R>(rt, core, seats, calls, procedures, scene)
-}
-
-/// Prints what the comparison of all receipts with the history says.
-fn print_verdict<U: Unit<Value = u64> + Drop, R: Print>(
-    rt: &R,
-    shelf: &mut Shelf<U>,
-    scene: Scene,
-) -> io::Result<()> {
-    match scene {
-        Scene::Cuts => cuts::print_orders(rt, &shelf.closed, &mut shelf.volumes),
-        Scene::Idle => {
-            println!(rt;
-                "{} seats: {:?}",
-                shelf.closed.passes().len(),
-                reconcile(&shelf.closed, &[])
-            )
-        }
-        _ => println!(rt; "{:?}", reconcile(&shelf.closed, &[])),
-    }
-}
-
-/// Plays the scene, and prints what the comparison says.
-pub(crate) fn show<
-    U: Unit<Value = u64> + Send + Sync + Drop + 'static,
-    R: Threads + Wait + Print + AllocGlobal + Copy + Send + 'static,
->(rt: R, core: Core<U>, seats: u16, scene: Scene) -> io::Result<()> {
-    match perform(rt, core, seats, scene)? {
-        Some(mut shelf) => print_verdict(&rt, &mut shelf, scene),
-        None => println!(rt; "not opened, or not closed"),
     }
 }

@@ -1,32 +1,30 @@
 //! Functions run side by side: two of them, each of which waits for the other, both end.
 
-use crate::scenes::{Scene, show};
+use crate::scenes::{Made, Scene};
+use crate::shared::Shared;
 use crate::signs::{Board, Signs};
 use crate::stage::Stage;
 use crate::threads::Work;
-use po_actions::{Core, Order};
-use po_object::CallLedger;
-use po_unit::Unit;
+use crate::{bounded, recorded};
 use std::alloc::{AllocError, Global};
 use std::io::{self, Print};
-use std::sync::ledger::Ledger;
 use std::sync::{Arc, Wait};
 use std::thread::Threads;
+use std::time::{Clock, CpuClock};
 
-/// A core of a unit that writes on this board.
-fn signs_core(alloc: Global, board: Arc<Board>) -> Result<Core<Signs>, AllocError> {
-    let unit = Signs::new(board);
+/// A unit that writes on this board.
+fn signs(alloc: Global, board: &Arc<Board>) -> Result<Made<Signs>, AllocError> {
+    let unit = Signs::new(Arc::try_clone(board)?);
     let shape = unit.shape(alloc).map_err(|_| AllocError)?;
-    Core::new(alloc, unit, shape, Order::Textual, 1).map_err(|_| AllocError)
+    Ok((unit, shape))
 }
 
 /// Two threads leave the line together, and call the function with 0 and 1.
 pub(crate) fn play<
-    U: Unit<Value = u64> + Send + Sync + Drop + 'static,
-    C: CallLedger + Send + Sync + 'static,
-    P: Ledger + Send + Sync + 'static,
+    P: Send + Drop + 'static,
+    O: Shared<P> + Send + Sync + Drop + 'static,
     R: Threads + Wait + Print + Copy + Send + 'static,
->(rt: R, stage: &mut Stage<U, C, P>) -> io::Result<()> {
+>(rt: R, stage: &mut Stage<P, O>) -> io::Result<()> {
     for value in 0..2 {
         stage.start(rt, Work::Function(value))?;
     }
@@ -35,11 +33,14 @@ pub(crate) fn play<
 }
 
 /// Functions that excluded each other would be seen: the one that came first couldn't note that it saw the other.
-pub(crate) fn run<R: Threads + Wait + Print + AllocGlobal + Copy + Send + 'static>(
-    rt: R,
-) -> io::Result<()> {
-    let board = Arc::new(rt.alloc(), Board::new())?;
-    let core = signs_core(rt.alloc(), Arc::try_clone(&board)?)?;
-    show(rt, core, 2, Scene::SideBySide)?;
+pub(crate) fn run<
+    R: Threads + Wait + Clock + CpuClock + Print + AllocGlobal + Copy + Send + 'static,
+>(rt: R) -> io::Result<()> {
+    let alloc = rt.alloc();
+    let board = Arc::new(alloc, Board::new())?;
+    recorded::show(rt, signs(alloc, &board)?, 2, Scene::SideBySide)?;
+    println!(rt; "notes {:?}", board.notes())?;
+    let board = Arc::new(alloc, Board::new())?;
+    bounded::show(rt, signs(alloc, &board)?, 2, Scene::SideBySide)?;
     println!(rt; "notes {:?}", board.notes())
 }

@@ -57,7 +57,7 @@ pub(crate) struct Signs {
 }
 
 impl Model for Signs {
-    ghost use Rattle.po_thread_tests.specs.Signs.{NoData};
+    ghost use Rattle.po_thread_tests.specs.NoData.{NoData};
 
     ghost Value = { NoData };
 

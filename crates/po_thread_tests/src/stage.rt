@@ -1,65 +1,53 @@
 //! An object that threads share, from its opening to its closing.
 
-ghost use Rattle.std.specs.Prelude.{◌≡◌, ◌+◌, ◌<◌};
-
+use crate::shared::Shared;
 use crate::team::Team;
-use crate::threads::{Work, call, start};
-use po_actions::{Core, End, Refusal, Volume};
-use po_object::hold::Pass;
-use po_object::{CallLedger, Closed, Object};
-use po_unit::Unit;
+use crate::threads::{Work, single, start};
+use po_actions::{End, Refusal, Volume};
 use std::alloc::{AllocError, Global};
 use std::io::{self, Print};
-use std::sync::ledger::{Blank, Ledger};
 use std::sync::{Arc, Wait};
 use std::thread::{JoinHandle, Threads};
+use std::time::Clock;
 
 /// A shared object with the passes that no thread has, those that came back last behind the others, the threads that have
 /// the rest, what these share beside the object, and the volumes that were cut off from the history, in their order.
 #[derive(Drop)]
-pub(crate) struct Stage<U: Unit<Value = u64> + Drop, C: CallLedger, P: Ledger> {
-    pub(crate) object: Arc<Object<U, C, P>>,
+pub(crate) struct Stage<P: Drop, O: Drop> {
+    pub(crate) object: Arc<O>,
     pub(crate) team: Arc<Team>,
-    pub(crate) passes: Vec<Pass<u64, C, P>>,
+    pub(crate) passes: Vec<P>,
     pub(crate) volumes: Vec<Volume<u64>>,
-    threads: Vec<JoinHandle<Pass<u64, C, P>>>,
+    threads: Vec<JoinHandle<P>>,
 }
 
-/// What is left of an object, and the volumes that were cut off from its history, in their order.
+/// The object with its passes and volumes, when no thread has it any more.
 #[derive(Drop)]
-pub(crate) struct Shelf<U: Unit<Value = u64> + Drop> {
-    pub(crate) closed: Closed<U>,
+pub(crate) struct Left<P: Drop, O: Drop> {
+    pub(crate) object: O,
+    pub(crate) passes: Vec<P>,
     pub(crate) volumes: Vec<Volume<u64>>,
 }
 
-impl<U: Unit<Value = u64> + Drop, C: CallLedger, P: Ledger> Stage<U, C, P> {
-    /// Opens an object over the core, for threads so many of which start together, or gives none where it can't be opened.
-    pub(crate) fn open(
+impl<P: Drop, O: Drop> Stage<P, O> {
+    /// An object with its passes, for threads so many of which start together.
+    pub(crate) fn new(
         alloc: Global,
-        core: Core<U>,
-        seats: u16,
+        object: O,
+        passes: Vec<P>,
         together: usize,
-        calls: Blank,
-        procedures: Blank,
-    ) -> Option<Stage<U, C, P>>
-        requires shape { core.object.making.shape ≡ C.shape }
-        requires calls { (calls.name ≡ C.name) × (calls.parts ≡ C.parts) × (calls.parts ≡ seats + 1) }
-        requires procedures { (procedures.name ≡ P.name) × (procedures.parts ≡ P.parts) × (procedures.parts ≡ seats + 1) }
-    {
-        let (object, passes) = Object::open(alloc, core, seats, calls, procedures).ok()?;
-        let team = Arc::new(alloc, Team::new(together)).ok()?;
-        let object = Arc::new(alloc, object).ok()?;
-        Some(Stage {
-            object,
-            team,
+    ) -> Result<Stage<P, O>, AllocError> {
+        Ok(Stage {
+            object: Arc::new(alloc, object)?,
+            team: Arc::new(alloc, Team::new(together))?,
             passes,
             volumes: Vec::new(alloc),
             threads: Vec::new(alloc),
         })
     }
 
-    /// Closes the object with all passes that are here, or gives none where one is missing or a thread still has the object.
-    pub(crate) fn close(self) -> Option<Shelf<U>> {
+    /// The object, or none where a thread still has it.
+    pub(crate) fn leave(self) -> Option<Left<P, O>> {
         let Stage {
             object,
             team,
@@ -69,10 +57,57 @@ impl<U: Unit<Value = u64> + Drop, C: CallLedger, P: Ledger> Stage<U, C, P> {
         } = self;
         drop(threads);
         drop(team);
-        let closed = Arc::try_unwrap(object).ok()?.close(passes).ok()?;
-        Some(Shelf { closed, volumes })
+        let object = Arc::try_unwrap(object).ok()?;
+        Some(Left {
+            object,
+            passes,
+            volumes,
+        })
     }
 
+    /// Waits for the end of the thread that was started last, if there is one, and takes its pass back.
+    pub(crate) fn join<R: Threads>(&mut self, rt: &R) -> Result<(), AllocError> {
+        if let Some(thread) = self.threads.pop() {
+            self.passes.push(thread.join(rt))?;
+        }
+        Ok(())
+    }
+
+    /// Waits for the ends of all threads, and takes their passes back.
+    pub(crate) fn join_all<R: Threads>(&mut self, rt: &R) -> Result<(), AllocError> {
+        for _ in 0..self.threads.len() {
+            self.join(rt)?;
+        }
+        Ok(())
+    }
+
+    /// Prints how many calls had their answers: so many, or fewer where more aren't seen to come. Says whether all had.
+    pub(crate) fn print_answered<R: Clock + Print>(
+        &self,
+        rt: &R,
+        name: &str,
+        calls: u64,
+    ) -> io::Result<bool> {
+        let all = self.team.sees_answered(rt, calls);
+        println!(rt; "{name} {}", self.team.answered())?;
+        Ok(all)
+    }
+
+    /// The same, and where all had, takes the passes of all threads back.
+    pub(crate) fn gather<R: Threads + Clock + Print>(
+        &mut self,
+        rt: &R,
+        name: &str,
+        calls: u64,
+    ) -> io::Result<()> {
+        if self.print_answered(rt, name, calls)? {
+            self.join_all(rt)?;
+        }
+        Ok(())
+    }
+}
+
+impl<P: Drop, O: Shared<P> + Drop> Stage<P, O> {
     /// Calls a single entry with the pass that is here longest, if there is one.
     pub(crate) fn call<R: Wait>(
         &mut self,
@@ -81,7 +116,7 @@ impl<U: Unit<Value = u64> + Drop, C: CallLedger, P: Ledger> Stage<U, C, P> {
         value: u64,
     ) -> Option<Result<End<u64>, Refusal>> {
         let pass = self.passes.first_mut()?;
-        call(rt, &*self.object, pass, entry, value)
+        self.object.enter(rt, pass, single(entry), value)
     }
 
     /// Runs a procedure with the pass that is here longest, if there is one.
@@ -92,26 +127,30 @@ impl<U: Unit<Value = u64> + Drop, C: CallLedger, P: Ledger> Stage<U, C, P> {
         value: u64,
     ) -> Option<Result<Result<u64, u32>, Refusal>> {
         let pass = self.passes.first_mut()?;
-        if pass.pending() {
-            return None;
-        }
-        Some(self.object.procedure(rt, pass, op, value))
+        self.object.run_procedure(rt, pass, op, value)
     }
 
-    /// Prints the receipts of the pass that came back last.
-    pub(crate) fn print_last<R: Print>(&self, rt: &R, name: &str) -> io::Result<()> {
-        match self.passes.last() {
-            Some(pass) => println!(rt; "{name}: {:?}", pass.receipts()),
-            None => println!(rt; "{name}: no pass is here"),
+    /// Once so many calls in all have their answers, takes back the pass of the thread that was started last, and prints what
+    /// it keeps of its calls. Says whether they had.
+    pub(crate) fn come_back<R: Threads + Clock + Print>(
+        &mut self,
+        rt: &R,
+        name: &str,
+        calls: u64,
+    ) -> io::Result<bool> {
+        if !self.team.sees_answered(rt, calls) {
+            println!(rt; "{name} isn't answered as it should be")?;
+            return Ok(false);
         }
+        self.join(rt)?;
+        if let Some(pass) = self.passes.last() {
+            O::print_pass(rt, name, pass)?;
+        }
+        Ok(true)
     }
 }
 
-impl<
-    U: Unit<Value = u64> + Send + Sync + Drop + 'static,
-    C: CallLedger + Send + Sync + 'static,
-    P: Ledger + Send + Sync + 'static,
-> Stage<U, C, P> {
+impl<P: Send + Drop + 'static, O: Shared<P> + Send + Sync + Drop + 'static> Stage<P, O> {
     /// Starts a thread that does the work with the pass that is here longest, if there is one.
     pub(crate) fn start<R: Threads + Wait + Copy + Send + 'static>(
         &mut self,
@@ -129,18 +168,15 @@ impl<
         Ok(())
     }
 
-    /// Waits for the end of the thread that was started last, if there is one, and takes its pass back.
-    pub(crate) fn join<R: Threads>(&mut self, rt: &R) -> Result<(), AllocError> {
-        if let Some(thread) = self.threads.pop() {
-            self.passes.push(thread.join(rt))?;
-        }
-        Ok(())
-    }
-
-    /// Waits for the ends of all threads, and takes their passes back.
-    pub(crate) fn join_all<R: Threads>(&mut self, rt: &R) -> Result<(), AllocError> {
-        for _ in 0..self.threads.len() {
-            self.join(rt)?;
+    /// Starts so many threads that do the work.
+    pub(crate) fn start_all<R: Threads + Wait + Copy + Send + 'static>(
+        &mut self,
+        rt: R,
+        threads: u64,
+        work: Work,
+    ) -> Result<(), AllocError> {
+        for _ in 0..threads {
+            self.start(rt, work)?;
         }
         Ok(())
     }

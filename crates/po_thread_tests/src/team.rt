@@ -3,9 +3,16 @@
 use std::sync::Barrier;
 use std::sync::atomic::{AtomicU64, Ordering};
 use std::thread;
+use std::time::{Clock, Duration};
 
-/// How often something is looked for before it is given up.
+/// How often something is looked for before it is given up, where nobody sleeps between two looks.
 pub(crate) const TURNS: u64 = 100_000_000;
+
+/// How often it is looked whether calls wait or are answered, before that is given up: for ten seconds.
+pub(crate) const LOOKS: u32 = 10_000;
+
+/// How long it is slept between two of these looks, in milliseconds.
+pub(crate) const PAUSE: u64 = 1;
 
 /// The line from which threads start together, and how many of their calls had the answer that they were to have.
 #[derive(Drop)]
@@ -41,5 +48,16 @@ impl Team {
             }
             thread::yield_now();
         }
+    }
+
+    /// Whether so many calls are answered within ten seconds.
+    pub(crate) fn sees_answered<R: Clock>(&self, rt: &R, calls: u64) -> bool {
+        for _ in 0..LOOKS {
+            if self.answered() >= calls {
+                return true;
+            }
+            thread::sleep(rt, Duration::from_millis(PAUSE));
+        }
+        false
     }
 }

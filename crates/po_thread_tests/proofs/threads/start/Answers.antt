@@ -1,18 +1,13 @@
+-- The thread that `start` makes may own what it captures: the handle, the shared object and team, a pass and plain values.
 use Rattle.std.proofs.Common.{ℕ}
 use denote.Struct.Declared as Declared
 use denote.RattleType.{RattleType}
 use denote.Struct.Tuple as Tuple
 use mathlib.Core.List.{List, [], ◌∷◌}
 use Rattle.std.specs.contracts.sync.Arc as Arc
-use Rattle.po_object.specs.contracts.pass.Pass as Pass
 use denote.Exit as Exit
 use denote.Param as Param
-use denote.Struct.Field as Field
 use denote.Param.Send as Send
-use Rattle.po_object.proofs.Shared.{object_sync}
-use Rattle.po_object.proofs.object.Object.TheSendSync as object
-use Rattle.po_object.specs.contracts.object.Object as Object
-use Rattle.po_object.proofs.pass.Pass.TheSendSync as pass
 use Rattle.po_thread_tests.specs.contracts.team.Team as Team
 use Rattle.po_thread_tests.proofs.team.Team.TheSendSync as team
 use Rattle.po_thread_tests.specs.contracts.threads.Work as Work
@@ -22,22 +17,17 @@ use Rattle.std.proofs.alloc.Global.TheSendSync as global
 use Rattle.std.below.std_heap.proofs.GlobalAllocator.TheSendSync as frees
 use Rattle.std.specs.contracts.alloc.Global
 use Rattle.std.specs.contracts.impls.GlobalAllocator.TheImpl as Heap
-use Rattle.std.specs.contracts.prelude.U64PartialEq.TheImpl as U64
 use Rattle.po_thread_tests.proofs.threads.start.Goals as goal
 
 pub spawn-requires-send-F : goal.spawn-requires-send-F
 spawn-requires-send-F g c κs within =
-    let U = Param.param 0 g.row.U in let C = Param.param 1 g.row.C in let P = Param.param 2 g.row.P in let V = Field.u64-field.row in
-    let un = c.type_bounds.send-U in let us = c.type_bounds.sync-U in
-    let row = Object.the_row U C P V g.C.Ledger g.P.Ledger g.U.Unit U64.ghosts g.C.CallLedger in
-    let o = object.the_send U C P V g.C.Ledger g.P.Ledger g.U.Unit U64.ghosts g.C.CallLedger un (Send.plain_send _ _ _ _ _) in
-    let y = object_sync U C P V g.C.Ledger g.P.Ledger g.U.Unit U64.ghosts g.C.CallLedger un us (Send.plain_send _ _ _ _ _) (Send.plain_sync _ _ _ _ _) in
-    let a = arc.the_send row Global.the_row Heap.ghosts o global.the_send y global.the_sync frees.the_frees in
+    let P = Param.param 0 g.row.P in let O = Param.param 1 g.row.O in
+    let a = arc.the_send O Global.the_row Heap.ghosts c.type_bounds.send-O global.the_send c.type_bounds.sync-O global.the_sync frees.the_frees in
     let t = arc.the_send Team.the_row Global.the_row Heap.ghosts team.the_send global.the_send team.the_sync global.the_sync frees.the_frees in
-    let p = pass.the_send V C P g.C.Ledger g.P.Ledger (Send.plain_send _ _ _ _ _) in
+    let p = c.type_bounds.send-P in
     let s = c.type_bounds.send-R in
     let ν : List ℕ = 112 ∷ 111 ∷ 95 ∷ 116 ∷ 104 ∷ 114 ∷ 101 ∷ 97 ∷ 100 ∷ 95 ∷ 116 ∷ 101 ∷ 115 ∷ 116 ∷ 115 ∷ 58 ∷ 58 ∷ 116 ∷ 104 ∷ 114 ∷ 101 ∷ 97 ∷ 100 ∷ 115 ∷ 58 ∷ 58 ∷ 102 ∷ 110 ∷ 58 ∷ 58 ∷ 115 ∷ 116 ∷ 97 ∷ 114 ∷ 116 ∷ 58 ∷ 58 ∷ 106 ∷ 111 ∷ 98 ∷ 43 ∷ 83 ∷ 101 ∷ 108 ∷ 102 ∷ [] in
-    let Ts : List RattleType = Param.copied 3 g.row.R ∷ Arc.the_row row Global.the_row Heap.ghosts ∷ Arc.the_row Team.the_row Global.the_row Heap.ghosts ∷ Pass.the_row V C P g.C.Ledger g.P.Ledger ∷ Work.the_row ∷ [] in
+    let Ts : List RattleType = Param.copied 2 g.row.R ∷ Arc.the_row O Global.the_row Heap.ghosts ∷ Arc.the_row Team.the_row Global.the_row Heap.ghosts ∷ P ∷ Work.the_row ∷ [] in
     Send.param_send 1 _ (Send.arg_send _ Exit.no _
     (Send.recorded_send (Tuple.field_at ν Ts).row _ _ (Tuple.type_at ν Ts).to_one (Send.struct_send (Declared.shape (Tuple.type_at ν Ts))
     (s, (a, (t, (p, (work.the_send, tt))))))))

@@ -1,10 +1,10 @@
-use Rattle.po_thread_tests.proofs.scenes.perform.Given as goal
+use Rattle.po_thread_tests.proofs.recorded.perform.Given as goal
 
 abbrev pub ghosts-open_and_close-C-Ledger : goal.ghosts-open_and_close-C-Ledger
 ghosts-open_and_close-C-Ledger g a = record { name = a.calls.name; parts = a.calls.parts }
 
-abbrev pub ghosts-open_and_close-P-Ledger : goal.ghosts-open_and_close-P-Ledger
-ghosts-open_and_close-P-Ledger g a = record { name = a.procedures.name; parts = a.procedures.parts }
+abbrev pub ghosts-open_and_close-L-Ledger : goal.ghosts-open_and_close-L-Ledger
+ghosts-open_and_close-L-Ledger g a = record { name = a.procedures.name; parts = a.procedures.parts }
 
 abbrev pub ghosts-open_and_close-C-CallLedger : goal.ghosts-open_and_close-C-CallLedger
 ghosts-open_and_close-C-CallLedger g a = record { shape = a.core.object.making.shape }
