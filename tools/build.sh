@@ -73,7 +73,7 @@ announce_build() {
   if [ -x "$path" ]; then
     say "a source is newer than $1: it is built again, and what changed is proved, with what stands on it"
   else
-    say "the first build of $1: ${#crates[@]} crates are proved, in about $(minutes_of "$1") minutes on 4 processors (here are $(nproc))"
+    say "the first build of $1: ${#crates[@]} crates are proved, in $(minutes_of "$1") minutes on 4 processors (here are $(nproc))"
   fi
   say "all that the toolchain says is in $log"
 }

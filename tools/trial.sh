@@ -17,7 +17,7 @@ announce_trial() {
   path_of "$program"
   [ ! -x "$path" ] || why="a source is newer than the program"
   say "$why, so this is an unproved trial of the sources: about a minute"
-  say "'$(build_words "$program")' proves and builds it: about $(minutes_of "$program") minutes on 4 processors (here are $(nproc)), then milliseconds a call"
+  say "'$(build_words "$program")' proves and builds it: $(minutes_of "$program") minutes on 4 processors (here are $(nproc)), then milliseconds a call"
 }
 
 # Ends the trial that still runs, and removes what was kept for it.
