@@ -8,8 +8,8 @@ use Rattle.std.specs.contracts.prelude.U64PartialEq.TheImpl as U64
 use Rattle.po_bounded_object.proofs.Shared.{object_sync}
 use Rattle.po_thread_tests.proofs.bounded.open_and_close.Goals as goal
 
-pub play-requires-sync-O : goal.play-requires-sync-O
-play-requires-sync-O g c κs within =
+pub play-played-requires-sync-O : goal.play-played-requires-sync-O
+play-played-requires-sync-O g c κs within =
     let U = Param.param 0 g.row.U in let C = Param.param 1 g.row.C in let L = Param.param 2 g.row.L in let F = Param.param 3 g.row.F in let V = Field.u64-field.row in
     Send.param_sync 1 _ (Send.arg_sync _ Exit.no _
     (object_sync U C L F V g.C.Ledger g.L.Ledger g.U.Unit U64.ghosts g.C.CallLedger g.F.Ledger c.type_bounds.send-U c.type_bounds.sync-U (Send.plain_send _ _ _ _ _) (Send.plain_sync _ _ _ _ _)))
