@@ -30,11 +30,14 @@ leave_out_tested() {
   done
 }
 
+# Whether a crate is tests alone, a library by its form.
+is_tests_alone() { [[ $1 == *_tests && -f crates/$1/src/lib.rt ]]; }
+
 # Leaves out of the copy the crates that are tests alone: they were run before, with a check at each operation.
 leave_out_tests() {
   local name
   for name in $(crate_names); do
-    if [[ $name == *_tests && -f crates/$name/src/lib.rt ]]; then
+    if is_tests_alone "$name"; then
       rm -rf "$1/crates/$name"
       sed -i "/^$name\b/d" "$1/crates.txt"
     fi

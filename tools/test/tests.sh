@@ -10,3 +10,24 @@ run_tests() {
   sed -nE 's/^test result: .* ([0-9]+ passed); ([0-9]+ failed);.*/\1, \2/p' "$scratch/$1" >"$scratch/$1-counts"
   count "$scratch/$1-counts" "rt try --test in $1"
 }
+
+# Whether the files of a crate are laid out as `rt fmt` does it.
+is_laid_out() {
+  local copy=$scratch/layout/$1
+  mkdir -p "$copy"
+  tar -C "crates/$1" -c --exclude=./out . | tar -x -C "$copy"
+  (cd "$copy" && rt fmt >/dev/null 2>&1)
+  if diff -r --exclude=out "crates/$1" "$copy" >"$scratch/layout-$1"; then
+    pass
+  else
+    fail "crates/$1 isn't as rt fmt lays it out: $(head -n 5 "$scratch/layout-$1")"
+  fi
+}
+
+# Whether the crates that are tests alone, which `./test` doesn't prove, are laid out.
+layout_of_tests() {
+  local name
+  for name in $(crate_names); do
+    if is_tests_alone "$name"; then is_laid_out "$name"; fi
+  done
+}
