@@ -1,4 +1,5 @@
-"""How fast the same work is with both objects of pobj, the recorded and the bounded one, and with GNAT."""
+"""How fast the same work is with both objects of pobj, the recorded and the bounded one, and with GNAT; and how fast the
+library for C is beside the mutexes of POSIX."""
 
 import json
 import os
@@ -27,6 +28,9 @@ ROUNDS = 15
 PREFIXES = {"recorded": "", "bounded": "bounded-", "gnat": ""}
 OURS = ("recorded", "bounded")
 PROGRAM = programs.TOP / "crates/po_bench/out/po_bench"
+# What `./pobj c` fills, and the program that measures it.
+LIBRARY = programs.OUT / "library"
+FROM_C = programs.OUT / "from_c"
 # The numbers of the last run, by row and program: calls a second, of each round.
 NUMBERS = programs.OUT / "speed.json"
 
@@ -40,9 +44,22 @@ def is_current():
     return all(source.stat().st_mtime <= built for source in sources)
 
 
+def prepare_from_c():
+    """Builds the library for C, and the program that measures it."""
+    words = [str(programs.TOP / "pobj"), "c", str(LIBRARY)]
+    if subprocess.run(words, stdin=subprocess.DEVNULL, stdout=subprocess.DEVNULL).returncode != 0:
+        raise programs.Failed("the library for C can't be built")
+    source = programs.TOP / "bindings/c/speed.c"
+    flags = ["-std=c11", "-O2", f"-I{LIBRARY}/include", f"-L{LIBRARY}/lib", "-o", str(FROM_C)]
+    built = subprocess.run(["gcc", *flags, str(source), "-lpobj", "-lpthread"], capture_output=True, text=True)
+    if built.returncode != 0:
+        raise programs.Failed(f"gcc can't build {source}:\n{built.stderr}")
+
+
 def prepare():
-    """Builds both programs, that of pobj where it isn't there or is old."""
+    """Builds all programs, that of pobj where it isn't there or is old."""
     programs.build("speed", "-O2")
+    prepare_from_c()
     if is_current():
         return
     programs.say("po_bench is built first, which takes minutes")
@@ -115,4 +132,6 @@ def speed():
     print("| work/threads | recorded | bounded | GNAT | recorded to GNAT | bounded to GNAT |\n|---|---|---|---|---|---|")
     for name, row in numbers.items():
         print(line(name, row))
+    print("From C, beside the mutexes of POSIX: the median of nine rounds.")
+    print(programs.run([str(FROM_C)], "").stdout, end="")
     return 0

@@ -51,15 +51,23 @@ step() {
   return "$status"
 }
 
+# The file that the build of a library makes.
+built_of() {
+  case $1 in
+    po_c) echo "$top/crates/$1/out/lib$1.a" ;;
+    *) echo "$top/crates/$1/out/rlib/stamp" ;;
+  esac
+}
+
 # Proves and builds the crates of the program in turn, those whose library is no older than their sources left out.
 build_crates() {
   local crate number=0 changed=no shown
   for crate in "${crates[@]}"; do
     number=$((number + 1))
     shown="$crate ($number of ${#crates[@]})"
-    if [ "$crate" = "$1" ]; then
+    if [ "$crate" = "$1" ] && [ -e "$top/crates/$crate/src/main.rt" ]; then
       step "$crate" "$shown, the program" rt run -- --help || return 1
-    elif [ "$changed" = yes ] || is_older "$top/crates/$crate/out/rlib/stamp" "" "$crate"; then
+    elif [ "$changed" = yes ] || is_older "$(built_of "$crate")" "" "$crate"; then
       changed=yes
       step "$crate" "$shown" rt lib || return 1
     fi

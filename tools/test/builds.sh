@@ -58,8 +58,8 @@ stopped() {
   fi
 }
 
-# No toolchain; trials that answer, that are refused, and that don't end; a build that fails; one that makes a program; and a
-# trial again where a source is newer.
+# No toolchain; trials that answer, that are refused, and that don't end; a build that fails; one that makes a program; a trial
+# again where a source is newer; and words that are refused.
 builds() {
   make_repository
   call_there 6 run
@@ -84,5 +84,6 @@ builds() {
   wrote_there err "a source is newer"
   call_there 0 build
   call_there 2 build everything
+  call_there 2 c
   stopped
 }

@@ -1,5 +1,5 @@
 # shellcheck shell=bash
-# The proofs of the crates from nothing, with their wrong bodies: `rt ci` over a copy. Read by `test`.
+# The proofs of the crates from nothing: `rt ci` over a copy, and then the wrong bodies over what it kept. Read by `test`.
 
 # The crates whose wrong bodies the last full run saw refused, each with the sum of its files, behind the commit of that run.
 tested=tools/test/tested.txt
@@ -15,18 +15,18 @@ is_tested() { grep -qx "$1 $(sum_of "$1")" "$tested" 2>/dev/null; }
 # The names of the crates of crates.txt.
 crate_names() { sed -nE 's/^([a-z_0-9]+).*:.*/\1/p' crates.txt; }
 
-# Copies the crates into a folder, without what was built.
+# Copies the crates into a folder, without what was built, and without the wrong bodies, which are tried later.
 copy_crates() {
   mkdir -p "$1/.git" "$1/crates"
   cp crates.txt HANDLES "$1/"
-  tar -c --exclude='crates/*/out' crates | tar -x -C "$1"
+  tar -c --exclude='crates/*/out' --exclude='crates/*/must-fail' crates | tar -x -C "$1"
 }
 
-# Leaves out of the copy the wrong bodies of each crate that is as the last full run met it.
-leave_out_tested() {
+# The crates with wrong bodies that aren't as the last full run met them.
+changed_crates() {
   local name
   for name in $(crate_names); do
-    if is_tested "$name"; then rm -rf "$1/crates/$name/must-fail"; fi
+    if [ -d "crates/$name/must-fail" ] && ! is_tested "$name"; then echo "$name"; fi
   done
 }
 
@@ -44,7 +44,7 @@ leave_out_tests() {
   done
 }
 
-# Proves what is in the copy, tries its wrong bodies, runs its programs and its tests, and takes over the programs.
+# Proves what is in the copy, runs its programs and its tests, and takes over the programs and the library for C.
 prove() {
   local status name
   (cd "$1" && rt ci 2>&1) | sed -u "s,$1/,,g" | tee "$scratch/proofs"
@@ -55,6 +55,17 @@ prove() {
     name=$(basename "$(dirname "$name")")
     [ ! -x "$1/crates/$name/out/$name" ] || take_over "$1" "$name"
   done
+  build_archive "$1"
+}
+
+# Builds the archive of the library for C in the copy, over what was proved there, and takes it over.
+build_archive() {
+  mkdir -p crates/po_c/out
+  if (cd "$1/crates/po_c" && rt lib) >"$scratch/archive" 2>&1; then
+    cp "$1/crates/po_c/out/libpo_c.a" crates/po_c/out/
+  else
+    fail "the library for C wasn't built: $(tail -n 3 "$scratch/archive")"
+  fi
 }
 
 # Takes over a program that was built in the copy.
@@ -65,18 +76,48 @@ take_over() {
   rm -f "crates/$2/out/$2.begun"
 }
 
+# Tries the wrong bodies of the crates in the copy where they were proved, and side by side in a second one: a body that is
+# wrong must not stand below a crate that is tried beside it.
+refuse() {
+  copy=$1
+  shift
+  [ $# -gt 0 ] || return 0
+  cp -a "$copy" "$copy-2"
+  halves=("" "")
+  local name half counts=(0 0)
+  for name; do
+    half=$((counts[1] < counts[0]))
+    halves[half]+=" $name"
+    counts[half]=$((counts[half] + $(find "crates/$name/must-fail" -name '*.edit' 2>/dev/null | wc -l)))
+  done
+  side_by_side refuse_half 2 0 1
+}
+
+# Tries the wrong bodies of half of the crates.
+refuse_half() {
+  local room=$copy
+  [ "$1" -eq 0 ] || room=$copy-2
+  [ -n "${halves[$1]}" ] || { pass; return; }
+  # shellcheck disable=SC2086
+  python3 tools/test/wrong_bodies.py --in "$room" ${halves[$1]} | tee "$scratch/refused-$1"
+  count "$scratch/refused-$1" "wrong bodies of${halves[$1]}"
+}
+
 # All proofs, with the wrong bodies of what changed since the last full run.
 prove_changed() {
   copy_crates "$scratch/copy"
-  leave_out_tested "$scratch/copy"
   leave_out_tests "$scratch/copy"
   prove "$scratch/copy"
+  # shellcheck disable=SC2046
+  refuse "$scratch/copy" $(changed_crates)
 }
 
 # All proofs, those of tests too, and all wrong bodies. What passed is noted.
 prove_all() {
   copy_crates "$scratch/copy"
   prove "$scratch/copy"
+  # shellcheck disable=SC2046
+  refuse "$scratch/copy" $(crate_names)
   if [ "$failed" -eq 0 ]; then note_tested; fi
 }
 

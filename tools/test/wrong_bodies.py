@@ -1,8 +1,9 @@
 #!/usr/bin/env python3
-"""Tries the wrong bodies of crates (crates/NAME/must-fail/*.edit) over what `rt check` kept in their folders `out`: the prover
-has to refuse each. Without names those of all crates. Prints a line for each, and at the end 'N passed, M failed'.
+"""Tries the wrong bodies of crates (crates/NAME/must-fail/*.edit): the prover has to refuse each. Without names those of all
+crates. Prints a line for each, and at the end 'N passed, M failed'.
 
-`rt ci` tries them too, from nothing; this takes half a minute each."""
+They are tried in a copy of the sources, or with --in FOLDER in a copy that is there, over what the toolchain kept of proofs of
+these sources: half a minute each. `rt ci` tries them too, each crate from nothing."""
 
 import os
 import pathlib
@@ -78,19 +79,30 @@ def copy_sources(to):
     shutil.copytree(TOP / "crates", to / "crates", ignore=shutil.ignore_patterns("out", "must-fail"))
 
 
+def try_crates(names, room):
+    """Tries the wrong bodies of these crates in the copy, and answers of each whether it was refused."""
+    return [
+        try_edit(edit, room / "crates" / name)
+        for name in names
+        for edit in sorted((TOP / "crates" / name / "must-fail").glob("*.edit"))
+    ]
+
+
 def main(names):
     """Tries the wrong bodies of these crates, and gives the status."""
+    there = None
+    if names[:1] == ["--in"]:
+        there, names = pathlib.Path(names[1]), names[2:]
     crates = names or sorted(it.name for it in (TOP / "crates").iterdir())
     lacking = [it for it in crates if not (TOP / "crates" / it / "src").is_dir()]
     if lacking:
         print(f"no such crate: {lacking[0]}", file=sys.stderr)
         return 2
-    results = []
     with tempfile.TemporaryDirectory() as room:
-        copy_sources(pathlib.Path(room))
-        for name in crates:
-            for edit in sorted((TOP / "crates" / name / "must-fail").glob("*.edit")):
-                results.append(try_edit(edit, pathlib.Path(room) / "crates" / name))
+        if there is None:
+            there = pathlib.Path(room)
+            copy_sources(there)
+        results = try_crates(crates, there)
     print(f"{sum(results)} passed, {len(results) - sum(results)} failed")
     return 0 if all(results) else 1
 

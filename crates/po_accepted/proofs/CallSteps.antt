@@ -1,6 +1,6 @@
 -- The changes that leave all but a few parts of the kept calls as they are.
-use Rattle.std.proofs.Common.{◌≡◌, ℕ, ◌+◌, ◌<◌, ◌≤◌, Bool, true, false, List, [], ◌++◌, length, Option, Some, None, refl, sym, ap, ap₂, ◌∙◌, subst, arith, Vec, vec_len, vec_capacity}
-use Rattle.std.specs.Prelude.{IfNone, OnSome, if◌then◌else◌}
+use Rattle.std.proofs.Common.{◌≡◌, ℕ, ◌+◌, ◌<◌, ◌≤◌, Bool, true, false, List, [], ◌++◌, length, Option, Some, None, sym, ap, ap₂, ◌∙◌, subst, arith, Vec, vec_len, vec_capacity}
+use Rattle.std.specs.Prelude.{OnSome}
 use Rattle.std.specs.List.{All}
 use Rattle.std.proofs.lemmas.List.Elements.{All-nil}
 use Rattle.slab.specs.Slab.{Slab, get, slab_len, Updates}
@@ -13,16 +13,16 @@ use Rattle.po_calls.specs.declared.ticket.Ticket.{Ticket}
 use Rattle.po_calls.specs.Calls.{CallTable, IsAbove, waiting_call, kept, end_of, numbers_of}
 use Rattle.po_accepted.specs.declared.ended.Ended.{Ended}
 use Rattle.po_accepted.specs.Tickets.{SetsTicket}
-use Rattle.po_accepted.specs.Calls.{KeepsCalls, AreReserved, IsQueued, AllQueued, waiting_in, of_key, key_of, call_at, hands}
+use Rattle.po_accepted.specs.Calls.{KeepsCalls, AreReserved, IsLeft, IsQueued, AllQueued, waiting_in, of_key, key_of, call_at, hands}
 use Rattle.po_accepted.proofs.CallPlaces.{leaves}
 use Rattle.po_accepted.proofs.KeptSteps.{ticket_set}
 use Rattle.po_accepted.proofs.Held.{length_removed}
 use Rattle.po_accepted.proofs.HandSteps.{removed, widened}
 
 -- What is left of the room once one call less is kept.
-left_between : (fixed : Bool) (most len left : ℕ) → len + 1 ≤ most → left ≡ (if fixed then most else len) → (len ≤ left) × (left ≤ most)
-left_between true most len left few is = (omega (arith, few, is), omega (arith, is))
-left_between false most len left few is = (omega (arith, is), omega (arith, few, is))
+left_between : (fixed : Bool) (most len key reserved left : ℕ) → len + 1 ≤ most → IsLeft fixed most len key reserved left → (len ≤ left) × (left ≤ most)
+left_between true most len key reserved left few is = (omega (arith, few, is), omega (arith, is))
+left_between false most len key reserved left few is = (is.0, omega (arith, few, is.1))
 
 module _ {V : Type 0} where
   -- The key of a call for which there is room can be queued.
@@ -43,11 +43,11 @@ module _ {V : Type 0} where
   reserved_kept true old new reserved most len capacity vacant h = omega (arith, capacity, h)
   reserved_kept false old new reserved most len capacity vacant h = (omega (arith, h.0, len), λ lt. omega (arith, vacant, h.1 (omega (arith, len, lt))))
 
-  -- Where one call is collected: it gives up its room, but where that is fixed.
-  pub reserved_given : (fixed : Bool) (old new : Slab (Kept V)) (reserved most left : ℕ) → new.capacity ≡ old.capacity
-      → left ≡ (if fixed then most else slab_len new) → AreReserved fixed old reserved most → AreReserved fixed new reserved left
-  reserved_given true old new reserved most left capacity is h = omega (arith, capacity, h)
-  reserved_given false old new reserved most left capacity is h = (omega (arith, is), λ lt. absurd (omega (arith, is, lt)))
+  -- Where one call is collected: it leaves its room, where that is fixed or its key can be queued.
+  pub reserved_given : (fixed : Bool) (old new : Slab (Kept V)) (reserved most key left : ℕ) → new.capacity ≡ old.capacity → new.vacant_key ≡ key
+      → IsLeft fixed most (slab_len new) key reserved left → AreReserved fixed old reserved most → AreReserved fixed new reserved left
+  reserved_given true old new reserved most key left capacity vacant is h = omega (arith, capacity, h)
+  reserved_given false old new reserved most key left capacity vacant is h = (is.1, λ lt. subst (λ k. k < reserved) (sym vacant) (is.2 lt))
 
   -- A queued key is taken in hand.
   pub taken_in_hand : {B : Type 0} (table : CallTable V) (queues : EntryQueuesView) (keys : List ℕ) (ended before : List (Ended V)) (now : Vec (Ended V) B)
@@ -80,12 +80,12 @@ module _ {V : Type 0} where
   pub collected : {B : Type 0} (table new : CallTable V) (queues : EntryQueuesView) (keys : List ℕ) (ended before : List (Ended V)) (now : Vec (Ended V) B)
       (first next : ℕ) (hand : Option ℕ) (most left : ℕ) (fixed : Bool) (ticket : Ticket) (end : End V) → Some end ≡ end_of (kept table ticket)
       → Updates table.calls new.calls ticket.key None → slab_len new.calls + 1 ≡ slab_len table.calls
-      → new.calls.capacity ≡ table.calls.capacity → new.last ≡ table.last → left ≡ (if fixed then most else slab_len new.calls)
+      → new.calls.capacity ≡ table.calls.capacity → new.last ≡ table.last → new.calls.vacant_key ≡ ticket.key → IsLeft fixed most (slab_len new.calls) ticket.key queues.reserved left
       → KeepsCalls table queues keys ended before now first next hand most fixed
       → Collected table new queues keys ended before now first next hand left fixed
-  collected table new queues keys ended before now first next hand most left fixed ticket end is u len capacity last given i =
+  collected table new queues keys ended before now first next hand most left fixed ticket end is u len capacity last vacant given i =
       let l = leaves table new.calls (key_of first keys) queues hand ended ticket end (sym is) u i.queued i.kept in
-      let between = left_between fixed most (slab_len new.calls) left (omega (arith, i.few, len)) given in
+      let between = left_between fixed most (slab_len new.calls) ticket.key queues.reserved left (omega (arith, i.few, len)) given in
       record {
         keeps = record {
           queued = l.queued;
@@ -97,7 +97,7 @@ module _ {V : Type 0} where
           shown = i.shown;
           few = between.0;
           room = omega (arith, i.room, capacity, between.1);
-          reserved = reserved_given fixed table.calls new.calls queues.reserved most left capacity given i.reserved;
+          reserved = reserved_given fixed table.calls new.calls queues.reserved most ticket.key left capacity vacant given i.reserved;
           for_ended = i.for_ended;
           for_all = omega (arith, i.for_all, between.1);
         };

@@ -64,6 +64,12 @@ abbrev pub hands : Option ℕ → ℕ
 hands None = 0
 hands (Some k) = 1
 
+-- What is left of the room once one call less is kept, so many, and its key is the next: it is the same where that is
+-- fixed, and else that for one call more at most, if its key can be queued.
+abbrev pub IsLeft : Bool → ℕ → ℕ → ℕ → ℕ → ℕ → Type 0
+IsLeft true most len key reserved left = left ≡ most
+IsLeft false most len key reserved left = (len ≤ left) × (left ≤ len + 1) × (len < left → key < reserved)
+
 module _ {V : Type 0} where
   -- the waiting call that has this key
   abbrev pub call_at : Slab (Kept V) → ℕ → Option (Call V)

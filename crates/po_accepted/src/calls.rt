@@ -8,7 +8,7 @@ ghost use Rattle.po_accepted.specs.WaitingCalls.{is_on, is_of, has_number, is_du
 ghost use Rattle.po_accepted.specs.Finding.{without_first};
 ghost use Rattle.po_accepted.specs.Ending.{ended_as};
 ghost use Rattle.po_accepted.specs.Tickets.{number_at, SetsTicket, place_among, waiting_among, end_at, is_live, uncollected};
-ghost use Rattle.po_accepted.specs.Calls.{AreCallsSound, HasTicket, expires_at as time_of_expiration, places_without};
+ghost use Rattle.po_accepted.specs.Calls.{AreCallsSound, IsLeft, HasTicket, expires_at as time_of_expiration, places_without};
 ghost use Rattle.po_calls.specs.declared.call.Call.{Call};
 
 use crate::arrival::Arrival;
@@ -95,6 +95,19 @@ fn reserve_below(queues: &mut EntryQueues, keys: usize) -> Result<(), AllocError
     Ok(())
 }
 
+/// For how many calls there is room once one less is kept, so many, and its key is the next.
+fn room_left(is_fixed: bool, most: usize, len: usize, key: usize, reserved: usize) -> usize
+    ensures { IsLeft is_fixed most len key reserved result }
+{
+    if is_fixed {
+        most
+    } else if key < reserved {
+        len.saturating_add(1)
+    } else {
+        len
+    }
+}
+
 impl<V: Copy> Calls<V> {
     /// No calls, on queues of so many entries, at clock 0; the first call will have this number. There is room for none.
     pub fn new(alloc: Global, total: u16, first: u64) -> Result<Calls<V>, AllocError>
@@ -170,7 +183,7 @@ impl<V: Copy> Calls<V> {
         })
     }
 
-    /// Makes room for one more call, where there is none. A call that is collected gives its room up.
+    /// Makes room for one more call, where there is none. A call that is collected leaves its room to one other call at most.
     pub fn reserve(&mut self) -> Result<(), AllocError>
         requires { self.old.is_fixed ≡ false }
         ensures same { self.new ≡ record self.old { most = self.new.most } }
@@ -195,6 +208,13 @@ impl<V: Copy> Calls<V> {
         ensures { result ≡ nat_lt (uncollected self.now.tickets) self.now.most }
     {
         self.table.len() < self.most
+    }
+
+    /// Whether the memory is fixed.
+    pub fn is_fixed(&self) -> bool
+        ensures { result ≡ self.now.is_fixed }
+    {
+        self.is_fixed
     }
 
     /// A command begins: no call has ended since.
@@ -271,6 +291,34 @@ impl<V: Copy> Calls<V> {
         moved
     }
 
+    /// The call in hand gets another deadline.
+    pub fn set_deadline(&mut self, call: Call<V>, deadline: Deadline) -> Call<V>
+        requires in_hand { self.old.hand ≡ Some call }
+        ensures call { result ≡ record call { deadline = deadline } }
+        ensures after { self.new ≡ record self.old { hand = Some result } }
+    {
+        let moved = Call { deadline, ..call };
+        let Some(key) = self.hand else {
+            return moved;
+        };
+        let number = call.number;
+        self.table.set_deadline(Ticket { key, number }, deadline);
+        moved
+    }
+
+    /// The ticket of the call in hand.
+    pub fn ticket_in_hand(&self, call: Call<V>) -> Ticket
+        requires { self.now.hand ≡ Some call }
+        ensures number { result.number ≡ call.number }
+        ensures live { is_live self.now.tickets result ≡ true }
+    {
+        let number = call.number;
+        let Some(key) = self.hand else {
+            return Ticket { key: 0, number };
+        };
+        Ticket { key, number }
+    }
+
     /// The call in hand ends.
     pub fn end(&mut self, call: Call<V>, end: End<V>)
         requires { self.old.hand ≡ Some call }
@@ -295,7 +343,7 @@ impl<V: Copy> Calls<V> {
     }
 
     /// The call in hand.
-    fn in_hand(&self) -> Option<Call<V>>
+    pub fn in_hand(&self) -> Option<Call<V>>
         ensures { result ≡ self.now.hand }
     {
         self.table.at(self.hand?).copied()
@@ -337,7 +385,7 @@ impl<V: Copy> Calls<V> {
     }
 
     /// The call that arrived first is taken in hand.
-    fn take_oldest(&mut self) -> Option<Call<V>>
+    pub fn take_oldest(&mut self) -> Option<Call<V>>
         requires hand { self.old.hand ≡ None }
         ensures found { result ≡ slice_get self.old.waiting 0 }
         ensures taken { self.new ≡ record self.old {
@@ -430,11 +478,14 @@ impl<V: Copy> Calls<V> {
         ensures left { IfNone result (self.new ≡ self.old) }
     {
         let end = self.table.collect(ticket)?;
-        self.most = if self.is_fixed {
-            self.most
-        } else {
-            self.table.len()
-        };
+        let len = self.table.len();
+        self.most = room_left(
+            self.is_fixed,
+            self.most,
+            len,
+            ticket.key,
+            self.queues.reserved(),
+        );
         Some(end)
     }
 

@@ -9,14 +9,14 @@ use Rattle.po_history.specs.declared.event.Event.{Event}
 use Rattle.po_history.specs.declared.event.Event.TheVariants.{Abort}
 use Rattle.po_barriers.specs.Turns.{below}
 use Rattle.po_accepted.specs.WaitingCalls.{is_on, has_number, is_due, counts_of, mark}
-use Rattle.po_actions.specs.ObjectState.{ObjectState, gate_in, IsAtRest}
-use Rattle.po_actions.specs.Step.{step, replay}
+use Rattle.po_engine.specs.ObjectState.{ObjectState, gate_in, IsAtRest}
+use Rattle.po_engine.specs.Step.{step, replay}
 use Rattle.po_accepted.specs.Finding.{IsFound}
-use Rattle.po_actions.specs.Pick.{ArePicks, weight}
+use Rattle.po_engine.specs.Pick.{ArePicks, weight}
 use Rattle.po_actions.specs.View.{View, last_served}
 use Rattle.po_actions.specs.Progress.{Begins, Settles, IsSameCommand}
 use Rattle.po_actions.specs.ProtectedAction.{after_abort, IsProtectedAction, IsAbortOfCall, IsAbortOf}
-use Rattle.po_actions.proofs.Sums.{sum_by-mapped}
+use Rattle.po_engine.proofs.Sums.{sum_by-mapped}
 use Rattle.po_actions.proofs.Settling.{settles_none}
 use Rattle.po_actions.proofs.Trails.{begun_by, led_by, rest_settled, aborted_as}
 

@@ -15,10 +15,10 @@ use Rattle.po_barriers.specs.declared.order.Order.{Order}
 use Rattle.po_history.specs.declared.event.Event.{Event}
 use Rattle.po_history.specs.declared.event.Event.TheVariants.{Issue, Ran, Abort, Tick, Final, Serve, Break, Expire}
 use Rattle.po_accepted.specs.WaitingCalls.{is_on, has_number, is_due, mark}
-use Rattle.po_actions.specs.ObjectState.{ObjectState, counts_in, gate_in}
-use Rattle.po_actions.specs.Step.{step, replay, enter, end_call, queue, land, run_body, arrive, serve, cancel, abort, take_out, is_full}
+use Rattle.po_engine.specs.ObjectState.{ObjectState, counts_in, gate_in}
+use Rattle.po_engine.specs.Step.{step, replay, enter, end_call, queue, land, run_body, arrive, serve, cancel, abort, take_out, is_full}
 use Rattle.po_actions.specs.Base.{is_issue, is_ran}
-use Rattle.po_actions.specs.Pick.{event_of, next_turn, ArePicks, served_last, last_from}
+use Rattle.po_engine.specs.Pick.{event_of, next_turn, ArePicks, served_last, last_from}
 use Rattle.po_actions.specs.View.{View}
 use Rattle.po_actions.specs.ProtectedAction.{IsProtectedAction}
 use Rattle.po_actions.specs.Cutting.{procedures_run}

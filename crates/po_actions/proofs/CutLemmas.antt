@@ -10,16 +10,17 @@ use Rattle.po_index.specs.Numbering.{entry_count}
 use Rattle.po_calls.specs.declared.call.Call.{Call}
 use Rattle.po_history.specs.Histories.{HistoryView, VolumeView, joined}
 use Rattle.po_history.proofs.Volumes.{run_on-append, joined-append}
-use Rattle.po_actions.specs.ObjectState.{opening_state}
+use Rattle.po_engine.specs.ObjectState.{opening_state}
 use Rattle.po_accepted.specs.WaitingCalls.{has_number}
-use Rattle.po_actions.specs.Step.{replay, IsLegal}
+use Rattle.po_engine.specs.Step.{replay, IsLegal}
 use Rattle.po_actions.specs.Base.{Base, opening_base, state_with, state_at, arrived, arrived_among, is_ran}
 use Rattle.po_actions.specs.Public.{NamesPublic}
 use Rattle.po_actions.specs.Making.{Making}
-use Rattle.po_actions.specs.Pick.{last_from}
+use Rattle.po_engine.specs.Pick.{last_from}
 use Rattle.po_actions.specs.View.{View, Replays, IsInOnePlace, base_state, next_place}
-use Rattle.po_actions.specs.Arrival.{Rises, AreAt, arrival}
-use Rattle.po_actions.specs.StateView.{StateView}
+use Rattle.po_engine.specs.Arrival.{Rises, AreAt}
+use Rattle.po_actions.specs.Arrival.{arrival}
+use Rattle.po_engine.specs.StateView.{StateView}
 use Rattle.po_actions.specs.History.{IsBase, IsHistory, IsKept}
 use Rattle.po_actions.specs.Cutting.{present_base, cut, cut_off, Leads, AreVolumes, KeepsArrivals, procedures_run}
 use Rattle.po_actions.proofs.Counting.{replay-next, counted-apart}
@@ -27,7 +28,7 @@ use Rattle.po_actions.proofs.Runs.{replay-append, legal-append}
 use Rattle.po_actions.proofs.Wells.{well, well_base}
 use Rattle.po_actions.proofs.Orders.{Ordered, ordered_all}
 use Rattle.po_actions.proofs.Falls.{emptied, IsEmptied}
-use Rattle.po_actions.proofs.Picks.{eq_self}
+use Rattle.po_engine.proofs.Absent.{eq_self}
 use Rattle.po_actions.proofs.PlacesKept.{arrivals_are_places}
 
 -- a list of no length is empty

@@ -10,9 +10,9 @@ use Rattle.po_calls.specs.declared.call.Call.{Call}
 use Rattle.po_history.specs.declared.event.Event.{Event}
 use Rattle.po_history.specs.declared.event.Event.TheVariants.{Issue, Ran, Abort, Tick, Final, Serve, Break, Expire}
 use Rattle.po_accepted.specs.WaitingCalls.{is_due}
-use Rattle.po_actions.specs.ObjectState.{ObjectState}
-use Rattle.po_actions.specs.Pick.{event_of, next_turn, pick}
-use Rattle.po_actions.specs.StateView.{IsFirstDue}
+use Rattle.po_engine.specs.ObjectState.{ObjectState}
+use Rattle.po_engine.specs.Pick.{event_of, next_turn, pick}
+use Rattle.po_engine.specs.StateView.{IsFirstDue}
 
 not_turn : {V : Type 0} (l : Look) (o : Option (Event V)) (n : ℕ) → option_or (event_of l) o ≡ Some (Expire n) → o ≡ Some (Expire n)
 not_turn Quiet o n h = h

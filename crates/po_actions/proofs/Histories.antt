@@ -5,11 +5,11 @@ use Rattle.std.proofs.lemmas.List.Elements.{All-push, All-nil}
 use Rattle.std.proofs.lemmas.Bool.Decides.{nat_tests}
 use Rattle.po_unit.specs.Meaning.{Meaning}
 use Rattle.po_history.specs.declared.event.Event.{Event}
-use Rattle.po_actions.specs.ObjectState.{ObjectState, opening_state, gate_in, IsAtRest}
+use Rattle.po_engine.specs.ObjectState.{ObjectState, opening_state, gate_in, IsAtRest}
 use Rattle.po_accepted.specs.WaitingCalls.{is_due, has_number}
 use Rattle.po_accepted.specs.Tickets.{number_at}
 use Rattle.po_actions.specs.Tickets.{AreIssued}
-use Rattle.po_actions.specs.Step.{replay, IsLegal, Needs, step}
+use Rattle.po_engine.specs.Step.{replay, IsLegal, Needs, step}
 use Rattle.po_accepted.specs.Ending.{has_ended}
 use Rattle.po_actions.specs.Base.{Base, opening_base, state_with, state_at, is_ran}
 use Rattle.po_actions.specs.Making.{Making}
@@ -17,21 +17,22 @@ use Rattle.po_actions.specs.View.{IsInOnePlace, opening_view}
 use Rattle.po_index.specs.Numbering.{entry_count, is_public}
 use Rattle.po_actions.specs.Public.{NamesPublic}
 use Rattle.po_actions.specs.History.{IsHistory, IsKept}
-use Rattle.po_actions.specs.Pick.{owed, served_last, last_from, pick, Fits}
+use Rattle.po_engine.specs.Pick.{owed, served_last, last_from, pick, Fits}
 use Rattle.po_history.specs.declared.event.Event.TheVariants.{Issue}
 use Rattle.po_calls.specs.declared.call.Deadline.{Deadline}
 use Rattle.po_calls.specs.declared.end.End.{End}
 use Rattle.po_history.specs.Histories.{HistoryView, next_place}
-use Rattle.po_actions.specs.Arrival.{AreAt, noted, call_of}
+use Rattle.po_engine.specs.Arrival.{AreAt, noted, call_of}
 use Rattle.po_actions.specs.Outcomes.{AreOutcomes, IsCallOf}
 use Rattle.std.proofs.Math.Seq.{take-length}
 use Rattle.po_unit.specs.Meaning.{IsLawful}
 use Rattle.po_actions.proofs.Wells.{well, next_inner, next-issue}
-use Rattle.po_actions.proofs.Picks.{bit_le, eq_self, pick_fits, pick_none_rests, needs_from_fits, public_from_fits, no_procedure}
+use Rattle.po_engine.proofs.Absent.{eq_self}
+use Rattle.po_actions.proofs.Picks.{bit_le, pick_fits, pick_none_rests, needs_from_fits, public_from_fits, no_procedure}
 use Rattle.po_actions.proofs.Noted.{counted_at, outcomes_reserved}
-use Rattle.po_actions.specs.StateView.{StateView}
+use Rattle.po_engine.specs.StateView.{StateView}
 use Rattle.po_actions.proofs.PlacesKept.{arrived_by, places_go_on}
-use Rattle.po_actions.proofs.Sums.{sum_by-push}
+use Rattle.po_engine.proofs.Sums.{sum_by-push}
 use Rattle.po_actions.proofs.Settling.{last-push}
 use Rattle.po_actions.proofs.Runs.{kept_on}
 use Rattle.po_actions.proofs.Ends.{ended_on, ends_stay}

@@ -12,8 +12,8 @@ use Rattle.po_history.specs.Histories.{HistoryView, outcome_of}
 use Rattle.po_accepted.specs.declared.ended.Ended.{Ended}
 use Rattle.po_accepted.specs.Ending.{has_ended}
 use Rattle.po_actions.specs.Outcomes.{AreOutcomes}
-use Rattle.po_actions.proofs.Picks.{eq_self}
-use Rattle.po_actions.proofs.Sums.{sum_by-cons}
+use Rattle.po_engine.proofs.Absent.{eq_self}
+use Rattle.po_engine.proofs.Sums.{sum_by-cons}
 
 module _ {X : Type 0} (p : X → Bool) where
   none_there : (b : Bool) (x : X) (xs : List X) → p x ≡ b → cond b 1 0 + count_by p xs ≡ 0 → (count_by p xs ≡ 0 → find p xs ≡ None) → cond b (Some x) (find p xs) ≡ None

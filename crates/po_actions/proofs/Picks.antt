@@ -1,9 +1,8 @@
 -- The event that is picked meets its needs; where none is picked, the object is at rest.
-use Rattle.std.proofs.Common.{◌≡◌, ℕ, zero, suc, ◌+◌, ◌==◌, ◌<◌, ◌≤◌, List, [], ◌∷◌, map, refl, subst, ap, sym, ◌∙◌, arith, Bool, true, false, cond, ◌||◌, Option, Some, None, Result, Ok, Err, if◌then◌else◌, IsSome, length, get_or}
+use Rattle.std.proofs.Common.{◌≡◌, ℕ, zero, suc, ◌<◌, ◌≤◌, List, [], ◌∷◌, map, refl, subst, ap, sym, ◌∙◌, arith, Bool, true, false, cond, ◌||◌, Option, Some, None, Result, Ok, Err, if◌then◌else◌, IsSome, length, get_or}
 use Rattle.std.specs.List.{count_by, find, All, list_any}
 use Rattle.std.specs.Option.{option_map, option_or}
 use Rattle.std.proofs.lemmas.List.Elements.{All-cons, All-nil, All-map, All-weaker}
-use Rattle.std.proofs.lemmas.Bool.Decides.{nat_tests}
 use Rattle.po_unit.specs.Meaning.{Meaning, IsLawful}
 use Rattle.po_index.specs.declared.decl.Decl.{Decl}
 use Rattle.po_calls.specs.declared.call.Call.{Call}
@@ -13,16 +12,17 @@ use Rattle.po_barriers.specs.declared.order.Order.{Order}
 use Rattle.po_barriers.specs.Turns.{turn, look_if, examined}
 use Rattle.po_history.specs.declared.event.Event.{Event}
 use Rattle.po_history.specs.declared.event.Event.TheVariants.{Issue, Ran, Abort, Tick, Final, Serve, Break, Expire}
-use Rattle.po_actions.specs.ObjectState.{ObjectState, gate_in, IsQuiet, IsAtRest}
+use Rattle.po_engine.specs.ObjectState.{ObjectState, gate_in, IsQuiet, IsAtRest}
 use Rattle.po_accepted.specs.WaitingCalls.{has_number, is_on, is_due}
-use Rattle.po_actions.specs.Step.{Needs}
+use Rattle.po_engine.specs.Step.{Needs}
 use Rattle.po_actions.specs.Public.{NamesPublic}
 use Rattle.po_actions.specs.Base.{is_ran}
-use Rattle.po_actions.specs.Pick.{event_of, turn_of, next_turn, pick, Fits}
+use Rattle.po_engine.specs.Pick.{event_of, turn_of, next_turn, pick, Fits}
 use Rattle.po_barriers.proofs.ExaminedLemmas.{mapped_each, examined_covers, examined_range, closed, none_each, first_look_each}
 use Rattle.po_accepted.proofs.Lists.{found_passes}
-use Rattle.po_actions.proofs.Sums.{sum_by-cons}
 use Rattle.po_actions.proofs.Wells.{IsWell}
+use Rattle.po_engine.proofs.Absent.{eq_self}
+use Rattle.po_engine.proofs.Alone.{found_alone}
 
 module _ {X : Type 0} (p : X → Bool) where
   any_some : (b : Bool) (x : X) (xs : List X) → (b || list_any p xs) ≡ true → (list_any p xs ≡ true → IsSome (find p xs)) → IsSome (cond b (Some x) (find p xs))
@@ -49,32 +49,6 @@ module _ {X : Type 0} (p : X → Bool) where
   pub find_none_all : (xs : List X) → find p xs ≡ None → All (λ y. p y ≡ false) xs
   find_none_all [] h = All-nil (λ y. p y ≡ false)
   find_none_all (x ∷ xs) h = none_passes (p x) x xs refl h (find_none_all xs)
-
-  -- what is found is counted
-  counted : (b : Bool) (x y : X) (xs : List X) → p x ≡ b → cond b (Some x) (find p xs) ≡ Some y → (find p xs ≡ Some y → (q : X → Bool) → q y ≡ true → 1 ≤ count_by q xs) → (q : X → Bool) → q y ≡ true → 1 ≤ count_by q (x ∷ xs)
-  counted true x y xs e h k q t = let same : x ≡ y = cc in let one : q x ≡ true = ap q same ∙ t in rw (sum_by-cons (λ z. cond (q z) 1 0) x xs, one) (omega arith)
-  counted false x y xs e h k q t = omega (arith, k h q t, sum_by-cons (λ z. cond (q z) 1 0) x xs)
-
-  pub found_counted : (xs : List X) (y : X) → find p xs ≡ Some y → (q : X → Bool) → q y ≡ true → 1 ≤ count_by q xs
-  found_counted [] y h q t = cc
-  found_counted (x ∷ xs) y h q t = counted (p x) x y xs refl h (found_counted xs y) q t
-
-  -- where one element at most passes another test, that test finds it too
-  alone : (q : X → Bool) (b c : Bool) (x y : X) (xs : List X) → p x ≡ b → q x ≡ c → cond b (Some x) (find p xs) ≡ Some y → q y ≡ true → count_by q (x ∷ xs) ≤ 1 → (find p xs ≡ Some y → count_by q xs ≤ 1 → find q xs ≡ Some y) → cond c (Some x) (find q xs) ≡ Some y
-  alone q true true x y xs e t h u le k = h
-  alone q true false x y xs e t h u le k = let same : x ≡ y = cc in let bad : false ≡ true = sym t ∙ (ap q same ∙ u) in cc
-  alone q false true x y xs e t h u le k =
-      let more : 1 ≤ count_by q xs = found_counted xs y h q u in
-      let all : count_by q (x ∷ xs) ≡ 1 + count_by q xs = sum_by-cons (λ z. cond (q z) 1 0) x xs ∙ ap (λ b. cond b 1 0 + count_by q xs) t in
-      absurd (omega (arith, more, all, le))
-  alone q false false x y xs e t h u le k = k h (omega (arith, sum_by-cons (λ z. cond (q z) 1 0) x xs, le))
-
-  pub found_alone : (q : X → Bool) (xs : List X) (y : X) → find p xs ≡ Some y → q y ≡ true → count_by q xs ≤ 1 → find q xs ≡ Some y
-  found_alone q [] y h u le = cc
-  found_alone q (x ∷ xs) y h u le = alone q (p x) (q x) x y xs refl refl h u le (λ i j. found_alone q xs y i u j)
-
-pub eq_self : (n : ℕ) → (n == n) ≡ true
-eq_self n = grind (arith, nat_tests)
 
 pub bit_le : (b : Bool) (n : ℕ) → n ≡ (if b then 1 else 0) → n ≤ 1
 bit_le true n h = omega arith

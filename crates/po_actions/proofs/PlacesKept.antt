@@ -7,13 +7,13 @@ use Rattle.po_calls.specs.declared.call.Call.{Call}
 use Rattle.po_history.specs.declared.event.Event.{Event}
 use Rattle.po_history.specs.Histories.{HistoryView, next_place}
 use Rattle.po_index.specs.Numbering.{entry_count}
-use Rattle.po_actions.specs.ObjectState.{ObjectState}
-use Rattle.po_actions.specs.Step.{step, replay}
+use Rattle.po_engine.specs.ObjectState.{ObjectState}
+use Rattle.po_engine.specs.Step.{step, replay}
 use Rattle.po_actions.specs.Making.{Making}
 use Rattle.po_actions.specs.Base.{Base, state_at, arrived}
-use Rattle.po_actions.specs.Arrival.{AreAt, noted, call_of, arrivals}
+use Rattle.po_engine.specs.Arrival.{AreAt, noted, call_of, arrivals}
 use Rattle.po_actions.specs.History.{IsHistory, IsKept}
-use Rattle.po_actions.specs.StateView.{StateView}
+use Rattle.po_engine.specs.StateView.{StateView}
 use Rattle.po_actions.proofs.Wells.{well_base}
 use Rattle.po_actions.proofs.Orders.{ordered_all}
 

@@ -1,5 +1,5 @@
 -- The real lists of keys and ends go with the state.
-use Rattle.std.proofs.Common.{◌≡◌, ℕ, ◌+◌, ◌∷◌, ◌++◌, ◌<◌, ◌≤◌, List, [], length, take, drop, Option, Some, None, Bool, true, false, if◌then◌else◌, refl, sym, ap, subst, ◌∙◌, arith, Vec, vec_len, vec_capacity, option_map}
+use Rattle.std.proofs.Common.{◌≡◌, ℕ, ◌+◌, ◌≤◌, List, length, take, Option, Some, None, Bool, true, false, if◌then◌else◌, refl, sym, ap, subst, ◌∙◌, arith, Vec, vec_len, vec_capacity}
 use Rattle.std.specs.List.{All, count_by, find}
 use Rattle.po_unit.specs.Meaning.{Meaning}
 use Rattle.po_history.specs.Histories.{HistoryView}
@@ -12,9 +12,8 @@ use Rattle.po_accepted.specs.WaitingCalls.{has_number}
 use Rattle.po_accepted.specs.Tickets.{is_live, is_number, number_at, waiting_among}
 use Rattle.po_accepted.specs.Calls.{HasTicket, key_of}
 use Rattle.std.proofs.lemmas.Bool.{eq-eqb}
-use Rattle.po_actions.specs.ObjectState.{ObjectState}
 use Rattle.po_actions.specs.Making.{Making}
-use Rattle.po_actions.specs.StateView.{StateView}
+use Rattle.po_engine.specs.StateView.{StateView}
 use Rattle.po_actions.specs.History.{IsRecorded}
 use Rattle.po_actions.specs.Outcomes.{AreOutcomes, IsCallOf}
 use Rattle.po_actions.proofs.Histories.{MayNote}

@@ -17,14 +17,14 @@ use Rattle.po_history.specs.declared.event.Event.TheVariants.{Issue, Ran, Abort,
 use Rattle.po_accepted.specs.WaitingCalls.{is_on, has_number, is_due, mark}
 use Rattle.po_accepted.specs.Ending.{has_ended}
 use Rattle.po_accepted.specs.Finding.{IsFound}
-use Rattle.po_actions.specs.ObjectState.{ObjectState, counts_in, gate_in}
-use Rattle.po_actions.specs.Step.{step, replay, enter, end_call, queue, land, run_body, arrive, serve, cancel, abort, take_out, is_full}
-use Rattle.po_actions.specs.Pick.{event_of, next_turn, ArePicks, served_last, last_from}
+use Rattle.po_engine.specs.ObjectState.{ObjectState, counts_in, gate_in}
+use Rattle.po_engine.specs.Step.{step, replay, enter, end_call, queue, land, run_body, arrive, serve, cancel, abort, take_out, is_full}
+use Rattle.po_engine.specs.Pick.{event_of, next_turn, ArePicks, served_last, last_from}
 use Rattle.po_actions.specs.View.{View, IsInOnePlace}
 use Rattle.po_actions.specs.ProtectedAction.{IsProtectedAction, IsAbortOfCall, IsAbortOf}
 use Rattle.po_actions.specs.Cutting.{cut}
 use Rattle.po_actions.proofs.Finds.{All-found}
-use Rattle.po_actions.proofs.Wells.{All-without}
+use Rattle.po_engine.proofs.Absent.{All-without}
 
 module _ (P : ℕ → ℕ → Type 0) where
   -- P holds of the number and the owner of the call that the event issues, if it issues one

@@ -4,17 +4,17 @@ use Rattle.po_unit.specs.Meaning.{Meaning}
 use Rattle.po_index.specs.Numbering.{entry_count}
 use Rattle.po_history.specs.declared.event.Event.{Event}
 use Rattle.po_accepted.specs.declared.ended.Ended.{Ended}
-use Rattle.po_actions.specs.ObjectState.{ObjectState}
-use Rattle.po_actions.specs.Step.{replay, IsLegal}
+use Rattle.po_engine.specs.ObjectState.{ObjectState}
+use Rattle.po_engine.specs.Step.{replay, IsLegal}
 use Rattle.po_actions.specs.Base.{Base, opening_base, state_at, arrived, is_ran}
 use Rattle.po_actions.specs.Public.{AllPublic}
 use Rattle.po_actions.specs.Making.{Making}
 use Rattle.po_actions.specs.View.{IsInOnePlace}
-use Rattle.po_actions.specs.Arrival.{Rises, AreAt, arrivals}
+use Rattle.po_engine.specs.Arrival.{Rises, AreAt, arrivals}
 use Rattle.po_actions.specs.Outcomes.{AreOutcomes}
-use Rattle.po_actions.specs.StateView.{StateView}
+use Rattle.po_engine.specs.StateView.{StateView}
 use Rattle.po_history.specs.Histories.{HistoryView}
-use Rattle.po_actions.specs.Pick.{owed, last_from}
+use Rattle.po_engine.specs.Pick.{owed, last_from}
 
 -- A base is what some history led to: the unit has the entries of the shape, each call is in exactly one place, and the
 -- waiting ones are on entries of the unit and in order of arrival. One at the place of the first event is the opening.

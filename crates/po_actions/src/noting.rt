@@ -2,11 +2,11 @@
 
 ghost use Rattle.std.specs.Prelude.{◌≡◌, ◌<◌, ◌≤◌, ◌+◌, ◌-◌, ◌∷◌, ◌++◌, ℕ, [], None, All, count_by, length, take, vec_len, vec_capacity};
 ghost use Rattle.po_accepted.specs.Ending.{has_ended};
-ghost use Rattle.po_actions.specs.Pick.{owed};
+ghost use Rattle.po_engine.specs.Pick.{owed};
 ghost use Rattle.po_actions.specs.Outcomes.{AreOutcomes, IsCallOf};
 
-use crate::state::State;
 use po_accepted::Ended;
+use po_engine::State;
 use po_history::{Event, History};
 use po_unit::Unit;
 

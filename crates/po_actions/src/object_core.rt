@@ -3,7 +3,7 @@
 ghost use Rattle.std.specs.Prelude.{◌≡◌, ◌≢◌, ◌∷◌, ◌++◌, [], ◌↔◌, slice_index, None, Some, find, option_map, unwrap_or, Option, is_some, List, true, IfOk, IfErr, IfNone, OnSome, MatchResult, OnOk, OnErr};
 ghost use Rattle.po_index.specs.Numbering.{entry_count, flat_number, is_public};
 ghost use Rattle.po_accepted.specs.WaitingCalls.{has_number, is_of};
-ghost use Rattle.po_actions.specs.ObjectState.{counts_in};
+ghost use Rattle.po_engine.specs.ObjectState.{counts_in};
 ghost use Rattle.po_accepted.specs.Ending.{has_ended};
 ghost use Rattle.po_actions.specs.View.{next_place, ended_now, opening_view, base_state};
 ghost use Rattle.po_actions.specs.ProtectedAction.{IsProtectedAction, IsAbortOf, after_action, after_abort, abort_answer};
@@ -41,7 +41,7 @@ pub struct Core<U: Unit> {
 }
 
 impl<U: Unit> Model for Core<U> {
-    ghost use Rattle.po_actions.specs.ObjectState.{IsAtRest};
+    ghost use Rattle.po_engine.specs.ObjectState.{IsAtRest};
     ghost use Rattle.po_actions.specs.Tickets.{CoreView, AreIssued as TicketsAreIssued};
 
     ghost Value = { CoreView U U.Value };

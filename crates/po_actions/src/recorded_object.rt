@@ -3,11 +3,11 @@
 ghost use Rattle.std.specs.Prelude.{◌≡◌, ◌≢◌, ◌<◌, ◌≤◌, ◌+◌, ◌∷◌, [], vec_len, vec_capacity, None, Some, true, false, find, ◌&&◌, MatchOption, option_map, MatchBool, IfOk, OnOk, OnErr, OnSome, IfNone};
 ghost use Rattle.po_index.specs.Numbering.{entry_count, is_public};
 ghost use Rattle.po_accepted.specs.WaitingCalls.{has_number, is_of};
-ghost use Rattle.po_actions.specs.ObjectState.{IsAtRest, counts_in};
-ghost use Rattle.po_actions.specs.Step.{step, MayBegin};
+ghost use Rattle.po_engine.specs.ObjectState.{IsAtRest, counts_in};
+ghost use Rattle.po_engine.specs.Step.{step, MayBegin};
 ghost use Rattle.po_accepted.specs.Ending.{has_ended};
 ghost use Rattle.po_accepted.specs.Finding.{IsFound};
-ghost use Rattle.po_actions.specs.Pick.{pick, weight};
+ghost use Rattle.po_engine.specs.Pick.{pick, weight};
 ghost use Rattle.po_actions.specs.View.{next_place, last_served, base_state, ended_now, opening_view};
 ghost use Rattle.po_actions.specs.Progress.{Settles, Begins, Happens, IsSameCommand};
 ghost use Rattle.po_actions.specs.ProtectedAction.{settled, without_event};
@@ -20,9 +20,9 @@ ghost use Rattle.po_actions.specs.Cutting.{cut, cut_off, procedures_run, AreVolu
 use crate::base::Base;
 use crate::making::Making;
 use crate::noting::note;
-use crate::state::{State, served_by};
 use po_accepted::Ended;
 use po_calls::{Call, Deadline, End, Place, Ticket};
+use po_engine::{State, served_by};
 use po_history::{Event, History, Volume};
 use po_unit::Unit;
 use std::alloc::{AllocError, Global};

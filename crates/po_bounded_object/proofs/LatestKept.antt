@@ -21,9 +21,9 @@ use Rattle.po_accepted.specs.Ending.{has_ended}
 use Rattle.po_accepted.specs.Finding.{IsFound}
 use Rattle.po_accepted.specs.Tickets.{number_at, SetsTicket, is_number, is_live, place_by, end_at}
 use Rattle.po_accepted.proofs.Lists.{found_passes}
-use Rattle.po_actions.specs.Step.{step}
-use Rattle.po_actions.specs.Pick.{last_from}
-use Rattle.po_actions.specs.ObjectState.{ObjectState}
+use Rattle.po_engine.specs.Step.{step}
+use Rattle.po_engine.specs.Pick.{last_from}
+use Rattle.po_engine.specs.ObjectState.{ObjectState}
 use Rattle.po_actions.specs.View.{View, IsInOnePlace}
 use Rattle.po_actions.specs.Tickets.{CoreView, place_of_ticket, end_of_ticket}
 use Rattle.po_actions.specs.ProtectedAction.{IsProtectedAction, IsAbortOf, IsAbortOfCall}

@@ -7,7 +7,7 @@ ghost use Rattle.po_calls.specs.declared.call.Call.{Call};
 ghost use Rattle.po_calls.specs.declared.end.Place.TheVariants.{Waiting};
 ghost use Rattle.po_calls.specs.Calls.{kept, place_of, waiting_call, end_of, Sets, KeepsRoom, numbers_of, IsAbove, IsSpent, KeepsSpent};
 
-use crate::call::Call;
+use crate::call::{Call, Deadline};
 use crate::end::{End, Place};
 use crate::kept::Kept;
 use crate::ticket::Ticket;
@@ -228,6 +228,23 @@ impl<V: Copy> Table<V> {
             requeued.call.entry = entry;
             requeued.call.value = value;
             requeued.call.sealed = sealed;
+        }
+    }
+
+    /// Gives a waiting call another deadline.
+    pub fn set_deadline(&mut self, ticket: Ticket, deadline: Deadline)
+        requires { place_of (kept self.old ticket) ≡ Waiting }
+        ensures sets { (call : Call V) → waiting_call (kept self.old ticket) ≡ Some call
+            → Sets self.old self.new ticket (Some (record { call = record call { deadline = deadline }; end = None })) }
+        ensures updates { (call : Call V) → waiting_call (kept self.old ticket) ≡ Some call
+            → Updates self.old.calls self.new.calls ticket.key
+            (Some (record { call = record call { deadline = deadline }; end = None })) }
+        ensures room { KeepsRoom self.old self.new }
+        ensures numbers { numbers_of self.new ≡ numbers_of self.old }
+        ensures spent { KeepsSpent self.old self.new }
+    {
+        if let Some(changed) = self.calls.get_mut(ticket.key) {
+            changed.call.deadline = deadline;
         }
     }
 

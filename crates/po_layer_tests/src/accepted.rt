@@ -1,11 +1,11 @@
-//! A worked run of accepted calls: there is room for one, and once it is collected there is none.
+//! A worked run of accepted calls: there is room for one, and once it is collected for one again, and for no second.
 
 use po_accepted::Calls;
 use po_calls::{Call, Deadline, End, Place};
 use std::test::Fail;
 
 #[test]
-fn room_is_given_up(rt: HostRuntime) -> Result<(), Fail> {
+fn room_is_left_to_one(rt: HostRuntime) -> Result<(), Fail> {
     let mut calls = Calls::new(rt.alloc(), 1, 5)?;
     calls.reserve()?;
     assert!(rt; calls.has_room());
@@ -22,6 +22,10 @@ fn room_is_given_up(rt: HostRuntime) -> Result<(), Fail> {
     calls.end(call, End::Completed(11));
     assert_eq!(rt; calls.place(ticket), Place::Ended(End::Completed(11)));
     assert_eq!(rt; calls.collect(ticket), Some(End::Completed(11)));
+    assert!(rt; calls.has_room());
+    let number = calls.next();
+    calls.begin();
+    calls.add(Call { number, ..call });
     assert!(rt; !calls.has_room());
     Ok(())
 }

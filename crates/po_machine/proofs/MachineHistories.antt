@@ -6,14 +6,14 @@ use Rattle.po_index.specs.Numbering.{entry_count}
 use Rattle.po_calls.specs.declared.call.Deadline.{Deadline}
 use Rattle.po_history.specs.declared.event.Event.{Event}
 use Rattle.po_history.specs.declared.event.Event.TheVariants.{Issue}
-use Rattle.po_actions.specs.ObjectState.{opening_state, IsAtRest}
-use Rattle.po_actions.specs.Step.{Needs, step}
+use Rattle.po_engine.specs.ObjectState.{opening_state, IsAtRest}
+use Rattle.po_engine.specs.Step.{Needs, step}
 use Rattle.po_actions.specs.Base.{Base, is_issue, state_with, state_at}
 use Rattle.po_actions.specs.Making.{Making}
 use Rattle.po_actions.specs.Public.{NamesPublic}
 use Rattle.po_actions.specs.History.{IsHistory}
-use Rattle.po_actions.specs.Pick.{owed, served_last, pick, Fits}
-use Rattle.po_actions.specs.Arrival.{AreAt, noted, call_of}
+use Rattle.po_engine.specs.Pick.{owed, served_last, pick, Fits}
+use Rattle.po_engine.specs.Arrival.{AreAt, noted, call_of}
 use Rattle.po_actions.proofs.Counting.{replay-next}
 use Rattle.po_actions.proofs.Wells.{well, next_inner, next-issue}
 use Rattle.po_actions.proofs.Picks.{pick_fits, pick_none_rests, needs_from_fits, public_from_fits}
@@ -22,7 +22,7 @@ use Rattle.po_actions.proofs.PlacesKept.{arrived_by, places_go_on, places_all, a
 use Rattle.po_actions.proofs.Settling.{last-push}
 use Rattle.po_actions.proofs.Histories.{history_opens, history_goes_on}
 use Rattle.po_actions.proofs.Ends.{ends_stay}
-use Rattle.po_actions.specs.StateView.{StateView}
+use Rattle.po_engine.specs.StateView.{StateView}
 use Rattle.po_machine.specs.MachineHistory.{IsTraced, ArePlaces, opening_of}
 
 module _ {S V : Type 0} (m : Meaning S V) (making : Making S) where

@@ -4,10 +4,10 @@ use Rattle.po_unit.specs.Meaning.{Meaning}
 use Rattle.po_history.specs.declared.event.Event.{Event}
 use Rattle.po_actions.specs.Making.{Making}
 use Rattle.po_actions.specs.Base.{Base, opening_base, state_at, arrived}
-use Rattle.po_actions.specs.Arrival.{AreAt, arrivals}
+use Rattle.po_engine.specs.Arrival.{AreAt, arrivals}
 use Rattle.po_actions.specs.History.{IsHistory}
-use Rattle.po_actions.specs.Pick.{owed, last_from}
-use Rattle.po_actions.specs.StateView.{StateView}
+use Rattle.po_engine.specs.Pick.{owed, last_from}
+use Rattle.po_engine.specs.StateView.{StateView}
 
 -- the base of an object with fixed memory: its opening, as its history is never cut
 abbrev pub opening_of : {S V : Type 0} → Making S → Base S V

@@ -4,7 +4,7 @@ ghost use Rattle.std.specs.Prelude.{◌≡◌, ◌≢◌, ◌+◌, ◌∷◌, �
 ghost use Rattle.po_index.specs.Numbering.{entry_count, flat_number, is_public};
 ghost use Rattle.po_accepted.specs.Tickets.{number_at, SetsTicket};
 ghost use Rattle.po_actions.specs.Base.{is_issue};
-ghost use Rattle.po_actions.specs.ObjectState.{counts_in};
+ghost use Rattle.po_engine.specs.ObjectState.{counts_in};
 ghost use Rattle.po_actions.specs.View.{ended_now, next_place, opening_view};
 ghost use Rattle.po_actions.specs.ProtectedAction.{IsProtectedAction, IsAbortOf, after_action, after_abort, abort_answer};
 ghost use Rattle.po_actions.specs.Tickets.{place_of_ticket, end_of_ticket, AreIssued};
@@ -38,7 +38,7 @@ pub struct Machine<U: Unit> {
 }
 
 impl<U: Unit> Model for Machine<U> {
-    ghost use Rattle.po_actions.specs.ObjectState.{IsAtRest};
+    ghost use Rattle.po_engine.specs.ObjectState.{IsAtRest};
     ghost use Rattle.po_actions.specs.Tickets.{AreIssued as TicketsAreIssued};
     ghost use Rattle.po_machine.specs.MachineView.{MachineView, core_of as as_core};
 

@@ -8,8 +8,8 @@ use Rattle.po_history.specs.declared.event.Event.{Event}
 use Rattle.po_history.specs.declared.event.Event.TheVariants.{Issue, Ran, Abort, Tick, Final, Serve, Break, Expire}
 use Rattle.po_history.specs.Histories.{VolumeView}
 use Rattle.po_accepted.specs.Finding.{IsFound}
-use Rattle.po_actions.specs.Step.{step}
-use Rattle.po_actions.specs.Pick.{last_from}
+use Rattle.po_engine.specs.Step.{step}
+use Rattle.po_engine.specs.Pick.{last_from}
 use Rattle.po_actions.specs.View.{View}
 use Rattle.po_actions.specs.Tickets.{CoreView}
 use Rattle.po_actions.specs.ProtectedAction.{IsProtectedAction, IsAbortOfCall}

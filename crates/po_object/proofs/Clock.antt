@@ -9,8 +9,8 @@ use Rattle.po_calls.specs.declared.end.End.TheVariants.{Cancelled, ProgramError}
 use Rattle.po_history.specs.declared.event.Event.{Event}
 use Rattle.po_history.specs.declared.event.Event.TheVariants.{Issue, Ran, Abort, Tick, Final, Serve, Break, Expire}
 use Rattle.po_accepted.specs.WaitingCalls.{is_on, has_number, mark}
-use Rattle.po_actions.specs.ObjectState.{ObjectState, counts_in, gate_in}
-use Rattle.po_actions.specs.Step.{step, replay, enter, end_call, queue, land, run_body, arrive, serve, cancel, abort, advance, take_out, is_full}
+use Rattle.po_engine.specs.ObjectState.{ObjectState, counts_in, gate_in}
+use Rattle.po_engine.specs.Step.{step, replay, enter, end_call, queue, land, run_body, arrive, serve, cancel, abort, advance, take_out, is_full}
 use Rattle.po_actions.specs.View.{View}
 use Rattle.po_actions.specs.ProtectedAction.{IsProtectedAction}
 

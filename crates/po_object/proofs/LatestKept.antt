@@ -13,7 +13,7 @@ use Rattle.po_history.specs.declared.event.Event.{Event}
 use Rattle.po_history.specs.declared.event.Event.TheVariants.{Issue, Abort}
 use Rattle.po_accepted.specs.WaitingCalls.{is_of, has_number}
 use Rattle.po_accepted.proofs.Lists.{found_passes}
-use Rattle.po_actions.specs.ObjectState.{ObjectState}
+use Rattle.po_engine.specs.ObjectState.{ObjectState}
 use Rattle.po_actions.specs.View.{View, IsInOnePlace}
 use Rattle.po_accepted.specs.Finding.{IsFound}
 use Rattle.po_actions.specs.ProtectedAction.{IsProtectedAction, IsAbortOf, IsAbortOfCall}

@@ -1,7 +1,7 @@
 //! Reconciliation: whether the history of a closed object says what its callers were answered.
 
 ghost use Rattle.std.specs.Prelude.{◌≡◌, ◌⊎◌, ◌↔◌, [], IsOk};
-ghost use Rattle.po_actions.specs.ObjectState.{opening_state};
+ghost use Rattle.po_engine.specs.ObjectState.{opening_state};
 ghost use Rattle.po_actions.specs.Cutting.{AreVolumes, Leads};
 ghost use Rattle.po_receipts.specs.Agreement.{IsAgreed, IsFaultOf, history_of};
 ghost use Rattle.po_receipts.specs.Answers.{AnswersAreOwn, HasNoOthers, NonePending};

@@ -7,8 +7,8 @@ use Rattle.po_calls.specs.declared.call.Call.{Call}
 use Rattle.po_history.specs.declared.event.Event.{Event}
 use Rattle.po_history.specs.declared.event.Event.TheVariants.{Issue, Ran, Abort, Tick, Final, Serve, Break, Expire}
 use Rattle.po_accepted.specs.WaitingCalls.{is_on}
-use Rattle.po_actions.specs.ObjectState.{ObjectState, counts_in}
-use Rattle.po_actions.specs.Step.{step, Needs, replay, IsLegal}
+use Rattle.po_engine.specs.ObjectState.{ObjectState, counts_in}
+use Rattle.po_engine.specs.Step.{step, Needs, replay, IsLegal}
 use Rattle.po_actions.specs.Making.{Making}
 use Rattle.po_accepted.proofs.Lists.{found_on}
 use Rattle.po_actions.proofs.Wells.{InRange, range-step}

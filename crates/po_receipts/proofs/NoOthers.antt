@@ -16,8 +16,8 @@ use Rattle.po_history.specs.Histories.{VolumeView, RunOn, joined}
 use Rattle.po_accepted.specs.declared.ended.Ended.{Ended}
 use Rattle.po_actions.specs.Base.{is_issue, is_ran}
 use Rattle.po_actions.specs.View.{View}
-use Rattle.po_actions.specs.ObjectState.{ObjectState, opening_state}
-use Rattle.po_actions.specs.Step.{replay, IsLegal}
+use Rattle.po_engine.specs.ObjectState.{ObjectState, opening_state}
+use Rattle.po_engine.specs.Step.{replay, IsLegal}
 use Rattle.po_actions.specs.Public.{NamesPublic}
 use Rattle.po_actions.specs.Tickets.{CoreView}
 use Rattle.po_actions.specs.Cutting.{AreVolumes, Leads}

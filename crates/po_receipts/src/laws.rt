@@ -2,7 +2,7 @@
 
 ghost use Rattle.std.specs.Prelude.{◌≡◌, ◌↔◌, true, ◌⊎◌, [], All, count_by, sum_by};
 ghost use Rattle.po_actions.specs.Base.{is_issue, is_ran};
-ghost use Rattle.po_actions.specs.ObjectState.{opening_state};
+ghost use Rattle.po_engine.specs.ObjectState.{opening_state};
 ghost use Rattle.po_actions.specs.Cutting.{AreVolumes, Leads};
 ghost use Rattle.po_receipts.specs.Passes.{IsTallied};
 ghost use Rattle.po_receipts.specs.Agreement.{IsAgreed, history_of};

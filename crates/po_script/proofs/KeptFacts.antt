@@ -11,9 +11,9 @@ use Rattle.po_history.specs.declared.event.Event.TheVariants.{Issue, Ran, Abort,
 use Rattle.po_accepted.specs.WaitingCalls.{is_on, has_number, mark}
 use Rattle.std.specs.Prelude.{map, not, count_by}
 use Rattle.po_actions.specs.declared.refusal.Refusal.{Refusal}
-use Rattle.po_actions.specs.ObjectState.{ObjectState, counts_in, gate_in}
+use Rattle.po_engine.specs.ObjectState.{ObjectState, counts_in, gate_in}
 use Rattle.po_actions.specs.ProtectedAction.{inner_events, begun, after_action, after_abort_of, without_event}
-use Rattle.po_actions.specs.Step.{is_full, end_call, queue, enter, land, run_body, arrive, take_out, serve, cancel, abort, step, replay}
+use Rattle.po_engine.specs.Step.{is_full, end_call, queue, enter, land, run_body, arrive, take_out, serve, cancel, abort, step, replay}
 use Rattle.po_actions.specs.View.{View}
 use Rattle.po_language.specs.declared.command.Operation.{Operation}
 use Rattle.po_language.specs.declared.command.Operation.TheVariants.{Call as CallEntry, Run, Read, Abort as AbortCall, Tick as MoveClock, Finalize, Show}

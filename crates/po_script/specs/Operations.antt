@@ -6,7 +6,7 @@ use Rattle.po_unit.specs.Meaning.{Meaning}
 use Rattle.po_history.specs.declared.event.Event.TheVariants.{Ran, Tick as TickEvent, Final}
 use Rattle.po_actions.specs.declared.refusal.Refusal.{Refusal}
 use Rattle.po_actions.specs.declared.refusal.Refusal.TheVariants.{OutOfMemory}
-use Rattle.po_actions.specs.ObjectState.{counts_in}
+use Rattle.po_engine.specs.ObjectState.{counts_in}
 use Rattle.po_actions.specs.Commands.{issue_of, reply_of}
 use Rattle.po_actions.specs.View.{View, ended_now}
 use Rattle.po_actions.specs.ProtectedAction.{after_action, after_abort, abort_answer}

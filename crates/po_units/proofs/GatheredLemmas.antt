@@ -8,8 +8,8 @@ use Rattle.po_accepted.specs.declared.ended.Ended.{Ended}
 use Rattle.po_history.specs.declared.event.Event.{Event}
 use Rattle.po_history.specs.declared.event.Event.TheVariants.{Issue, Ran, Abort, Tick, Final, Serve, Break, Expire}
 use Rattle.po_accepted.specs.WaitingCalls.{has_number, is_on, is_due}
-use Rattle.po_actions.specs.ObjectState.{ObjectState, IsAtRest}
-use Rattle.po_actions.specs.Step.{step, IsLegal, replay}
+use Rattle.po_engine.specs.ObjectState.{ObjectState, IsAtRest}
+use Rattle.po_engine.specs.Step.{step, IsLegal, replay}
 use Rattle.po_accepted.specs.Finding.{IsFound}
 use Rattle.po_actions.specs.View.{newly_ended}
 use Rattle.po_units.specs.Gathered.{BeginsAnew, servings}

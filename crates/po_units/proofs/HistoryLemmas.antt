@@ -16,16 +16,16 @@ use Rattle.po_history.specs.declared.event.Event.{Event}
 use Rattle.po_history.specs.declared.event.Event.TheVariants.{Issue, Ran, Abort, Tick, Final, Serve, Break, Expire}
 use Rattle.po_accepted.specs.WaitingCalls.{is_on, has_number, mark}
 use Rattle.po_actions.specs.Headline.{Headline}
-use Rattle.po_actions.specs.ObjectState.{ObjectState, counts_in, gate_in, IsAtRest}
+use Rattle.po_engine.specs.ObjectState.{ObjectState, counts_in, gate_in, IsAtRest}
 use Rattle.po_accepted.specs.Ending.{ended_as}
-use Rattle.po_actions.specs.Step.{is_full, end_call, queue, enter, land, run_body, arrive, take_out, serve, cancel, abort, step, Needs, replay, IsLegal}
+use Rattle.po_engine.specs.Step.{is_full, end_call, queue, enter, land, run_body, arrive, take_out, serve, cancel, abort, step, Needs, replay, IsLegal}
 use Rattle.po_actions.specs.Public.{NamesPublic, AllPublic}
 use Rattle.po_actions.specs.View.{View}
 use Rattle.po_actions.specs.Cutting.{AreVolumes}
 use Rattle.po_history.specs.Histories.{VolumeView, joined}
 use Rattle.po_accepted.proofs.Lists.{found_on}
 use Rattle.po_actions.proofs.Runs.{replay-append, legal-append}
-use Rattle.po_actions.proofs.Wells.{All-without}
+use Rattle.po_engine.proofs.Absent.{All-without}
 use Rattle.po_units.specs.Completed.{values_of, opening}
 use Rattle.po_units.specs.Gathered.{issued}
 

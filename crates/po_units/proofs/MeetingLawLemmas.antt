@@ -8,8 +8,8 @@ use Rattle.po_calls.specs.declared.call.Deadline.{Deadline}
 use Rattle.po_history.specs.declared.event.Event.{Event}
 use Rattle.po_history.specs.declared.event.Event.TheVariants.{Issue, Serve}
 use Rattle.po_actions.specs.Making.{Making}
-use Rattle.po_actions.specs.ObjectState.{IsAtRest}
-use Rattle.po_actions.specs.Step.{step, Needs, IsLegal, replay}
+use Rattle.po_engine.specs.ObjectState.{IsAtRest}
+use Rattle.po_engine.specs.Step.{step, Needs, IsLegal, replay}
 use Rattle.po_actions.proofs.Runs.{replay-append}
 use Rattle.po_units.specs.Completed.{opening, state_after, completed_by}
 use Rattle.po_units.specs.Gathered.{servings, issued, with_own_value}

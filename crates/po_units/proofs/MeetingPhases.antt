@@ -4,7 +4,7 @@ use Rattle.po_calls.specs.declared.call.Call.{Call}
 use Rattle.po_calls.specs.declared.call.Deadline.{Deadline}
 use Rattle.po_history.specs.declared.event.Event.{Event}
 use Rattle.po_history.specs.declared.event.Event.TheVariants.{Issue, Serve}
-use Rattle.po_actions.specs.Step.{step, Needs, IsLegal, replay}
+use Rattle.po_engine.specs.Step.{step, Needs, IsLegal, replay}
 use Rattle.po_actions.proofs.Runs.{replay-append}
 use Rattle.po_units.specs.Gathered.{servings, issued}
 use Rattle.po_classic_units.specs.Meeting.{MeetingState, new_meeting}

@@ -13,11 +13,11 @@ use Rattle.po_calls.specs.declared.end.End.TheVariants.{Cancelled, ProgramError}
 use Rattle.po_history.specs.declared.event.Event.{Event}
 use Rattle.po_history.specs.declared.event.Event.TheVariants.{Issue, Ran, Abort, Tick, Final, Serve, Break, Expire}
 use Rattle.po_accepted.specs.WaitingCalls.{is_on, has_number, mark}
-use Rattle.po_actions.specs.ObjectState.{gate_in}
-use Rattle.po_actions.specs.Step.{step, arrive, queue, end_call, cancel, abort, is_full, Needs}
+use Rattle.po_engine.specs.ObjectState.{gate_in}
+use Rattle.po_engine.specs.Step.{step, arrive, queue, end_call, cancel, abort, is_full, Needs}
 use Rattle.po_accepted.specs.Ending.{ended_as}
 use Rattle.po_accepted.specs.Finding.{without_first}
-use Rattle.po_actions.proofs.Wells.{All-without}
+use Rattle.po_engine.proofs.Absent.{All-without}
 use Rattle.po_units.specs.Completed.{values_of, completed_by}
 use Rattle.po_units.specs.Gathered.{issued}
 use Rattle.po_classic_units.specs.Meeting.{MeetingState, new_meeting}

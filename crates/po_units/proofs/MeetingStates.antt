@@ -8,10 +8,10 @@ use Rattle.po_calls.specs.declared.call.Call.{Call}
 use Rattle.po_history.specs.declared.event.Event.{Event}
 use Rattle.po_history.specs.declared.event.Event.TheVariants.{Issue, Ran, Abort, Tick, Final, Serve, Break, Expire}
 use Rattle.po_accepted.specs.WaitingCalls.{is_on, has_number, is_due}
-use Rattle.po_actions.specs.ObjectState.{ObjectState, gate_in}
-use Rattle.po_actions.specs.Step.{step, IsLegal, replay}
+use Rattle.po_engine.specs.ObjectState.{ObjectState, gate_in}
+use Rattle.po_engine.specs.Step.{step, IsLegal, replay}
 use Rattle.po_accepted.specs.Finding.{IsFound}
-use Rattle.po_actions.proofs.Sums.{sum_by-cons}
+use Rattle.po_engine.proofs.Sums.{sum_by-cons}
 use Rattle.po_units.specs.Gathered.{BeginsAnew}
 use Rattle.po_classic_units.specs.Meeting.{MeetingState, meeting_meaning, meeting_gate, new_meeting}
 

@@ -8,8 +8,8 @@ use Rattle.po_calls.specs.declared.call.Call.{Call}
 use Rattle.po_history.specs.declared.event.Event.{Event}
 use Rattle.po_history.specs.declared.event.Event.TheVariants.{Issue, Ran, Abort, Tick, Final, Serve, Break, Expire}
 use Rattle.po_accepted.specs.WaitingCalls.{is_on}
-use Rattle.po_actions.specs.ObjectState.{gate_in, IsQuiet, IsAtRest}
-use Rattle.po_actions.specs.Step.{step, serve, Needs, IsLegal, replay}
+use Rattle.po_engine.specs.ObjectState.{gate_in, IsQuiet, IsAtRest}
+use Rattle.po_engine.specs.Step.{step, serve, Needs, IsLegal, replay}
 use Rattle.po_accepted.specs.Finding.{without_first}
 use Rattle.po_units.specs.Gathered.{with_own_value, servings}
 use Rattle.po_classic_units.specs.Meeting.{MeetingState, meeting_gate}

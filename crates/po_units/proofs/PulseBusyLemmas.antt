@@ -11,10 +11,10 @@ use Rattle.po_calls.specs.declared.end.End.TheVariants.{Completed}
 use Rattle.po_history.specs.declared.event.Event.{Event}
 use Rattle.po_history.specs.declared.event.Event.TheVariants.{Issue, Ran, Abort, Tick, Final, Serve, Break, Expire}
 use Rattle.po_accepted.specs.WaitingCalls.{is_on}
-use Rattle.po_actions.specs.ObjectState.{ObjectState, gate_in, IsQuiet}
+use Rattle.po_engine.specs.ObjectState.{ObjectState, gate_in, IsQuiet}
 use Rattle.po_accepted.specs.Finding.{without_first}
-use Rattle.po_actions.specs.Step.{take_out, serve, land, step, MayBegin, Needs, replay, end_call}
-use Rattle.po_actions.proofs.Sums.{sum_by-cons}
+use Rattle.po_engine.specs.Step.{take_out, serve, land, step, MayBegin, Needs, replay, end_call}
+use Rattle.po_engine.proofs.Sums.{sum_by-cons}
 use Rattle.po_classic_units.specs.Pulse.{PulseState, pulse_meaning, pulse_body}
 use Rattle.po_units.specs.Gathered.{servings, with_own_value}
 use Rattle.po_units.proofs.GatheredLemmas.{EndsAtRest}

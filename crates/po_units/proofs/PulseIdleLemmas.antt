@@ -14,8 +14,8 @@ use Rattle.po_history.specs.declared.event.Event.{Event}
 use Rattle.po_history.specs.declared.event.Event.TheVariants.{Issue, Ran, Abort, Tick, Final, Serve, Break, Expire}
 use Rattle.po_accepted.specs.WaitingCalls.{has_number, is_on, mark}
 use Rattle.po_accepted.specs.Finding.{without_first}
-use Rattle.po_actions.specs.Step.{land, enter, is_full, arrive, queue, cancel, abort, Needs, end_call}
-use Rattle.po_actions.proofs.Sums.{sum_by-cons}
+use Rattle.po_engine.specs.Step.{land, enter, is_full, arrive, queue, cancel, abort, Needs, end_call}
+use Rattle.po_engine.proofs.Sums.{sum_by-cons}
 use Rattle.po_units.specs.Completed.{values_of, completed_at}
 use Rattle.po_units.specs.Gathered.{issued}
 use Rattle.po_classic_units.specs.Pulse.{PulseState, pulse_meaning, signal}

@@ -10,8 +10,8 @@ use Rattle.po_history.specs.declared.event.Event.TheVariants.{Issue, Ran, Abort,
 use Rattle.po_actions.specs.Making.{Making}
 use Rattle.po_actions.specs.Public.{NamesPublic, AllPublic}
 use Rattle.po_accepted.specs.WaitingCalls.{has_number}
-use Rattle.po_actions.specs.ObjectState.{IsAtRest}
-use Rattle.po_actions.specs.Step.{Needs, IsLegal, replay}
+use Rattle.po_engine.specs.ObjectState.{IsAtRest}
+use Rattle.po_engine.specs.Step.{Needs, IsLegal, replay}
 use Rattle.po_units.specs.Completed.{opening, state_after, completed_at}
 use Rattle.po_units.specs.Gathered.{servings, issued, with_own_value}
 use Rattle.po_classic_units.specs.Pulse.{PulseState, IsNewPulse, pulse_meaning, pulse_declarations}

@@ -7,8 +7,8 @@ use Rattle.po_calls.specs.declared.end.End.TheVariants.{Completed}
 use Rattle.po_history.specs.declared.event.Event.{Event}
 use Rattle.po_history.specs.declared.event.Event.TheVariants.{Issue, Serve}
 use Rattle.po_actions.specs.Making.{Making}
-use Rattle.po_actions.specs.ObjectState.{ObjectState, opening_state}
-use Rattle.po_actions.specs.Step.{step, replay}
+use Rattle.po_engine.specs.ObjectState.{ObjectState, opening_state}
+use Rattle.po_engine.specs.Step.{step, replay}
 use Rattle.po_actions.specs.View.{newly_ended}
 
 -- the value of a call that completes, before others

@@ -1,14 +1,12 @@
 -- The end that the table gives is the one that is seen, and nothing but the tickets and the room changes.
-use Rattle.std.proofs.Common.{◌≡◌, ◌∙◌, ap, sym, refl, None, if◌then◌else◌}
-use Rattle.slab.specs.Slab.{slab_len}
+use Rattle.std.proofs.Common.{◌∙◌, ap, sym, refl, subst, None}
 use Rattle.po_calls.specs.Calls.{kept}
 use Rattle.po_accepted.specs.Tickets.{end_at}
-use Rattle.po_accepted.specs.Calls.{key_of}
+use Rattle.po_accepted.specs.Calls.{key_of, IsLeft}
 use Rattle.po_accepted.proofs.CallPlaces.{place_is, end_is, leaves}
 use Rattle.po_accepted.proofs.KeptSteps.{ticket_set}
 use Rattle.po_accepted.proofs.CallSteps.{collected}
 use Rattle.po_accepted.proofs.calls.Calls.collect.Goals as goal
-use Rattle.po_accepted.proofs.calls.Calls.collect.Goals.{then-self, else-self}
 
 pub returns-in_err-end-clause-end : goal.returns-in_err-end-clause-end
 returns-in_err-end-clause-end g c =
@@ -21,11 +19,8 @@ returns-in_err-end-clause-end g c =
 pub invariant_of-self-2 : goal.invariant_of-self-2
 invariant_of-self-2 g c =
     let s = c.self.inside in let e = c.in_ok-end.ensures in
-    let left : c.if-self.self ≡ (if s.is_fixed then s.most else slab_len c.collect.new.self.calls) = elim c.if-self.branch [
-      | then-self w ↦ rw w.if-self.true w.self-is
-      | else-self w ↦ rw w.if-self.false (w.self-is ∙ w.len-self-inside.ensures)
-    ] in
-    (collected s.table c.collect.new.self s.queues s.keys.items s.ended.items s.before.items s.ended_now s.first s.next s.hand s.most c.if-self.self s.is_fixed c.args.ticket c.in_ok-end.end e.exact e.updates e.len e.capacity e.last left c.self.invariant).keeps
+    let given = subst (λ n. IsLeft s.is_fixed s.most n c.args.ticket.key s.queues.reserved c.room_left-self-inside.result) c.len-len.ensures (subst (λ n. IsLeft s.is_fixed s.most c.len-len.result c.args.ticket.key n c.room_left-self-inside.result) c.reserved.ensures c.room_left-self-inside.ensures) in
+    (collected s.table c.collect.new.self s.queues s.keys.items s.ended.items s.before.items s.ended_now s.first s.next s.hand s.most c.room_left-self-inside.result s.is_fixed c.args.ticket c.in_ok-end.end e.exact e.updates e.len e.capacity e.last e.next_key given c.self.invariant).keeps
 
 pub returns-clause-end : goal.returns-clause-end
 returns-clause-end g c =

@@ -1,4 +1,4 @@
-use Rattle.std.proofs.Common.{◌∙◌, sym}
+use Rattle.std.proofs.Common.{◌∙◌}
 use Rattle.po_accepted.specs.Calls.{key_of}
 use Rattle.po_accepted.proofs.TicketSteps.{ticket_among}
 use Rattle.po_accepted.proofs.calls.Calls.waiting_call.Goals as goal

@@ -1,5 +1,5 @@
 use Rattle.std.proofs.Common.{sym, subst}
-use Rattle.po_actions.specs.ObjectState.{IsAtRest}
+use Rattle.po_engine.specs.ObjectState.{IsAtRest}
 use Rattle.po_actions.proofs.TicketLemmas.{issued_collected}
 use Rattle.po_actions.proofs.object_core.Core.collect.Goals as goal
 

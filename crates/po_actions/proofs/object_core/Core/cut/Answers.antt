@@ -1,5 +1,5 @@
 use Rattle.std.proofs.Common.{sym, subst}
-use Rattle.po_actions.specs.ObjectState.{IsAtRest}
+use Rattle.po_engine.specs.ObjectState.{IsAtRest}
 use Rattle.po_actions.specs.Tickets.{AreIssued}
 use Rattle.po_actions.proofs.CutLemmas.{joins, leads_there, keeps_arrivals}
 use Rattle.po_actions.proofs.object_core.Core.cut.Goals as goal

@@ -1,4 +1,4 @@
-use Rattle.std.proofs.Common.{◌≡◌, ◌+◌, ◌∙◌, Some, sym, subst, ap, ap₂, refl, arith, length, ◌&&◌, false, true, None}
+use Rattle.std.proofs.Common.{◌≡◌, ◌+◌, ◌∙◌, Some, sym, subst, ap, ap₂, refl, arith, length, ◌&&◌, false, true}
 use Rattle.std.specs.List.{find}
 use Rattle.po_index.specs.Numbering.{entry_count}
 use Rattle.po_history.specs.declared.event.Event.TheVariants.{Abort}
@@ -7,7 +7,7 @@ use Rattle.po_accepted.specs.WaitingCalls.{has_number}
 use Rattle.po_accepted.specs.Tickets.{is_live}
 use Rattle.po_accepted.specs.Calls.{HasTicket, key_of}
 use Rattle.po_actions.specs.History.{IsKept}
-use Rattle.po_actions.specs.Step.{MayBegin, abort}
+use Rattle.po_engine.specs.Step.{MayBegin, abort}
 use Rattle.po_actions.proofs.Histories.{kept_same, may_note_own, kept_begins}
 use Rattle.po_actions.proofs.PlacesKept.{arrived_by}
 use Rattle.po_actions.proofs.Wells.{next_abort}

@@ -1,6 +1,6 @@
 use Rattle.std.proofs.Common.{◌≡◌, ℕ, true, ◌<◌, ◌≤◌, ◌+◌, ◌∷◌, ◌++◌, [], List, length, length-append, vec_capacity, arith, sym, ◌∙◌, ap, subst, refl}
 use Rattle.po_index.specs.Numbering.{is_public}
-use Rattle.po_actions.specs.Step.{MayBegin}
+use Rattle.po_engine.specs.Step.{MayBegin}
 use Rattle.po_actions.specs.History.{IsKept}
 use Rattle.po_actions.proofs.Histories.{kept_same, may_note_issue, kept_issues}
 use Rattle.po_actions.proofs.PlacesKept.{kept_later, arrived_by}

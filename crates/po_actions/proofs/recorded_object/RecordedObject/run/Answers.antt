@@ -1,9 +1,9 @@
-use Rattle.std.proofs.Common.{◌≡◌, ℕ, ◌+◌, ◌<◌, ◌≤◌, None, length, sym, subst, ap, refl, arith, ◌∙◌, rules}
+use Rattle.std.proofs.Common.{◌≡◌, ◌+◌, ◌<◌, None, length, sym, subst, ap, refl, arith, ◌∙◌}
 use Rattle.po_history.specs.declared.event.Event.TheVariants.{Ran}
 use Rattle.po_actions.specs.History.{IsKept}
-use Rattle.po_actions.specs.Step.{MayBegin}
-use Rattle.po_actions.specs.Pick.{owed}
-use Rattle.po_actions.specs.Arrival.{AreAt, noted}
+use Rattle.po_engine.specs.Step.{MayBegin}
+use Rattle.po_engine.specs.Pick.{owed}
+use Rattle.po_engine.specs.Arrival.{AreAt, noted}
 use Rattle.po_actions.proofs.Histories.{kept_same, may_note_own, kept_begins}
 use Rattle.po_actions.proofs.PlacesKept.{arrived_by}
 use Rattle.po_actions.proofs.Recorded.{notable, keys_fit, recorded_on}

@@ -1,5 +1,5 @@
 use Rattle.std.proofs.Common.{refl, ◌∙◌}
-use Rattle.po_actions.specs.Pick.{pick}
+use Rattle.po_engine.specs.Pick.{pick}
 use Rattle.po_actions.specs.View.{last_served}
 use Rattle.po_actions.proofs.Settling.{settles_by, same_on}
 use Rattle.po_actions.proofs.Trails.{settled_there}

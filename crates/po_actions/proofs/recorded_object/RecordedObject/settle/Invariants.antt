@@ -1,5 +1,5 @@
 use Rattle.std.proofs.Common.{◌≡◌}
-use Rattle.po_actions.specs.Pick.{weight}
+use Rattle.po_engine.specs.Pick.{weight}
 use Rattle.po_actions.specs.Progress.{Settles, IsSameCommand}
 use Rattle.po_actions.proofs.recorded_object.RecordedObject.settle.Given as goal
 

@@ -1,7 +1,7 @@
 use Rattle.std.proofs.Common.{◌≡◌, ◌+◌, sym, subst, ap, ◌∙◌, length, length-drop, arith}
 use Rattle.po_actions.specs.History.{IsKept}
-use Rattle.po_actions.specs.Pick.{Fits, served_last}
-use Rattle.po_actions.specs.StateView.{IsFirstDue}
+use Rattle.po_engine.specs.Pick.{Fits, served_last}
+use Rattle.po_engine.specs.StateView.{IsFirstDue}
 use Rattle.po_actions.proofs.FirstDue.{first_from_pick}
 use Rattle.po_actions.proofs.Recorded.{notable, keys_fit, recorded_on}
 use Rattle.po_actions.proofs.Falls.{owed_falls, weight_falls}

@@ -4,7 +4,7 @@ use Rattle.po_machine.specs.MachineView.{core_of}
 use Rattle.po_object.proofs.Asking.{asked-action, asked-of}
 use Rattle.po_object.proofs.Counting.{counted-issue}
 use Rattle.po_bounded_object.proofs.LatestKept.{known-issue}
-use Rattle.po_bounded_object.proofs.Rooms.{one-more}
+use Rattle.po_accepted.proofs.TicketCounts.{one-more}
 use Rattle.po_bounded_object.proofs.hold.BoundedHold.begin.Goals as goal
 
 pub invariant_of-self-2 : goal.invariant_of-self-2

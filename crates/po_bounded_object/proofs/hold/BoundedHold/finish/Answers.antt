@@ -3,7 +3,7 @@ use Rattle.po_machine.specs.MachineView.{core_of}
 use Rattle.po_object.specs.Holds.{IsCounted}
 use Rattle.po_receipts.specs.Answers.{AskedBySeats}
 use Rattle.po_bounded_object.proofs.LatestKept.{known-collected, ended-ticket}
-use Rattle.po_bounded_object.proofs.Rooms.{one-less}
+use Rattle.po_accepted.proofs.TicketCounts.{one-less}
 use Rattle.po_bounded_object.proofs.hold.BoundedHold.finish.Goals as goal
 
 pub invariant_of-self-2 : goal.invariant_of-self-2

@@ -1,5 +1,5 @@
 use Rattle.std.proofs.Common.{sym, subst}
-use Rattle.po_actions.specs.ObjectState.{IsAtRest}
+use Rattle.po_engine.specs.ObjectState.{IsAtRest}
 use Rattle.po_actions.proofs.TicketLemmas.{issued_collected}
 use Rattle.po_machine.specs.MachineView.{core_of}
 use Rattle.po_machine.proofs.Views.{left_core}

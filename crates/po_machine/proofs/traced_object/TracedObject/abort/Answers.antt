@@ -3,8 +3,8 @@ use Rattle.std.specs.List.{find}
 use Rattle.po_accepted.specs.Finding.{IsFound}
 use Rattle.po_accepted.specs.WaitingCalls.{has_number}
 use Rattle.po_index.specs.Numbering.{entry_count}
-use Rattle.po_actions.specs.Step.{MayBegin}
-use Rattle.po_actions.specs.Pick.{owed}
+use Rattle.po_engine.specs.Step.{MayBegin}
+use Rattle.po_engine.specs.Pick.{owed}
 use Rattle.po_history.specs.declared.event.Event.TheVariants.{Abort}
 use Rattle.po_actions.proofs.PlacesKept.{arrived_by}
 use Rattle.po_actions.proofs.Wells.{next_abort}

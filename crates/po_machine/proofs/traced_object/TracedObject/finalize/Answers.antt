@@ -1,7 +1,7 @@
 use Rattle.std.proofs.Common.{ℕ, cond, ◌≡◌, None, arith, sym, ◌∙◌, ap, subst}
-use Rattle.po_actions.specs.Step.{MayBegin}
-use Rattle.po_actions.specs.Arrival.{AreAt, noted}
-use Rattle.po_actions.specs.Pick.{owed}
+use Rattle.po_engine.specs.Step.{MayBegin}
+use Rattle.po_engine.specs.Arrival.{AreAt, noted}
+use Rattle.po_engine.specs.Pick.{owed}
 use Rattle.po_history.specs.declared.event.Event.TheVariants.{Final}
 use Rattle.po_actions.proofs.PlacesKept.{arrived_by}
 use Rattle.po_machine.specs.MachineHistory.{opening_of}

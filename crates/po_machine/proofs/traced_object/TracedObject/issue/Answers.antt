@@ -1,6 +1,6 @@
 use Rattle.std.proofs.Common.{◌≡◌, true, ◌<◌, arith, sym, ◌∙◌, ap, subst, refl}
 use Rattle.po_index.specs.Numbering.{is_public}
-use Rattle.po_actions.specs.Step.{MayBegin}
+use Rattle.po_engine.specs.Step.{MayBegin}
 use Rattle.po_actions.proofs.PlacesKept.{arrived_by}
 use Rattle.po_machine.specs.MachineHistory.{opening_of}
 use Rattle.po_machine.proofs.MachineHistories.{traced_same, traced_issue, traced_later, traced_place}

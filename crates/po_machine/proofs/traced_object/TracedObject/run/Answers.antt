@@ -1,7 +1,7 @@
 use Rattle.std.proofs.Common.{◌≡◌, ◌<◌, arith, sym, ◌∙◌, ap, subst}
-use Rattle.po_actions.specs.Step.{MayBegin}
-use Rattle.po_actions.specs.Arrival.{AreAt}
-use Rattle.po_actions.specs.Pick.{owed}
+use Rattle.po_engine.specs.Step.{MayBegin}
+use Rattle.po_engine.specs.Arrival.{AreAt}
+use Rattle.po_engine.specs.Pick.{owed}
 use Rattle.po_actions.specs.View.{next_place}
 use Rattle.po_history.specs.declared.event.Event.TheVariants.{Ran}
 use Rattle.po_actions.proofs.PlacesKept.{arrived_by}

@@ -1,5 +1,5 @@
 use Rattle.std.proofs.Common.{◌≡◌, refl, ◌∙◌, true, false}
-use Rattle.po_actions.specs.Pick.{pick}
+use Rattle.po_engine.specs.Pick.{pick}
 use Rattle.po_actions.specs.Progress.{Happens}
 use Rattle.po_actions.specs.View.{last_served}
 use Rattle.po_actions.proofs.Settling.{settles_by, same_on}

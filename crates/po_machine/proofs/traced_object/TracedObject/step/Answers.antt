@@ -1,7 +1,7 @@
 use Rattle.std.proofs.Common.{◌∙◌, sym, subst, ap, arith}
 use Rattle.po_machine.specs.MachineHistory.{opening_of}
-use Rattle.po_actions.specs.Pick.{Fits}
-use Rattle.po_actions.specs.StateView.{IsFirstDue}
+use Rattle.po_engine.specs.Pick.{Fits}
+use Rattle.po_engine.specs.StateView.{IsFirstDue}
 use Rattle.po_actions.proofs.Falls.{weight_falls}
 use Rattle.po_actions.proofs.FirstDue.{first_from_pick}
 use Rattle.po_machine.proofs.MachineHistories.{traced_fits, traced_rests, traced_in, traced_room, traced_later}

@@ -1,0 +1,660 @@
+/* Protected objects of Ada 2022 (ISO/IEC 8652:2023, 9.4 to 9.5.4) for threads of POSIX, over the proved engine of pobj.h.
+
+   A program describes an object once, by its data and an array of entries, each with a barrier and a body:
+
+       static const pobj_entry entries[] = {{"put", has_room, put}, {"get", has_item, get}};
+
+       pobj_protected_make(&object, &buffer, entries, 2);
+       pobj_entry_call(&object, GET, &item, NULL);
+
+   Threads call its entries, and an entry call waits while its barrier is closed. A mutex guards the object. Whoever holds it
+   carries out all that has become possible, the bodies of other callers too, and behind the unlock it wakes exactly the
+   callers whose calls have ended. Each caller that waits has a condition variable of its own. No function here locks a mutex
+   while it holds another.
+
+   Barriers, bodies, procedures and functions run under the mutex, in whichever thread carries them out. They end by their
+   return alone: not by longjmp, an exception of C++ or the cancellation of their thread. They make no entry call, which is
+   potentially blocking (9.5.1). They may call procedures and functions of other objects, as long as locks are always taken in
+   the same order. An operation on the object itself is refused there, and pobj_entry_count may be asked everywhere. There are
+   no priorities and no ceilings (D.3).
+
+   This is a header alone, of C11 or C++17, for POSIX.1-2008. Under -std=c11, define _POSIX_C_SOURCE as 200809L before the
+   first header. Names that begin with pobj_threads_ aren't for programs. */
+#ifndef POBJ_THREADS_H
+#define POBJ_THREADS_H
+
+#include "pobj.h"
+
+#include <pthread.h>
+#include <stdbool.h>
+#include <stddef.h>
+#include <stdint.h>
+#include <stdlib.h>
+#include <time.h>
+
+#ifndef CLOCK_MONOTONIC
+#error "pobj_threads.h is for POSIX.1-2008: define _POSIX_C_SOURCE as 200809L before the first header"
+#endif
+
+typedef struct pobj_protected pobj_protected;
+typedef struct pobj_call pobj_call;
+
+/* How a call ended. */
+typedef enum {
+    POBJ_CALL_COMPLETED,     /* a body completed it (9.5.2) */
+    POBJ_CALL_ERROR,         /* a body completed it by an error, whose number is in the call's record */
+    POBJ_CALL_ABORTED,       /* it is cancelled by pobj_abort (9.5.3, 9.8) */
+    POBJ_CALL_EXPIRED,       /* it is cancelled: its time has come, or it is conditional and would wait (9.7.2, 9.7.3) */
+    POBJ_CALL_PROGRAM_ERROR, /* the object is finalized (9.4), a barrier raised (9.5.3), or the queue was full (D.7) */
+    POBJ_CALL_NO_MEMORY,     /* there was no memory to accept or to queue it; unless it was requeued, nothing has changed */
+    POBJ_CALL_MISUSE         /* no such entry or time, a record that is in use, or a thread that is inside the object */
+} pobj_outcome;
+
+/* An entry (9.5.2). */
+typedef struct {
+    const char *name;                        /* for the reader */
+    bool (*barrier)(pobj_protected *object); /* whether it is open, or what pobj_raise_barrier answers; NULL: always open */
+    int (*body)(pobj_call *call);            /* POBJ_COMPLETED, POBJ_FAILED, or what pobj_raise or a requeue answers */
+} pobj_entry;
+
+/* A protected object (9.4). Barriers, procedures and functions read the first two parts; the rest isn't for programs. */
+struct pobj_protected {
+    void *data;               /* the program's own, which the mutex guards */
+    uint64_t evaluated;       /* the entry whose barrier is evaluated: what one barrier of a family asks for (9.5.2) */
+    const pobj_entry *entries;
+    uint64_t number;          /* of the entries */
+    bool raised;              /* the barrier that is evaluated raises */
+    bool finalized;
+    pobj_object calls;
+    pthread_mutex_t mutex;
+};
+
+/* The record of a call, which begins as {0}. A thread may use one for all of its calls, one after the other. It needs one only
+   to be told the number of an error, or to be aborted. A body reads the first four parts; the rest isn't for programs. */
+struct pobj_call {
+    pobj_protected *object;   /* that the call is on; NULL: none is under way */
+    uint64_t entry;           /* whose body runs */
+    void *parameters;         /* what the caller passed */
+    int error;                /* where the call ended by POBJ_CALL_ERROR: its number */
+    bool aborted;
+    bool due;                 /* it is conditional, or its time has come */
+    bool without_abort;       /* its last requeue was without abort */
+    bool can_wait;            /* mutex and wake are made */
+    bool woken;               /* the call has ended; the call's own mutex guards this */
+    pobj_outcome outcome;
+    pobj_protected *target;   /* of a requeue */
+    uint64_t target_entry;
+    size_t key;               /* with the number, the ticket of the queued call */
+    uint64_t number;          /* 0: it isn't queued */
+    pobj_call *behind;        /* the next of a list */
+    pthread_mutex_t mutex;
+    pthread_cond_t wake;
+};
+
+/* Inside a barrier: its evaluation raises, so that all queued calls end by POBJ_CALL_PROGRAM_ERROR (9.5.3). Answers what the
+   barrier is to return. */
+static inline bool pobj_raise_barrier(pobj_protected *object) {
+    object->raised = true;
+    return false;
+}
+
+/* Inside a body. All but the first answer what the body is to return. */
+
+/* The data of the object. */
+static inline void *pobj_data(const pobj_call *call) {
+    return call->object->data;
+}
+
+/* Completes the call by an error of this number, which isn't 0: its caller's answer is POBJ_CALL_ERROR (9.5.2). */
+static inline int pobj_raise(pobj_call *call, int error) {
+    call->error = error;
+    return POBJ_COMPLETED;
+}
+
+static inline int pobj_threads_target(pobj_call *call, pobj_protected *object, uint64_t entry, int how, bool without_abort) {
+    call->target = object;
+    call->target_entry = entry;
+    call->without_abort = without_abort;
+    return how;
+}
+
+/* Requeues the call to an entry of this object, without abort: from now on it can't be cancelled, neither by pobj_abort nor
+   by its time, until it is requeued with abort (9.5.4). The entry takes the same parameters, or none. */
+static inline int pobj_requeue(pobj_call *call, uint64_t entry) {
+    return pobj_threads_target(call, call->object, entry, POBJ_REQUEUED, true);
+}
+
+/* The same with abort: it can be cancelled there, and is if it is aborted, or is due and would wait (9.5.4). */
+static inline int pobj_requeue_with_abort(pobj_call *call, uint64_t entry) {
+    return pobj_threads_target(call, call->object, entry, POBJ_REQUEUED_WITH_ABORT, false);
+}
+
+/* Requeues the call without abort to an entry of another object. It is issued there as soon as this protected action is over
+   and its lock is left (9.5.4); its caller sleeps on. Required is that the object isn't destroyed before that. */
+static inline int pobj_requeue_elsewhere(pobj_call *call, pobj_protected *object, uint64_t entry) {
+    return pobj_threads_target(call, object, entry, POBJ_REQUEUED_ELSEWHERE, true);
+}
+
+/* The same with abort. */
+static inline int pobj_requeue_elsewhere_with_abort(pobj_call *call, pobj_protected *object, uint64_t entry) {
+    return pobj_threads_target(call, object, entry, POBJ_REQUEUED_ELSEWHERE, false);
+}
+
+/* What carries out the calls. A call's record is guarded by the mutex of the object that the call is on, but for what is said
+   otherwise of a part; while a call is on its way to another object, it is of the thread that takes it there. */
+
+typedef struct {
+    pobj_call *first, *last;
+} pobj_threads_list;
+
+/* A protected action: what one thread does on an object between its lock and its unlock (9.5.1). */
+typedef struct {
+    pobj_protected *object;
+    pobj_call *own;           /* the call of this very thread, which needs no waking */
+    bool own_ended;
+    pobj_threads_list ended;  /* calls of other threads, which are to be woken */
+    pobj_threads_list moved;  /* calls that are to be issued on other objects */
+    pobj_step step;
+} pobj_threads_action;
+
+static inline void pobj_threads_append(pobj_threads_list *list, pobj_call *call) {
+    call->behind = NULL;
+    if (list->first == NULL)
+        list->first = call;
+    else
+        list->last->behind = call;
+    list->last = call;
+}
+
+static inline pobj_call *pobj_threads_take(pobj_threads_list *list) {
+    pobj_call *call = list->first;
+    if (call != NULL)
+        list->first = call->behind;
+    return call;
+}
+
+static inline pobj_threads_action pobj_threads_action_of(pobj_call *own) {
+    pobj_threads_action action = {NULL, own, false, {NULL, NULL}, {NULL, NULL}, {0, 0, 0}};
+    return action;
+}
+
+/* A call leaves an object only under that object's mutex. So who has locked the object that the call seemed to be on, and
+   still finds it there, may look at the call. */
+static inline void pobj_threads_place(pobj_call *call, pobj_protected *object) {
+    __atomic_store_n(&call->object, object, __ATOMIC_RELEASE);
+}
+
+static inline pobj_protected *pobj_threads_where(const pobj_call *call) {
+    return __atomic_load_n(&call->object, __ATOMIC_SEQ_CST);
+}
+
+static inline bool pobj_threads_is_aborted(const pobj_call *call) {
+    return __atomic_load_n(&call->aborted, __ATOMIC_SEQ_CST);
+}
+
+static inline bool pobj_threads_make_wake(pobj_call *call) {
+    pthread_condattr_t clock;
+    if (pthread_condattr_init(&clock) != 0)
+        return false;
+    bool made = pthread_condattr_setclock(&clock, CLOCK_MONOTONIC) == 0 && pthread_cond_init(&call->wake, &clock) == 0;
+    pthread_condattr_destroy(&clock);
+    return made;
+}
+
+/* Makes what the caller sleeps on, once for a call. False: the system refused it. */
+static inline bool pobj_threads_can_wait(pobj_call *call) {
+    if (call->can_wait)
+        return true;
+    call->woken = false;
+    if (pthread_mutex_init(&call->mutex, NULL) != 0)
+        return false;
+    call->can_wait = pobj_threads_make_wake(call);
+    if (!call->can_wait)
+        pthread_mutex_destroy(&call->mutex);
+    return call->can_wait;
+}
+
+/* The call has ended so. */
+static inline void pobj_threads_end(pobj_threads_action *action, pobj_call *call, pobj_outcome outcome) {
+    call->outcome = outcome;
+    call->number = 0;
+    if (call == action->own)
+        action->own_ended = true;
+    else
+        pobj_threads_append(&action->ended, call);
+    pobj_threads_place(call, NULL);
+}
+
+static inline void pobj_threads_wake(pobj_call *call) {
+    pthread_mutex_lock(&call->mutex);
+    call->woken = true;
+    pthread_cond_signal(&call->wake);
+    pthread_mutex_unlock(&call->mutex);
+}
+
+/* What is known of the call where it is issued or requeued. */
+static inline uint64_t pobj_threads_marks(const pobj_call *call) {
+    uint64_t due = call->due ? (uint64_t)POBJ_DUE : 0;
+    return pobj_threads_is_aborted(call) ? due | POBJ_ABORTED : due;
+}
+
+static inline uint64_t pobj_threads_barrier(pobj_protected *object, uint64_t entry) {
+    bool (*barrier)(pobj_protected *) = object->entries[entry].barrier;
+    if (barrier == NULL)
+        return POBJ_OPEN;
+    object->evaluated = entry;
+    object->raised = false;
+    bool is_open = barrier(object);
+    if (object->raised)
+        return POBJ_RAISED;
+    return is_open ? POBJ_OPEN : POBJ_CLOSED;
+}
+
+static inline uint64_t pobj_threads_answer(pobj_threads_action *action, uint64_t entry) {
+    pobj_protected *object = action->object;
+    return pobj_answer(&object->calls, pobj_threads_barrier(object, entry), &action->step);
+}
+
+static inline pobj_call *pobj_threads_caller(const pobj_threads_action *action) {
+    return (pobj_call *)(uintptr_t)action->step.caller;
+}
+
+/* The call of the step is queued, and the barrier of an entry is asked for. */
+static inline uint64_t pobj_threads_queued(pobj_threads_action *action, uint64_t entry) {
+    pobj_call *call = pobj_threads_caller(action);
+    call->key = action->step.key;
+    call->number = action->step.number;
+    return pobj_threads_answer(action, entry);
+}
+
+/* The body has completed its call. */
+static inline uint64_t pobj_threads_complete(pobj_threads_action *action, pobj_call *call, int how, pobj_outcome outcome) {
+    uint64_t answer = pobj_body_ended(&action->object->calls, (uint64_t)how, 0, 0, &action->step);
+    pobj_threads_end(action, call, outcome);
+    return answer;
+}
+
+/* The body has requeued its call to another object. */
+static inline uint64_t pobj_threads_move(pobj_threads_action *action, pobj_call *call) {
+    uint64_t answer = pobj_body_ended(&action->object->calls, POBJ_REQUEUED_ELSEWHERE, 0, 0, &action->step);
+    pobj_threads_append(&action->moved, call);
+    pobj_threads_place(call, call->target);
+    return answer;
+}
+
+/* The body has requeued its call. */
+static inline uint64_t pobj_threads_requeue(pobj_threads_action *action, pobj_call *call, int how) {
+    if (call->target_entry >= call->target->number)
+        return pobj_threads_complete(action, call, POBJ_COMPLETED, POBJ_CALL_MISUSE);
+    if (!pobj_threads_can_wait(call))
+        return pobj_threads_complete(action, call, POBJ_COMPLETED, POBJ_CALL_NO_MEMORY);
+    if (how == POBJ_REQUEUED_ELSEWHERE)
+        return pobj_threads_move(action, call);
+    return pobj_body_ended(&action->object->calls, (uint64_t)how, call->target_entry, pobj_threads_marks(call), &action->step);
+}
+
+static inline int pobj_threads_body(pobj_protected *object, uint64_t entry, pobj_call *call) {
+    call->entry = entry;
+    call->error = 0;
+    call->number = 0;
+    pobj_threads_target(call, object, UINT64_MAX, 0, false);
+    return object->entries[entry].body(call);
+}
+
+/* Runs the body of the entry for the call of the step. */
+static inline uint64_t pobj_threads_run(pobj_threads_action *action, uint64_t entry) {
+    pobj_call *call = pobj_threads_caller(action);
+    int how = pobj_threads_body(action->object, entry, call);
+    if (how == POBJ_COMPLETED || how == POBJ_FAILED)
+        return pobj_threads_complete(action, call, how, call->error == 0 ? POBJ_CALL_COMPLETED : POBJ_CALL_ERROR);
+    if (how == POBJ_REQUEUED || how == POBJ_REQUEUED_WITH_ABORT || how == POBJ_REQUEUED_ELSEWHERE)
+        return pobj_threads_requeue(action, call, how);
+    return pobj_threads_complete(action, call, POBJ_COMPLETED, POBJ_CALL_MISUSE);
+}
+
+/* The call of the step has ended without a body. */
+static inline uint64_t pobj_threads_unserved(pobj_threads_action *action, pobj_outcome outcome) {
+    pobj_threads_end(action, pobj_threads_caller(action), outcome);
+    return pobj_next(&action->object->calls, &action->step);
+}
+
+static inline uint64_t pobj_threads_cancelled(pobj_threads_action *action) {
+    bool is_aborted = pobj_threads_is_aborted(pobj_threads_caller(action));
+    return pobj_threads_unserved(action, is_aborted ? POBJ_CALL_ABORTED : POBJ_CALL_EXPIRED);
+}
+
+/* Does what is answered, until the protected action is over. */
+static inline void pobj_threads_drive(pobj_threads_action *action, uint64_t answer) {
+    for (;;)
+        switch (pobj_action_of(answer)) {
+        case POBJ_REST:
+            return;
+        case POBJ_EVALUATE:
+            answer = pobj_threads_answer(action, pobj_entry_of(answer));
+            break;
+        case POBJ_RUN:
+            answer = pobj_threads_run(action, pobj_entry_of(answer));
+            break;
+        case POBJ_QUEUED:
+            answer = pobj_threads_queued(action, pobj_entry_of(answer));
+            break;
+        case POBJ_CANCELLED:
+            answer = pobj_threads_cancelled(action);
+            break;
+        case POBJ_PROGRAM_ERROR:
+            answer = pobj_threads_unserved(action, POBJ_CALL_PROGRAM_ERROR);
+            break;
+        default: /* a step of this header is refused only where something has written into the object */
+            abort();
+        }
+}
+
+/* Begins a protected action on the object. False: this thread is inside it. */
+static inline bool pobj_threads_enter(pobj_threads_action *action, pobj_protected *object) {
+    action->object = object;
+    return pthread_mutex_lock(&object->mutex) == 0;
+}
+
+/* Leaves the object, and wakes the callers whose calls have ended. */
+static inline void pobj_threads_unlock(pobj_threads_action *action) {
+    pthread_mutex_unlock(&action->object->mutex);
+    for (pobj_call *call; (call = pobj_threads_take(&action->ended)) != NULL;)
+        pobj_threads_wake(call);
+}
+
+/* Issues the call on the object of the action. Whether it can wait is looked at first, where it may come to that. */
+static inline uint64_t pobj_threads_accept(pobj_threads_action *action, pobj_call *call, uint64_t entry) {
+    pobj_protected *object = action->object;
+    uint64_t barrier = pobj_threads_barrier(object, entry);
+    if (barrier == POBJ_CLOSED && !call->due && !pobj_threads_can_wait(call))
+        return POBJ_NO_MEMORY;
+    uint64_t marks = pobj_threads_marks(call) | (call->without_abort ? (uint64_t)POBJ_WITHOUT_ABORT : 0);
+    return pobj_issue(&object->calls, (uint64_t)(uintptr_t)call, entry, marks, barrier, &action->step);
+}
+
+/* Issues the call on the object of the action, and does what is answered. */
+static inline void pobj_threads_issue(pobj_threads_action *action, pobj_call *call, uint64_t entry) {
+    if (action->object->finalized) {
+        pobj_threads_end(action, call, POBJ_CALL_PROGRAM_ERROR);
+        return;
+    }
+    uint64_t answer = pobj_threads_accept(action, call, entry);
+    if (pobj_action_of(answer) == POBJ_NO_MEMORY)
+        pobj_threads_end(action, call, POBJ_CALL_NO_MEMORY);
+    else
+        pobj_threads_drive(action, answer);
+}
+
+/* A call that was requeued to another object goes on there. */
+static inline void pobj_threads_go_on(pobj_threads_action *action, pobj_call *call) {
+    if (pobj_threads_enter(action, call->target)) {
+        pobj_threads_issue(action, call, call->target_entry);
+        pobj_threads_unlock(action);
+        return;
+    }
+    pobj_threads_end(action, call, POBJ_CALL_MISUSE); /* this thread is inside that object, and can't begin anew there */
+    if (call != action->own)
+        pobj_threads_wake(pobj_threads_take(&action->ended));
+}
+
+/* Ends the protected action. The calls that are requeued to other objects then go on there. */
+static inline void pobj_threads_leave(pobj_threads_action *action) {
+    pobj_threads_unlock(action);
+    for (pobj_call *call; (call = pobj_threads_take(&action->moved)) != NULL;)
+        pobj_threads_go_on(action, call);
+}
+
+/* Cancels the call, which is on the object of the action, where it is queued and may be cancelled. */
+static inline unsigned pobj_threads_withdraw(pobj_threads_action *action, pobj_call *call, bool expired) {
+    pobj_object *calls = &action->object->calls;
+    uint64_t made = POBJ_CANCEL_UNKNOWN;
+    if (call->number != 0)
+        made = pobj_cancel(calls, call->key, call->number, expired);
+    if (made == POBJ_CANCEL_MADE) {
+        pobj_threads_end(action, call, expired ? POBJ_CALL_EXPIRED : POBJ_CALL_ABORTED);
+        pobj_threads_drive(action, pobj_next(calls, &action->step));
+    } else if (expired) {
+        call->due = true;
+    }
+    return (unsigned)made;
+}
+
+/* An attempt to cancel the call, wherever it is (9.5.3). */
+static inline unsigned pobj_threads_cancel(pobj_call *call, pobj_call *own, bool expired) {
+    pobj_threads_action action = pobj_threads_action_of(own);
+    for (pobj_protected *object; (object = pobj_threads_where(call)) != NULL; pobj_threads_unlock(&action)) {
+        if (!pobj_threads_enter(&action, object))
+            return POBJ_CANCEL_REFUSED;
+        if (pobj_threads_where(call) == object) {
+            unsigned made = pobj_threads_withdraw(&action, call, expired);
+            pobj_threads_leave(&action);
+            return made;
+        }
+    }
+    return POBJ_CANCEL_UNKNOWN;
+}
+
+/* Sleeps until the call has ended: true; or until its time has come: false. */
+static inline bool pobj_threads_sleep(pobj_call *call, const struct timespec *until) {
+    int error = 0;
+    pthread_mutex_lock(&call->mutex);
+    while (!call->woken && error == 0)
+        if (until == NULL)
+            error = pthread_cond_wait(&call->wake, &call->mutex);
+        else
+            error = pthread_cond_timedwait(&call->wake, &call->mutex, until);
+    bool woken = call->woken;
+    pthread_mutex_unlock(&call->mutex);
+    return woken;
+}
+
+/* Waits until the call has ended. The thread can't be cancelled meanwhile. */
+static inline void pobj_threads_await(pobj_call *call, const struct timespec *until) {
+    int before;
+    pthread_setcancelstate(PTHREAD_CANCEL_DISABLE, &before);
+    if (!pobj_threads_sleep(call, until) && pobj_threads_cancel(call, call, true) != POBJ_CANCEL_MADE)
+        pobj_threads_sleep(call, NULL);
+    pthread_setcancelstate(before, &before);
+}
+
+/* Makes the call that a record of this thread describes. */
+static inline pobj_outcome pobj_threads_make(
+    pobj_protected *object, uint64_t entry, pobj_call *call, const struct timespec *until) {
+    pobj_threads_action action = pobj_threads_action_of(call);
+    if (!pobj_threads_enter(&action, object)) {
+        pobj_threads_place(call, NULL);
+        return POBJ_CALL_MISUSE;
+    }
+    pobj_threads_issue(&action, call, entry);
+    pobj_threads_leave(&action);
+    if (!action.own_ended)
+        pobj_threads_await(call, until);
+    if (call->can_wait) {
+        pthread_cond_destroy(&call->wake);
+        pthread_mutex_destroy(&call->mutex);
+    }
+    return call->outcome;
+}
+
+/* Takes the record for a call. False: it is in use. Either an abort finds the call then, or the call sees the abort: one
+   writes where the call is and then reads whether it is aborted, the other in reverse, and all that in one order. */
+static inline bool pobj_threads_claim(pobj_call *call, pobj_protected *object) {
+    pobj_protected *none = NULL;
+    return __atomic_compare_exchange_n(&call->object, &none, object, false, __ATOMIC_SEQ_CST, __ATOMIC_SEQ_CST);
+}
+
+static inline pobj_outcome pobj_threads_call(
+    pobj_protected *object, uint64_t entry, void *parameters, bool due, const struct timespec *until, pobj_call *record) {
+    pobj_call own; /* most of it is written only where the call waits */
+    pobj_call *call = record == NULL ? &own : record;
+    if (entry >= object->number)
+        return POBJ_CALL_MISUSE;
+    if (record == NULL) {
+        own.object = object;
+        own.aborted = false;
+    } else if (!pobj_threads_claim(record, object)) {
+        return POBJ_CALL_MISUSE;
+    }
+    call->parameters = parameters;
+    call->error = 0;
+    call->due = due;
+    call->without_abort = false;
+    call->can_wait = false;
+    return pobj_threads_make(object, entry, call, until);
+}
+
+static inline bool pobj_threads_make_mutex(pthread_mutex_t *mutex) {
+    pthread_mutexattr_t kind;
+    if (pthread_mutexattr_init(&kind) != 0)
+        return false;
+    bool made = pthread_mutexattr_settype(&kind, PTHREAD_MUTEX_ERRORCHECK) == 0 && pthread_mutex_init(mutex, &kind) == 0;
+    pthread_mutexattr_destroy(&kind);
+    return made;
+}
+
+/* All of an object but the calls, which are made. */
+static inline bool pobj_threads_set_up(pobj_protected *object, void *data, const pobj_entry *entries, uint64_t number) {
+    object->data = data;
+    object->evaluated = 0;
+    object->entries = entries;
+    object->number = number;
+    object->raised = false;
+    object->finalized = false;
+    if (pobj_threads_make_mutex(&object->mutex))
+        return true;
+    pobj_free(&object->calls);
+    return false;
+}
+
+/* Objects. All but the first two functions require an object that is made. */
+
+/* Makes a protected object with these data and so many entries, an array of them (9.4). It takes memory as its calls need it.
+   The array and the data stay where they are for as long as the object is used. False, and no object: there is no memory, or
+   there are more than 65,535 entries. */
+static inline bool pobj_protected_make(pobj_protected *object, void *data, const pobj_entry *entries, uint64_t number) {
+    object->calls.at = NULL;
+    return pobj_make(&object->calls, number) && pobj_threads_set_up(object, data, entries, number);
+}
+
+/* The same with all its memory, for so many calls at once that are queued or being served. Any more calls are answered
+   POBJ_CALL_NO_MEMORY. */
+static inline bool pobj_protected_make_fixed(
+    pobj_protected *object, void *data, const pobj_entry *entries, uint64_t number, size_t calls) {
+    object->calls.at = NULL;
+    return pobj_make_fixed(&object->calls, number, calls) && pobj_threads_set_up(object, data, entries, number);
+}
+
+/* From now on at most so many calls may be queued on the entry (Max_Entry_Queue_Length, D.7); 0: any number. Any more end by
+   POBJ_CALL_PROGRAM_ERROR. False: there is no such entry, or this thread is inside the object. */
+static inline bool pobj_protected_limit(pobj_protected *object, uint64_t entry, uint64_t longest) {
+    if (pthread_mutex_lock(&object->mutex) != 0)
+        return false;
+    bool is_set = pobj_limit(&object->calls, entry, longest);
+    pthread_mutex_unlock(&object->mutex);
+    return is_set;
+}
+
+/* Finalizes the object: each queued call ends by POBJ_CALL_PROGRAM_ERROR, and each later operation is answered so (9.4).
+   False: this thread is inside the object. */
+static inline bool pobj_protected_finalize(pobj_protected *object) {
+    pobj_threads_action action = pobj_threads_action_of(NULL);
+    if (!pobj_threads_enter(&action, object))
+        return false;
+    if (!object->finalized) {
+        object->finalized = true;
+        pobj_threads_drive(&action, pobj_finalize(&object->calls, &action.step));
+    }
+    pobj_threads_leave(&action);
+    return true;
+}
+
+/* Frees what the object takes. Required is that no thread is in an operation on it, or comes to one: so finalize it, and join
+   the threads that call it or abort calls on it. */
+static inline void pobj_protected_destroy(pobj_protected *object) {
+    pobj_free(&object->calls);
+    pthread_mutex_destroy(&object->mutex);
+}
+
+/* How many calls are queued on the entry ('Count, 9.9); 0 where there is no such entry. It may be asked everywhere: in
+   barriers, bodies, procedures and functions it holds while they run, and elsewhere it may have changed when it is read. */
+static inline uint64_t pobj_entry_count(pobj_protected *object, uint64_t entry) {
+    bool is_outside = pthread_mutex_lock(&object->mutex) == 0;
+    uint64_t count = pobj_count(&object->calls, entry);
+    if (is_outside)
+        pthread_mutex_unlock(&object->mutex);
+    return count;
+}
+
+/* Operations. Each requires an object that is made, and that its thread holds no lock that a barrier or a body takes. */
+
+/* An entry call: it waits until a body has completed it, or it has ended otherwise (9.5.3). The record may be NULL, as with
+   the other kinds of calls. */
+static inline pobj_outcome pobj_entry_call(pobj_protected *object, uint64_t entry, void *parameters, pobj_call *record) {
+    return pobj_threads_call(object, entry, parameters, false, NULL, record);
+}
+
+/* A conditional entry call: it ends by POBJ_CALL_EXPIRED where it would wait (9.7.3). It waits only where a body requeued it
+   without abort (9.5.4). */
+static inline pobj_outcome pobj_conditional_call(pobj_protected *object, uint64_t entry, void *parameters, pobj_call *record) {
+    return pobj_threads_call(object, entry, parameters, true, NULL, record);
+}
+
+/* A timed entry call: it ends by POBJ_CALL_EXPIRED where it still waits at this time of CLOCK_MONOTONIC (9.7.2). Where a body
+   requeued it without abort it waits on (9.5.4). */
+static inline pobj_outcome pobj_timed_call(
+    pobj_protected *object, uint64_t entry, void *parameters, const struct timespec *until, pobj_call *record) {
+    if (until == NULL || until->tv_sec < 0 || until->tv_nsec < 0 || until->tv_nsec > 999999999)
+        return POBJ_CALL_MISUSE;
+    return pobj_threads_call(object, entry, parameters, false, until, record);
+}
+
+/* The time of CLOCK_MONOTONIC so many nanoseconds from now. */
+static inline struct timespec pobj_time_from_now(uint64_t nanoseconds) {
+    struct timespec time;
+    clock_gettime(CLOCK_MONOTONIC, &time);
+    uint64_t rest = nanoseconds % 1000000000 + (uint64_t)time.tv_nsec;
+    time.tv_sec += (time_t)(nanoseconds / 1000000000 + rest / 1000000000);
+    time.tv_nsec = (long)(rest % 1000000000);
+    return time;
+}
+
+/* Aborts the caller of the record (9.8). A queued call ends by POBJ_CALL_ABORTED, and the answer is POBJ_CANCEL_MADE. Else the
+   abort is remembered: POBJ_CANCEL_KEPT, for a call that a requeue without abort protects until it is requeued with abort
+   (9.5.4); POBJ_CANCEL_UNKNOWN, where no call is queued, for the next that comes to be. POBJ_CANCEL_REFUSED: this thread is
+   inside the object that the call is on, and is to do it again from outside. An abort is for good: the record is of use again
+   when it is made {0}. Required is that the record stays, and isn't made {0}, until this has returned. */
+static inline unsigned pobj_abort(pobj_call *record) {
+    __atomic_store_n(&record->aborted, true, __ATOMIC_SEQ_CST);
+    return pobj_threads_cancel(record, NULL, false);
+}
+
+/* A protected procedure (9.5.1): it runs under the lock, and then what it has made possible is carried out. The answer is
+   POBJ_CALL_COMPLETED, or POBJ_CALL_PROGRAM_ERROR or POBJ_CALL_MISUSE, and then it didn't run. */
+static inline pobj_outcome pobj_procedure(
+    pobj_protected *object, void (*procedure)(pobj_protected *object, void *parameters), void *parameters) {
+    pobj_threads_action action = pobj_threads_action_of(NULL);
+    if (!pobj_threads_enter(&action, object))
+        return POBJ_CALL_MISUSE;
+    bool runs = !object->finalized;
+    if (runs) {
+        procedure(object, parameters);
+        pobj_threads_drive(&action, pobj_next(&object->calls, &action.step));
+    }
+    pobj_threads_leave(&action);
+    return runs ? POBJ_CALL_COMPLETED : POBJ_CALL_PROGRAM_ERROR;
+}
+
+/* A protected function (9.5.1): it runs under the lock, and changes nothing that a barrier reads, so no queue is looked at.
+   The answer is as that of a procedure. */
+static inline pobj_outcome pobj_function(
+    pobj_protected *object, void (*function)(pobj_protected *object, void *parameters), void *parameters) {
+    if (pthread_mutex_lock(&object->mutex) != 0)
+        return POBJ_CALL_MISUSE;
+    bool runs = !object->finalized;
+    if (runs)
+        function(object, parameters);
+    pthread_mutex_unlock(&object->mutex);
+    return runs ? POBJ_CALL_COMPLETED : POBJ_CALL_PROGRAM_ERROR;
+}
+
+#endif

@@ -1,0 +1,523 @@
+/* Tests of the functions of pobj.h, one by one. A test walks through the steps by hand, or leaves them to carry_out, with
+   barriers and bodies that do as they are set. */
+#include "pobj.h"
+#include "check.h"
+
+#include <malloc.h>
+#include <string.h>
+
+enum { ENTRIES = 3, CALLERS = 2000, FEW = 10 };
+
+/* What has become of a caller's call. */
+enum { NONE, QUEUED, COMPLETED, CANCELLED, PROGRAM_ERROR, NO_MEMORY, ELSEWHERE };
+
+static struct {
+    int state;
+    size_t key;
+    uint64_t number;
+} calls[CALLERS];
+
+static struct {
+    long permits; /* so many calls does the barrier let through; less than 0: it raises */
+    uint64_t how, target, marks; /* how the body ends */
+} entries[ENTRIES];
+
+static pobj_object object;
+static pobj_step step;
+static uint64_t order[CALLERS]; /* the callers whose calls have ended, the first first */
+static size_t ended;
+
+static uint64_t barrier(uint64_t entry) {
+    return entries[entry].permits < 0 ? (uint64_t)POBJ_RAISED : entries[entry].permits > 0;
+}
+
+static void end(uint64_t caller, int state) {
+    calls[caller].state = state;
+    order[ended++ % CALLERS] = caller;
+}
+
+static uint64_t run(uint64_t caller, uint64_t entry) {
+    static const int states[] = {COMPLETED, COMPLETED, NONE, NONE, ELSEWHERE};
+    uint64_t how = entries[entry].how;
+    entries[entry].permits--;
+    if (states[how] != NONE)
+        end(caller, states[how]);
+    return pobj_body_ended(&object, how, entries[entry].target, entries[entry].marks, &step);
+}
+
+static uint64_t queued(uint64_t caller, uint64_t asked) {
+    calls[caller].state = QUEUED;
+    calls[caller].key = step.key;
+    calls[caller].number = step.number;
+    return pobj_answer(&object, barrier(asked), &step);
+}
+
+static uint64_t ended_so(uint64_t caller, int state) {
+    end(caller, state);
+    return pobj_next(&object, &step);
+}
+
+static uint64_t carry_out_one(uint64_t answer) {
+    uint64_t entry = pobj_entry_of(answer);
+    switch (pobj_action_of(answer)) {
+    case POBJ_EVALUATE:
+        return pobj_answer(&object, barrier(entry), &step);
+    case POBJ_RUN:
+        return run(step.caller, entry);
+    case POBJ_QUEUED:
+        return queued(step.caller, entry);
+    case POBJ_CANCELLED:
+        return ended_so(step.caller, CANCELLED);
+    case POBJ_PROGRAM_ERROR:
+        return ended_so(step.caller, PROGRAM_ERROR);
+    default:
+        CHECK(pobj_action_of(answer) != POBJ_REFUSED && pobj_action_of(answer) != POBJ_NO_MEMORY);
+        return POBJ_REST;
+    }
+}
+
+static void carry_out(uint64_t answer) {
+    while (pobj_action_of(answer) != POBJ_REST)
+        answer = carry_out_one(answer);
+}
+
+/* The whole call: what has become of it when the protected action is over. */
+static int issue(uint64_t caller, uint64_t entry, uint64_t marks) {
+    uint64_t answer = pobj_issue(&object, caller, entry, marks, barrier(entry), &step);
+    calls[caller].state = NONE;
+    if (pobj_action_of(answer) == POBJ_NO_MEMORY)
+        return NO_MEMORY;
+    carry_out(answer);
+    return calls[caller].state;
+}
+
+static uint64_t cancel(uint64_t caller, uint64_t expired) {
+    return pobj_cancel(&object, calls[caller].key, calls[caller].number, expired);
+}
+
+static void next(void) {
+    carry_out(pobj_next(&object, &step));
+}
+
+/* So many calls pass the barrier from now on, as behind a procedure. */
+static void permit(uint64_t entry, long permits) {
+    entries[entry].permits = permits;
+    next();
+}
+
+static void set_body(uint64_t entry, uint64_t how, uint64_t target, uint64_t marks) {
+    entries[entry].how = how;
+    entries[entry].target = target;
+    entries[entry].marks = marks;
+}
+
+static void forget(void) {
+    memset(entries, 0, sizeof entries);
+    memset(calls, 0, sizeof calls);
+    ended = 0;
+}
+
+static void begin(void) {
+    forget();
+    CHECK(pobj_make(&object, ENTRIES));
+}
+
+static bool is(uint64_t answer, unsigned action, uint64_t entry) {
+    return pobj_action_of(answer) == action && pobj_entry_of(answer) == entry;
+}
+
+static bool is_of(uint64_t answer, unsigned action, uint64_t caller) {
+    return pobj_action_of(answer) == action && step.caller == caller;
+}
+
+static bool is_rest(uint64_t answer) {
+    return pobj_action_of(answer) == POBJ_REST;
+}
+
+/* Each action, with the entry and the caller that it speaks of. */
+static void actions(void) {
+    begin();
+    CHECK(is(pobj_issue(&object, 7, 1, 0, POBJ_OPEN, &step), POBJ_RUN, 1) && step.caller == 7);
+    CHECK(is_rest(pobj_body_ended(&object, POBJ_COMPLETED, 0, 0, &step)));
+    CHECK(is(pobj_issue(&object, UINT64_MAX, 1, 0, POBJ_CLOSED, &step), POBJ_QUEUED, 1));
+    CHECK(step.caller == UINT64_MAX && step.number >= 1 && pobj_count(&object, 1) == 1);
+    CHECK(is_rest(pobj_answer(&object, POBJ_CLOSED, &step)));
+    CHECK(is(pobj_issue(&object, 9, 2, POBJ_DUE, POBJ_CLOSED, &step), POBJ_QUEUED, 1) && step.caller == 9);
+    CHECK(is(pobj_answer(&object, POBJ_CLOSED, &step), POBJ_EVALUATE, 2));
+    CHECK(is_of(pobj_answer(&object, POBJ_CLOSED, &step), POBJ_CANCELLED, 9) && pobj_count(&object, 2) == 0);
+    CHECK(is(pobj_next(&object, &step), POBJ_EVALUATE, 1));
+    CHECK(is(pobj_answer(&object, POBJ_OPEN, &step), POBJ_RUN, 1) && step.caller == UINT64_MAX);
+    CHECK(pobj_count(&object, 1) == 0);
+    CHECK(is_rest(pobj_body_ended(&object, POBJ_COMPLETED, 0, 0, &step)) && is_rest(pobj_next(&object, &step)));
+    CHECK(is_of(pobj_issue(&object, 5, 0, 0, POBJ_RAISED, &step), POBJ_PROGRAM_ERROR, 5));
+    CHECK(is_rest(pobj_next(&object, &step)));
+    CHECK(is_of(pobj_issue(&object, 6, 0, POBJ_ABORTED, POBJ_CLOSED, &step), POBJ_CANCELLED, 6));
+    CHECK(is_rest(pobj_next(&object, &step)));
+    pobj_free(&object);
+}
+
+enum { ISSUE = 1, ANSWER = 2, ENDED = 4, NEXT = 8, CANCEL = 16, FINALIZE = 32 };
+
+/* All but what the object waits for is refused, and neither the step nor a queue is changed by that. */
+static void refuses_all_but(unsigned awaited) {
+    pobj_step scrap = {11, 12, 13};
+    uint64_t counts[ENTRIES];
+    for (uint64_t e = 0; e < ENTRIES; e++)
+        counts[e] = pobj_count(&object, e);
+    for (uint64_t b = POBJ_CLOSED; b <= POBJ_RAISED; b++) {
+        CHECK((awaited & ISSUE) || pobj_issue(&object, 99, 0, 0, b, &scrap) == POBJ_REFUSED);
+        CHECK((awaited & ANSWER) || pobj_answer(&object, b, &scrap) == POBJ_REFUSED);
+    }
+    for (uint64_t how = POBJ_COMPLETED; how <= POBJ_REQUEUED_ELSEWHERE; how++)
+        CHECK((awaited & ENDED) || pobj_body_ended(&object, how, 0, 0, &scrap) == POBJ_REFUSED);
+    CHECK((awaited & NEXT) || pobj_next(&object, &scrap) == POBJ_REFUSED);
+    CHECK((awaited & CANCEL) || cancel(0, 0) == POBJ_CANCEL_REFUSED);
+    CHECK((awaited & CANCEL) || cancel(0, 1) == POBJ_CANCEL_REFUSED);
+    CHECK((awaited & FINALIZE) || pobj_finalize(&object, &scrap) == POBJ_REFUSED);
+    for (uint64_t e = 0; e < ENTRIES; e++)
+        CHECK(pobj_count(&object, e) == counts[e]);
+    CHECK(scrap.caller == 11 && scrap.key == 12 && scrap.number == 13);
+}
+
+static const unsigned commands = ISSUE | NEXT | CANCEL | FINALIZE;
+
+/* In each state that an object waits in, all that isn't awaited is refused, and then it goes on as it would have. */
+static void refusals(void) {
+    begin();
+    refuses_all_but(commands);
+    CHECK(issue(0, 1, 0) == QUEUED && issue(1, 1, 0) == QUEUED);
+    refuses_all_but(commands);
+    CHECK(pobj_issue(&object, 2, ENTRIES, 0, POBJ_OPEN, &step) == POBJ_REFUSED);
+    CHECK(pobj_issue(&object, 2, UINT64_MAX, 0, POBJ_CLOSED, &step) == POBJ_REFUSED);
+    CHECK(is(pobj_next(&object, &step), POBJ_EVALUATE, 1));
+    refuses_all_but(ANSWER);
+    CHECK(is_of(pobj_answer(&object, POBJ_OPEN, &step), POBJ_RUN, 0));
+    refuses_all_but(ENDED);
+    CHECK(pobj_body_ended(&object, POBJ_REQUEUED, ENTRIES, 0, &step) == POBJ_REFUSED);
+    CHECK(pobj_body_ended(&object, POBJ_REQUEUED_WITH_ABORT, UINT64_MAX, 0, &step) == POBJ_REFUSED);
+    CHECK(is(pobj_body_ended(&object, POBJ_COMPLETED, 0, 0, &step), POBJ_EVALUATE, 1));
+    CHECK(is_rest(pobj_answer(&object, POBJ_CLOSED, &step)));
+    CHECK(is(pobj_issue(&object, 3, 0, 0, POBJ_CLOSED, &step), POBJ_QUEUED, 0));
+    refuses_all_but(ANSWER);
+    carry_out(pobj_answer(&object, POBJ_CLOSED, &step));
+    CHECK(cancel(1, 0) == POBJ_CANCEL_MADE && pobj_count(&object, 1) == 0);
+    refuses_all_but(NEXT);
+    CHECK(is(pobj_next(&object, &step), POBJ_EVALUATE, 0));
+    CHECK(is_of(pobj_answer(&object, POBJ_RAISED, &step), POBJ_PROGRAM_ERROR, 3));
+    refuses_all_but(NEXT);
+    CHECK(is_rest(pobj_next(&object, &step)));
+    CHECK(is_of(pobj_issue(&object, 4, 0, POBJ_ABORTED, POBJ_CLOSED, &step), POBJ_CANCELLED, 4));
+    refuses_all_but(NEXT);
+    CHECK(is_rest(pobj_next(&object, &step)) && is_rest(pobj_finalize(&object, &step)));
+    refuses_all_but(commands & ~(unsigned)ISSUE);
+    pobj_free(&object);
+}
+
+/* Any number of calls may be queued, and of an entry the first is served first. */
+static void growth(void) {
+    enum { MANY = 1500 };
+    begin();
+    for (uint64_t i = 0; i < MANY; i++)
+        CHECK(issue(i, i % 2, 0) == QUEUED && pobj_count(&object, i % 2) == i / 2 + 1);
+    permit(0, MANY);
+    permit(1, MANY);
+    CHECK(ended == MANY && pobj_count(&object, 0) == 0 && pobj_count(&object, 1) == 0);
+    for (uint64_t i = 0; i < MANY; i++)
+        CHECK(calls[i].state == COMPLETED && order[i] == (i < MANY / 2 ? 2 * i : 2 * (i - MANY / 2) + 1));
+    pobj_free(&object);
+}
+
+/* An object of fixed memory takes none after it is made, and has no room for one call more. */
+static void fixed(void) {
+    forget();
+    CHECK(pobj_make_fixed(&object, ENTRIES, FEW));
+    size_t before = mallinfo2().uordblks;
+    for (int round = 0; round < 1000; round++) {
+        for (uint64_t i = 0; i < FEW; i++)
+            CHECK(issue(i, i % 2, 0) == QUEUED);
+        entries[2].permits = 1;
+        CHECK(issue(FEW, 0, 0) == NO_MEMORY && issue(FEW, 1, POBJ_DUE) == NO_MEMORY && issue(FEW, 2, 0) == NO_MEMORY);
+        CHECK(pobj_count(&object, 0) == FEW / 2 && pobj_count(&object, 1) == FEW / 2 && pobj_count(&object, 2) == 0);
+        CHECK(cancel(1, 0) == POBJ_CANCEL_MADE);
+        next();
+        CHECK(issue(FEW, 2, 0) == COMPLETED && issue(FEW, 1, POBJ_DUE) == CANCELLED);
+        permit(0, FEW);
+        permit(1, FEW);
+        entries[0].permits = entries[1].permits = 0;
+        CHECK(calls[0].state == COMPLETED && calls[FEW - 1].state == COMPLETED);
+    }
+    CHECK(mallinfo2().uordblks == before);
+    pobj_free(&object);
+    CHECK(pobj_make_fixed(&object, ENTRIES, 0) && issue(0, 0, 0) == NO_MEMORY);
+    pobj_free(&object);
+}
+
+/* The first entry with an open barrier is served first, and after each body all is looked at anew. */
+static void service_order(void) {
+    begin();
+    for (uint64_t i = 0; i < 6; i++)
+        CHECK(issue(i, 2 - i % 3, 0) == QUEUED);
+    entries[1].permits = 2;
+    permit(2, 1);
+    CHECK(ended == 3 && order[0] == 1 && order[1] == 4 && order[2] == 0);
+    CHECK(is(pobj_next(&object, &step), POBJ_EVALUATE, 0) && is(pobj_answer(&object, POBJ_CLOSED, &step), POBJ_EVALUATE, 2));
+    CHECK(is_of(pobj_answer(&object, POBJ_OPEN, &step), POBJ_RUN, 3));
+    CHECK(is(pobj_body_ended(&object, POBJ_COMPLETED, 0, 0, &step), POBJ_EVALUATE, 0));
+    CHECK(is_of(pobj_answer(&object, POBJ_OPEN, &step), POBJ_RUN, 2));
+    CHECK(is(pobj_body_ended(&object, POBJ_COMPLETED, 0, 0, &step), POBJ_EVALUATE, 0));
+    CHECK(is_rest(pobj_answer(&object, POBJ_CLOSED, &step)));
+    pobj_free(&object);
+}
+
+/* Requeues within the object, with and without abort, and with what is known of the call. */
+static void requeues(void) {
+    begin();
+    entries[0].permits = 100;
+    set_body(0, POBJ_REQUEUED, 1, 0);
+    CHECK(issue(0, 0, 0) == QUEUED && pobj_count(&object, 1) == 1 && issue(1, 1, 0) == QUEUED);
+    CHECK(cancel(0, 0) == POBJ_CANCEL_KEPT && cancel(0, 1) == POBJ_CANCEL_KEPT && pobj_count(&object, 1) == 2);
+    set_body(0, POBJ_REQUEUED_WITH_ABORT, 1, 0);
+    CHECK(issue(2, 0, 0) == QUEUED && cancel(2, 1) == POBJ_CANCEL_MADE);
+    next();
+    CHECK(issue(2, 0, 0) == QUEUED && cancel(2, 0) == POBJ_CANCEL_MADE);
+    next();
+    set_body(0, POBJ_REQUEUED_WITH_ABORT, 1, POBJ_DUE);
+    CHECK(issue(3, 0, 0) == CANCELLED);
+    set_body(0, POBJ_REQUEUED_WITH_ABORT, 1, POBJ_ABORTED);
+    CHECK(issue(4, 0, 0) == CANCELLED);
+    set_body(0, POBJ_REQUEUED, 1, POBJ_DUE | POBJ_ABORTED);
+    CHECK(issue(5, 0, 0) == QUEUED && pobj_count(&object, 1) == 3);
+    ended = 0;
+    permit(1, 3);
+    CHECK(ended == 3 && order[0] == 0 && order[1] == 1 && order[2] == 5 && calls[5].state == COMPLETED);
+    CHECK(cancel(0, 0) == POBJ_CANCEL_UNKNOWN);
+    pobj_free(&object);
+}
+
+/* A requeued call goes behind those that are queued on its new entry, and may be served there in the same protected action. */
+static void requeued_behind(void) {
+    begin();
+    for (uint64_t i = 0; i < FEW; i++)
+        CHECK(issue(i, 1, 0) == QUEUED);
+    set_body(1, POBJ_REQUEUED, 1, 0);
+    permit(1, 4);
+    set_body(1, POBJ_COMPLETED, 0, 0);
+    permit(1, FEW);
+    for (uint64_t i = 0; i < FEW; i++)
+        CHECK(order[i] == (i + 4) % FEW);
+    entries[0].permits = entries[1].permits = 1;
+    set_body(0, POBJ_REQUEUED_WITH_ABORT, 1, POBJ_DUE);
+    CHECK(issue(0, 0, POBJ_DUE) == COMPLETED);
+    pobj_free(&object);
+}
+
+/* Of a call that is requeued without abort an abort is remembered, and a requeue with abort then cancels it. That its time has
+   come isn't: that is told with the requeue. */
+static void remembered_abort(void) {
+    begin();
+    entries[0].permits = 100;
+    set_body(0, POBJ_REQUEUED, 1, 0);
+    set_body(1, POBJ_REQUEUED_WITH_ABORT, 2, 0);
+    CHECK(issue(0, 0, 0) == QUEUED && issue(1, 0, 0) == QUEUED);
+    CHECK(cancel(0, 0) == POBJ_CANCEL_KEPT && cancel(1, 1) == POBJ_CANCEL_KEPT);
+    permit(1, 2);
+    CHECK(calls[0].state == CANCELLED && calls[1].state == QUEUED && pobj_count(&object, 2) == 1);
+    entries[1].permits = 0;
+    CHECK(issue(2, 1, POBJ_WITHOUT_ABORT | POBJ_ABORTED) == QUEUED);
+    permit(1, 1);
+    CHECK(calls[2].state == CANCELLED && pobj_count(&object, 2) == 1);
+    pobj_free(&object);
+}
+
+/* A call that leaves the object is none of its calls any more, and what was queued is looked at again. */
+static void elsewhere(void) {
+    begin();
+    entries[0].permits = 1;
+    set_body(0, POBJ_REQUEUED_ELSEWHERE, 0, 0);
+    CHECK(issue(0, 1, 0) == QUEUED);
+    CHECK(is_of(pobj_issue(&object, 1, 0, 0, POBJ_OPEN, &step), POBJ_RUN, 1));
+    CHECK(is(pobj_body_ended(&object, POBJ_REQUEUED_ELSEWHERE, 0, 0, &step), POBJ_EVALUATE, 1));
+    CHECK(is_of(pobj_answer(&object, POBJ_OPEN, &step), POBJ_RUN, 0));
+    CHECK(is_rest(pobj_body_ended(&object, POBJ_REQUEUED_ELSEWHERE, 0, 0, &step)));
+    CHECK(issue(2, 0, 0) == ELSEWHERE && pobj_count(&object, 0) == 0 && pobj_count(&object, 1) == 0);
+    pobj_free(&object);
+}
+
+/* A call that is due is served where it can be in this protected action, and else cancelled. */
+static void conditional(void) {
+    begin();
+    CHECK(issue(0, 1, POBJ_DUE) == CANCELLED && pobj_count(&object, 1) == 0);
+    entries[1].permits = 1;
+    CHECK(issue(0, 1, POBJ_DUE) == COMPLETED);
+    CHECK(issue(1, 1, POBJ_DUE | POBJ_WITHOUT_ABORT) == QUEUED && cancel(1, 1) == POBJ_CANCEL_KEPT);
+    CHECK(is(pobj_issue(&object, 2, 2, POBJ_DUE, POBJ_CLOSED, &step), POBJ_QUEUED, 1) && pobj_count(&object, 2) == 1);
+    CHECK(is(pobj_answer(&object, POBJ_CLOSED, &step), POBJ_EVALUATE, 2));
+    CHECK(is_of(pobj_answer(&object, POBJ_OPEN, &step), POBJ_RUN, 2));
+    carry_out(pobj_body_ended(&object, POBJ_COMPLETED, 0, 0, &step));
+    permit(1, 1);
+    CHECK(calls[1].state == COMPLETED);
+    pobj_free(&object);
+}
+
+/* The four answers of an attempt to cancel. */
+static void cancellation(void) {
+    begin();
+    CHECK(issue(0, 1, 0) == QUEUED && issue(1, 1, 0) == QUEUED && issue(2, 1, POBJ_WITHOUT_ABORT) == QUEUED);
+    CHECK(pobj_cancel(&object, calls[0].key, calls[0].number + 100, 0) == POBJ_CANCEL_UNKNOWN);
+    CHECK(pobj_cancel(&object, calls[0].key, 0, 0) == POBJ_CANCEL_UNKNOWN);
+    CHECK(pobj_cancel(&object, 1000, calls[0].number, 1) == POBJ_CANCEL_UNKNOWN);
+    CHECK(pobj_cancel(&object, SIZE_MAX, UINT64_MAX, 1) == POBJ_CANCEL_UNKNOWN && pobj_count(&object, 1) == 3);
+    CHECK(cancel(0, 1) == POBJ_CANCEL_MADE && cancel(1, 0) == POBJ_CANCEL_REFUSED && pobj_count(&object, 1) == 2);
+    CHECK(is(pobj_next(&object, &step), POBJ_EVALUATE, 1) && cancel(1, 0) == POBJ_CANCEL_REFUSED);
+    CHECK(is_of(pobj_answer(&object, POBJ_OPEN, &step), POBJ_RUN, 1) && cancel(2, 0) == POBJ_CANCEL_REFUSED);
+    carry_out(pobj_body_ended(&object, POBJ_COMPLETED, 0, 0, &step));
+    CHECK(cancel(0, 0) == POBJ_CANCEL_UNKNOWN && cancel(1, 1) == POBJ_CANCEL_UNKNOWN);
+    CHECK(cancel(2, 1) == POBJ_CANCEL_KEPT && cancel(2, 0) == POBJ_CANCEL_KEPT && pobj_count(&object, 1) == 1);
+    permit(1, 1);
+    CHECK(calls[2].state == COMPLETED && cancel(2, 0) == POBJ_CANCEL_UNKNOWN);
+    pobj_free(&object);
+}
+
+/* A queue has no more calls than its limit, whether they are issued or requeued. */
+static void limit(void) {
+    begin();
+    CHECK(pobj_limit(&object, 1, 2) && !pobj_limit(&object, ENTRIES, 2) && !pobj_limit(&object, UINT64_MAX, 2));
+    CHECK(issue(0, 1, 0) == QUEUED && issue(1, 1, 0) == QUEUED && issue(2, 1, 0) == PROGRAM_ERROR);
+    CHECK(issue(2, 0, 0) == QUEUED && issue(3, 0, 0) == QUEUED && issue(4, 0, 0) == QUEUED);
+    set_body(0, POBJ_REQUEUED, 1, 0);
+    permit(0, 1);
+    CHECK(calls[2].state == PROGRAM_ERROR && pobj_count(&object, 0) == 2 && pobj_count(&object, 1) == 2);
+    entries[1].permits = 1;
+    CHECK(issue(5, 1, 0) == COMPLETED && pobj_count(&object, 1) == 2);
+    CHECK(pobj_limit(&object, 1, 0) && issue(6, 1, 0) == QUEUED && pobj_limit(&object, 1, 1) && pobj_count(&object, 1) == 3);
+    CHECK(issue(7, 1, 0) == PROGRAM_ERROR && calls[0].state == QUEUED);
+    pobj_free(&object);
+}
+
+/* A barrier that raises ends all queued calls, and last the one that is being issued. */
+static void raising(void) {
+    bool is_ended[FEW] = {false};
+    begin();
+    for (uint64_t i = 0; i < FEW; i++)
+        CHECK(issue(i, i % 2, i == 3 ? POBJ_WITHOUT_ABORT : 0) == QUEUED);
+    entries[2].permits = -1;
+    CHECK(issue(FEW, 2, 0) == PROGRAM_ERROR && ended == FEW + 1 && order[FEW] == FEW);
+    for (size_t i = 0; i < FEW; i++)
+        is_ended[order[i]] = calls[order[i]].state == PROGRAM_ERROR;
+    for (size_t i = 0; i < FEW; i++)
+        CHECK(is_ended[i]);
+    CHECK(issue(0, 0, 0) == QUEUED && issue(1, 1, 0) == QUEUED);
+    permit(0, -1);
+    CHECK(calls[0].state == PROGRAM_ERROR && calls[1].state == PROGRAM_ERROR);
+    CHECK(is_of(pobj_issue(&object, 2, 0, POBJ_DUE, UINT64_MAX, &step), POBJ_PROGRAM_ERROR, 2));
+    next();
+    CHECK(issue(3, 1, 0) == QUEUED && pobj_count(&object, 1) == 1);
+    pobj_free(&object);
+}
+
+/* A body that fails ends its own call, and all queued calls. */
+static void failing(void) {
+    begin();
+    for (uint64_t i = 0; i < FEW; i++)
+        CHECK(issue(i, 1 + i % 2, 0) == QUEUED);
+    entries[0].permits = 1;
+    set_body(0, POBJ_FAILED, 0, 0);
+    CHECK(issue(FEW, 0, 0) == COMPLETED && ended == FEW + 1 && order[0] == FEW);
+    for (uint64_t i = 0; i < FEW; i++)
+        CHECK(calls[i].state == PROGRAM_ERROR);
+    CHECK(issue(0, 1, 0) == QUEUED && pobj_count(&object, 1) == 1);
+    pobj_free(&object);
+}
+
+static void finalization(void) {
+    begin();
+    for (uint64_t i = 0; i < FEW; i++)
+        CHECK(issue(i, i % 3, i == 1 ? POBJ_WITHOUT_ABORT : 0) == QUEUED);
+    carry_out(pobj_finalize(&object, &step));
+    CHECK(ended == FEW);
+    for (uint64_t i = 0; i < FEW; i++)
+        CHECK(calls[i].state == PROGRAM_ERROR && pobj_count(&object, i % 3) == 0);
+    CHECK(pobj_issue(&object, 1, 0, 0, POBJ_OPEN, &step) == POBJ_REFUSED && cancel(0, 0) == POBJ_CANCEL_UNKNOWN);
+    CHECK(is_rest(pobj_next(&object, &step)));
+    pobj_free(&object);
+}
+
+/* How many entries an object may have. */
+static void sizes(void) {
+    forget();
+    CHECK(!pobj_make(&object, 65536) && !pobj_make(&object, UINT64_MAX));
+    CHECK(!pobj_make_fixed(&object, 65536, 1) && !pobj_make_fixed(&object, UINT64_MAX, 1));
+    CHECK(pobj_make(&object, 65535));
+    CHECK(is(pobj_issue(&object, 1, 65534, 0, POBJ_CLOSED, &step), POBJ_QUEUED, 65534) && pobj_count(&object, 65534) == 1);
+    CHECK(is_rest(pobj_answer(&object, POBJ_CLOSED, &step)));
+    CHECK(pobj_limit(&object, 65534, 1) && !pobj_limit(&object, 65535, 1));
+    CHECK(is(pobj_next(&object, &step), POBJ_EVALUATE, 65534));
+    CHECK(is(pobj_answer(&object, POBJ_OPEN, &step), POBJ_RUN, 65534));
+    CHECK(is_rest(pobj_body_ended(&object, POBJ_COMPLETED, 0, 0, &step)) && pobj_count(&object, 65535) == 0);
+    CHECK(pobj_issue(&object, 1, 65535, 0, POBJ_CLOSED, &step) == POBJ_REFUSED);
+    pobj_free(&object);
+    CHECK(pobj_make(&object, 0) && pobj_count(&object, 0) == 0 && is_rest(pobj_next(&object, &step)));
+    CHECK(pobj_issue(&object, 1, 0, 0, POBJ_OPEN, &step) == POBJ_REFUSED);
+    pobj_free(&object);
+}
+
+/* A call may be requeued any number of times in one protected action. */
+static void many_requeues(void) {
+    begin();
+    uint64_t answer = pobj_issue(&object, 5, 0, 0, POBJ_OPEN, &step);
+    for (uint64_t i = 0; i < 300000; i++) {
+        CHECK(is_of(answer, POBJ_RUN, 5));
+        answer = pobj_body_ended(&object, i % 2 == 0 ? POBJ_REQUEUED : POBJ_REQUEUED_WITH_ABORT, i % ENTRIES, 0, &step);
+        CHECK(is(answer, POBJ_QUEUED, i % ENTRIES));
+        answer = pobj_answer(&object, POBJ_OPEN, &step);
+    }
+    CHECK(is_of(answer, POBJ_RUN, 5) && is_rest(pobj_body_ended(&object, POBJ_COMPLETED, 0, 0, &step)));
+    pobj_free(&object);
+}
+
+/* One call that is served at once, one that waits, and one that is cancelled, so many times. */
+static void rounds(int times) {
+    for (int i = 0; i < times; i++) {
+        pobj_issue(&object, 1, 0, 0, POBJ_OPEN, &step);
+        CHECK(is_rest(pobj_body_ended(&object, POBJ_COMPLETED, 0, 0, &step)));
+        pobj_issue(&object, 2, 1, 0, POBJ_CLOSED, &step);
+        CHECK(is_rest(pobj_answer(&object, POBJ_CLOSED, &step)));
+        pobj_next(&object, &step);
+        CHECK(is_of(pobj_answer(&object, POBJ_OPEN, &step), POBJ_RUN, 2));
+        CHECK(is_rest(pobj_body_ended(&object, POBJ_COMPLETED, 0, 0, &step)));
+        pobj_issue(&object, 3, 1, POBJ_DUE, POBJ_CLOSED, &step);
+        CHECK(is_of(pobj_answer(&object, POBJ_CLOSED, &step), POBJ_CANCELLED, 3) && is_rest(pobj_next(&object, &step)));
+    }
+}
+
+static void memory(void) {
+    begin();
+    rounds(1000);
+    size_t before = mallinfo2().uordblks + mallinfo2().hblkhd;
+    rounds(2000000 / 3);
+    CHECK(mallinfo2().uordblks + mallinfo2().hblkhd <= before);
+    pobj_free(&object);
+}
+
+int main(void) {
+    actions();
+    refusals();
+    growth();
+    fixed();
+    service_order();
+    requeues();
+    requeued_behind();
+    remembered_abort();
+    elsewhere();
+    conditional();
+    cancellation();
+    limit();
+    raising();
+    failing();
+    finalization();
+    sizes();
+    many_requeues();
+    memory();
+    printf("engine: passed\n");
+    return 0;
+}

@@ -1,0 +1,143 @@
+#!/usr/bin/env bash
+# Compiles and runs the tests and examples of bindings/c against LIB_DIR/libpobj.a: by gcc and by clang, plainly and with
+# sanitizers. A line says what passed, what failed, and what was skipped since a program for it isn't there. The last line is
+# 'N passed, M failed, K skipped', and the exit status tells whether nothing failed.
+set -u
+if [ $# -ne 1 ] || [ ! -f "$1/libpobj.a" ]; then
+  echo "usage: bindings/c/tests/run.sh LIB_DIR    (a folder that has libpobj.a)" >&2
+  exit 2
+fi
+library=$(cd "$1" && pwd)
+cd "$(dirname "$0")/.." || exit 2
+include=$(cd ../../include && pwd)
+scratch=$(mktemp -d) || exit 2
+trap 'rm -rf "$scratch"' EXIT
+strict=(-Wall -Wextra -Wconversion -Wpedantic -Werror "-I$include" -I.)
+link=("-L$library" -lpobj -lpthread)
+refusing=-Wl,--wrap=malloc,--wrap=realloc,--wrap=pthread_mutex_init,--wrap=pthread_cond_init
+addresses=(-O1 -g "-fsanitize=address,undefined" -fno-sanitize-recover=all)
+races=(-O1 -g -fsanitize=thread)
+seconds=1
+
+# row NAME COMMAND..: a line, by the status of the command, and where it failed what it said.
+row() {
+  local name=$1 said
+  shift
+  if said=$("$@" 2>&1); then
+    echo "passed: $name"
+  else
+    echo "failed: $name"
+    printf '    %s\n' "${said//$'\n'/$'\n    '}"
+  fi
+}
+
+skip() {
+  echo "skipped: $1: $2"
+}
+
+is_there() {
+  command -v "$1" > /dev/null
+}
+
+# test_of NAME PROGRAM COMPILER FLAGS..: tests/NAME.c is compiled to this program, which ends by the line 'NAME: passed'.
+test_of() {
+  local name=$1 program=$2 words=("${@:3}")
+  "${words[@]}" "tests/$name.c" -o "$program" "${link[@]}" || return
+  timeout 60 "$program" "$seconds" > "$program.out" 2>&1
+  local status=$?
+  cat "$program.out"
+  [ $status -eq 0 ] && [ "$(tail -n 1 "$program.out")" = "$name: passed" ]
+}
+
+# example_of NAME PROGRAM COMPILER FLAGS..: examples/NAME.c is compiled to this program, which prints examples/NAME.out.
+example_of() {
+  local name=$1 program=$2 words=("${@:3}")
+  "${words[@]}" "examples/$name.c" -o "$program" "${link[@]}" || return
+  timeout 60 "$program" > "$program.out" && diff "examples/$name.out" "$program.out"
+}
+
+# runs_with PROGRAM COMPILER FLAGS..: there is what these flags need.
+runs_with() {
+  echo 'int main(void) { return 0; }' > "$1.c"
+  "${@:2}" "$1.c" -o "$1" > /dev/null 2>&1 && "$1" > /dev/null 2>&1
+}
+
+# header_of HEADER LANGUAGE STANDARD COMPILER: the header is a program by itself.
+header_of() {
+  printf '#define _POSIX_C_SOURCE 200809L\n#include "%s"\n' "$1" > "$scratch/$4-$1.$2"
+  "$4" "-std=$3" "${strict[@]}" -fsyntax-only "$scratch/$4-$1.$2"
+}
+
+# all_of COMPILER WORD FLAGS..: all tests and examples by this compiler with these flags.
+all_of() {
+  local compiler=$1 word=$2 flags=("-std=c11" "${strict[@]}" "${@:3}") name
+  local at=$scratch/$compiler-$word
+  for name in buffer readers_writers; do
+    row "$compiler, $word: examples/$name.c" example_of "$name" "$at-$name" "$compiler" "${flags[@]}"
+  done
+  row "$compiler, $word: tests/threads.c" test_of threads "$at-threads" "$compiler" "${flags[@]}"
+  [ "$word" = races ] && return
+  row "$compiler, $word: tests/engine.c" test_of engine "$at-engine" "$compiler" "${flags[@]}"
+  row "$compiler, $word: tests/refused.c" test_of refused "$at-refused" "$compiler" "${flags[@]}" "$refusing"
+}
+
+# sanitized_of COMPILER WORD FLAGS..: the same with sanitizers, where they are there.
+sanitized_of() {
+  if runs_with "$scratch/$1-$2" "$1" "${@:3}"; then
+    all_of "$@"
+  else
+    skip "$1, $2" "no such sanitizer"
+  fi
+}
+
+c_of() {
+  is_there "$1" || { skip "$1" "no such compiler"; return; }
+  row "$1: pobj.h alone" header_of pobj.h c c11 "$1"
+  row "$1: pobj_threads.h alone" header_of pobj_threads.h c c11 "$1"
+  row "$1: speed.c" "$1" -std=c11 "${strict[@]}" -O2 speed.c -o "$scratch/$1-speed" "${link[@]}"
+  all_of "$1" plain -O2
+  sanitized_of "$1" addresses "${addresses[@]}"
+  sanitized_of "$1" races "${races[@]}"
+}
+
+cxx_of() {
+  is_there "$1" || { skip "$1" "no such compiler"; return; }
+  row "$1: pobj.h as C++17" header_of pobj.h cc c++17 "$1"
+  row "$1: pobj_threads.h as C++17" header_of pobj_threads.h cc c++17 "$1"
+}
+
+# An installation in the scratch folder, and an example that is compiled as its pobj.pc says.
+installed() {
+  local prefix=$scratch/prefix
+  mkdir -p "$prefix/include" "$prefix/lib/pkgconfig"
+  cp "$include/pobj.h" pobj_threads.h "$prefix/include"
+  cp "$library/libpobj.a" "$prefix/lib"
+  sed "s|@prefix@|$prefix|; s|@version@|0|" pobj.pc.in > "$prefix/lib/pkgconfig/pobj.pc"
+  local flags
+  flags=$(PKG_CONFIG_PATH=$prefix/lib/pkgconfig pkg-config --cflags --libs pobj) || return
+  # shellcheck disable=SC2086
+  "$1" -std=c11 examples/buffer.c -o "$scratch/installed" $flags && "$scratch/installed" | diff examples/buffer.out -
+}
+
+pkg_config() {
+  local compiler
+  compiler=$(command -v gcc || command -v clang)
+  if [ -n "$compiler" ] && is_there pkg-config; then
+    row "pkg-config: pobj.pc" installed "$compiler"
+  else
+    skip "pkg-config: pobj.pc" "no such program"
+  fi
+}
+
+c_of gcc > "$scratch/gcc.lines" &
+{
+  c_of clang
+  cxx_of g++
+  cxx_of clang++
+  pkg_config
+} > "$scratch/others.lines"
+wait
+cat "$scratch/gcc.lines" "$scratch/others.lines" | tee "$scratch/lines"
+failed=$(grep -c '^failed: ' "$scratch/lines")
+echo "$(grep -c '^passed: ' "$scratch/lines") passed, $failed failed, $(grep -c '^skipped: ' "$scratch/lines") skipped"
+[ "$failed" -eq 0 ]

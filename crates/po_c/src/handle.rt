@@ -1,0 +1,84 @@
+//! The handle that C holds of an object.
+
+ghost use Rattle.std.specs.Prelude.{◌≡◌, Some, None, IsSome, Option};
+ghost use Rattle.po_c.specs.Held.{held, object_coded};
+ghost use Rattle.po_driven.specs.DrivenView.{DrivenView};
+
+use po_driven::DrivenObject;
+use po_loose::Loose;
+use std::alloc::Global;
+use std::marker::Model;
+use std::mem::replace;
+use std::ptr::null_mut;
+
+/// An object as C holds it: a pointer, which is null where there is none.
+#[repr(C)]
+#[derive(Drop)]
+pub struct Handle {
+    at: *mut u8,
+    alloc: Global,
+    pub ghost object: { Option DrivenView } by { object_coded },
+}
+
+impl Model for Handle {
+    ghost also_owns = { λ h. held h.alloc h.at h.object };
+}
+
+impl Handle {
+    /// A handle with no object.
+    fn none(alloc: Global) -> Handle
+        ensures { result.object ≡ None }
+    {
+        Handle {
+            at: null_mut(),
+            alloc,
+        }
+    }
+
+    /// The object's box, which leaves no object.
+    pub fn take(&mut self, alloc: Global) -> Box<DrivenObject, Global>
+        requires { IsSome self.old.object }
+        ensures taken { Some result.value ≡ self.old.object }
+        ensures left { self.new.object ≡ None }
+    {
+        replace(self, Handle::none(alloc)).into_box()
+    }
+
+    fn of_loose(loose: Loose<DrivenObject, Global>) -> Handle
+        ensures { result.object ≡ Some loose.value }
+    {
+        let Loose { at, alloc } = loose;
+        Handle {
+            at: at as *mut u8,
+            alloc,
+        }
+    }
+
+    fn into_loose(self) -> Loose<DrivenObject, Global>
+        requires { IsSome self.object }
+        ensures { Some result.value ≡ self.object }
+    {
+        let Handle { at, alloc } = self;
+        Loose {
+            at: at as *mut DrivenObject,
+            alloc,
+        }
+    }
+
+    /// The handle of a box.
+    pub fn of(boxed: Box<DrivenObject, Global>) -> Handle
+        ensures { result.object ≡ Some boxed.value }
+    {
+        Handle::of_loose(Loose::of(boxed))
+    }
+
+    fn into_box(self) -> Box<DrivenObject, Global>
+        requires { IsSome self.object }
+        ensures { Some result.value ≡ self.object }
+    {
+        self.into_loose().into_box()
+    }
+}
+
+// What it owns may be dropped by another thread.
+unsafe impl Send for Handle {}

@@ -1,0 +1,220 @@
+//! The C interface of a driven object (include/pobj.h).
+#![tactic(auto)]
+
+ghost use Rattle.std.specs.Prelude.{◌≡◌, ◌<◌, None, Some, IsSome, MatchBool, count_by, slice_set, true, false, ◌≤◌, ℕ};
+ghost use Rattle.po_calls.specs.declared.call.Call.{Call};
+ghost use Rattle.po_c.specs.Told.{FromTo, Cancelling, is_not_zero, Answers, entry_named, arriving_named, barrier_named, body_end_named, finalized};
+ghost use Rattle.po_driven.specs.Noted.{Notes, Names, NamesCaller, NamesTicket, IsNoRequeue, serviced, issued, landed};
+ghost use Rattle.po_driven.specs.Answering.{AnswersCall};
+ghost use Rattle.po_accepted.specs.WaitingCalls.{is_on};
+ghost use Rattle.po_driven.specs.DrivenView.{DrivenView, at_opening};
+ghost use Rattle.po_driven.specs.TracedView.{opening_calls};
+
+mod handle;
+mod numbers;
+
+use handle::Handle;
+use numbers::{answer_of, arriving_of, barrier_of, body_end_of, entry_of, number_of};
+use po_driven::{DrivenObject, Step, Ticket};
+use std::alloc::Global;
+
+/// Puts the object in place of a handle that has none. False where memory is wanting.
+fn put(alloc: Global, handle: &mut Handle, object: DrivenObject) -> bool
+    requires { handle.old.object ≡ None }
+    ensures { MatchBool result (handle.new.object ≡ Some object) (handle.new.object ≡ None) }
+{
+    match Box::new(alloc, object) {
+        Ok(boxed) => {
+            *handle = Handle::of(boxed);
+            true
+        }
+        Err(_) => false,
+    }
+}
+
+/// Makes an object in place of a handle that has none. False where memory is wanting, or there are too many entries.
+#[unsafe(no_mangle)]
+pub extern "C" fn pobj_make(alloc: Global, handle: &mut Handle, entries: u64) -> bool
+    requires { handle.old.object ≡ None }
+    ensures { MatchBool result (handle.new.object ≡ Some (at_opening (opening_calls entries 0 false) entries)) (handle.new.object ≡ None) }
+{
+    if entries > 65535 {
+        return false;
+    }
+    match DrivenObject::new(alloc, entries as u16) {
+        Ok(object) => put(alloc, handle, object),
+        Err(_) => false,
+    }
+}
+
+/// The same with all its memory, for so many calls at once that are queued or being served.
+#[unsafe(no_mangle)]
+pub extern "C" fn pobj_make_fixed(
+    alloc: Global,
+    handle: &mut Handle,
+    entries: u64,
+    calls: usize,
+) -> bool
+    requires { handle.old.object ≡ None }
+    ensures { MatchBool result (handle.new.object ≡ Some (at_opening (opening_calls entries calls true) entries)) (handle.new.object ≡ None) }
+{
+    if entries > 65535 {
+        return false;
+    }
+    match DrivenObject::with_capacity(alloc, entries as u16, calls) {
+        Ok(object) => put(alloc, handle, object),
+        Err(_) => false,
+    }
+}
+
+/// Frees the object.
+#[unsafe(no_mangle)]
+pub extern "C" fn pobj_free(alloc: Global, handle: &mut Handle)
+    requires { IsSome handle.old.object }
+    ensures { handle.new.object ≡ None }
+{
+    drop(handle.take(alloc));
+}
+
+/// From now on at most so many calls may be queued on the entry; 0: any number. False: there is no such entry.
+#[unsafe(no_mangle)]
+pub extern "C" fn pobj_limit(alloc: Global, handle: &mut Handle, entry: u64, longest: u64) -> bool
+    requires { IsSome handle.old.object }
+    ensures made { IsSome handle.new.object }
+    ensures set { FromTo handle.old.object handle.new.object (λ old new. entry_named entry < old.calls.object.state.unit
+        → (result ≡ true) × (new ≡ record old { limits = slice_set old.limits (entry_named entry) longest })) }
+    ensures none { FromTo handle.old.object handle.new.object (λ old new. old.calls.object.state.unit ≤ entry_named entry
+        → (result ≡ false) × (new ≡ old)) }
+{
+    let mut object = handle.take(alloc);
+    let is_set = object.limit(entry_of(entry), longest);
+    *handle = Handle::of(object);
+    is_set
+}
+
+/// A call of this caller arrives, and its barrier says so.
+#[unsafe(no_mangle)]
+pub extern "C" fn pobj_issue(
+    alloc: Global,
+    handle: &mut Handle,
+    caller: u64,
+    entry: u64,
+    marks: u64,
+    barrier: u64,
+    step: &mut Step,
+) -> u64
+    requires { IsSome handle.old.object }
+    ensures made { IsSome handle.new.object }
+    ensures answer { FromTo handle.old.object handle.new.object (λ old new. Answers result old new (λ action.
+        Notes (issued action (arriving_named caller entry marks) (barrier_named barrier) old) old new
+        × NamesCaller action (arriving_named caller entry marks) (barrier_named barrier) step.new old
+        × NamesTicket action step.new new
+        × AnswersCall action (arriving_named caller entry marks) (barrier_named barrier) new)) }
+{
+    let mut object = handle.take(alloc);
+    let arriving = arriving_of(caller, entry, marks);
+    let action = object.issue(arriving, barrier_of(barrier), step);
+    *handle = Handle::of(object);
+    answer_of(action)
+}
+
+/// What the barrier says that was asked for.
+#[unsafe(no_mangle)]
+pub extern "C" fn pobj_answer(
+    alloc: Global,
+    handle: &mut Handle,
+    barrier: u64,
+    step: &mut Step,
+) -> u64
+    requires { IsSome handle.old.object }
+    ensures made { IsSome handle.new.object }
+    ensures answer { FromTo handle.old.object handle.new.object (λ old new. Answers result old new (λ action. Notes (serviced action old) old new × Names action step.new old new)) }
+{
+    let mut object = handle.take(alloc);
+    let action = object.answer(barrier_of(barrier), step);
+    *handle = Handle::of(object);
+    answer_of(action)
+}
+
+/// How the body ended that was run.
+#[unsafe(no_mangle)]
+pub extern "C" fn pobj_body_ended(
+    alloc: Global,
+    handle: &mut Handle,
+    how: u64,
+    entry: u64,
+    marks: u64,
+    step: &mut Step,
+) -> u64
+    requires { IsSome handle.old.object }
+    ensures made { IsSome handle.new.object }
+    ensures answer { FromTo handle.old.object handle.new.object (λ old new. Answers result old new (λ action. NamesTicket action step.new new
+        × (IsNoRequeue (body_end_named how entry marks) → Names action step.new old new))) }
+    ensures noted { FromTo handle.old.object handle.new.object (λ old new. (x : Call ℕ) → old.calls.object.hand ≡ Some x
+        → Answers result old new (λ action. Notes (landed (body_end_named how entry marks) x action old) old new)) }
+{
+    let mut object = handle.take(alloc);
+    let action = object.body_ended(body_end_of(how, entry, marks), step);
+    *handle = Handle::of(object);
+    answer_of(action)
+}
+
+/// What the client is to do next.
+#[unsafe(no_mangle)]
+pub extern "C" fn pobj_next(alloc: Global, handle: &mut Handle, step: &mut Step) -> u64
+    requires { IsSome handle.old.object }
+    ensures made { IsSome handle.new.object }
+    ensures answer { FromTo handle.old.object handle.new.object (λ old new. Answers result old new (λ action. Notes (serviced action old) old new × Names action step.new old new)) }
+{
+    let mut object = handle.take(alloc);
+    let action = object.next(step);
+    *handle = Handle::of(object);
+    answer_of(action)
+}
+
+/// An attempt to cancel a queued call.
+#[unsafe(no_mangle)]
+pub extern "C" fn pobj_cancel(
+    alloc: Global,
+    handle: &mut Handle,
+    key: usize,
+    number: u64,
+    expired: u64,
+) -> u64
+    requires { IsSome handle.old.object }
+    ensures made { IsSome handle.new.object }
+    ensures refused { FromTo handle.old.object handle.new.object (λ old new. 1 < result → new ≡ old) }
+    ensures noted { FromTo handle.old.object handle.new.object (λ old new. Cancelling result key number (is_not_zero expired) old new) }
+{
+    let mut object = handle.take(alloc);
+    let what = object.cancel(Ticket { key, number }, expired != 0);
+    *handle = Handle::of(object);
+    number_of(what)
+}
+
+/// The object is finalized.
+#[unsafe(no_mangle)]
+pub extern "C" fn pobj_finalize(alloc: Global, handle: &mut Handle, step: &mut Step) -> u64
+    requires { IsSome handle.old.object }
+    ensures made { IsSome handle.new.object }
+    ensures answer { FromTo handle.old.object handle.new.object (λ old new. Answers result old new (λ action. Notes (finalized action old) old new)) }
+{
+    let mut object = handle.take(alloc);
+    let action = object.finalize(step);
+    *handle = Handle::of(object);
+    answer_of(action)
+}
+
+/// How many calls are queued on the entry.
+#[unsafe(no_mangle)]
+pub extern "C" fn pobj_count(alloc: Global, handle: &mut Handle, entry: u64) -> u64
+    requires { IsSome handle.old.object }
+    ensures same { handle.new.object ≡ handle.old.object }
+    ensures exact { (d : DrivenView) → handle.old.object ≡ Some d → entry_named entry < d.calls.object.state.unit
+        → result ≡ count_by (is_on (entry_named entry)) d.calls.object.state.waiting }
+{
+    let object = handle.take(alloc);
+    let count = object.count(entry_of(entry));
+    *handle = Handle::of(object);
+    count
+}

@@ -1,0 +1,106 @@
+//! The numbers of include/pobj.h.
+
+ghost use Rattle.std.specs.Prelude.{◌≡◌, ◌<◌, ◌+◌, ◌*◌};
+ghost use Rattle.po_c.specs.Told.{number_of_action, barrier_named, entry_named, number_of_cancellation, has_mark as is_marked, arriving_named, body_end_named};
+
+use po_driven::{Action, Arriving, Barrier, BodyEnd, Cancellation, Deadline, Requeue};
+
+/// An action and an entry in one number.
+#[inline(always)]
+fn with_entry(action: u64, entry: u16) -> u64
+    requires { action < 256 }
+    ensures { result ≡ action + 256 * entry }
+{
+    action + 256 * u64::from(entry)
+}
+
+/// The action as C is told it.
+#[inline(always)]
+pub fn answer_of(action: Action) -> u64
+    ensures { result ≡ number_of_action action }
+{
+    match action {
+        Action::Rest => 0,
+        Action::Evaluate(entry) => with_entry(1, entry),
+        Action::Run(entry) => with_entry(2, entry),
+        Action::Queued(entry) => with_entry(3, entry),
+        Action::Cancelled => 4,
+        Action::ProgramError => 5,
+        Action::NoMemory => 6,
+        Action::Refused => 7,
+    }
+}
+
+/// What C says of a barrier: 0 closed, 1 open, else that it raised an exception.
+pub fn barrier_of(number: u64) -> Barrier
+    ensures { result ≡ barrier_named number }
+{
+    match number {
+        0 => Barrier::Closed,
+        1 => Barrier::Open,
+        _ => Barrier::Raised,
+    }
+}
+
+/// The entry of this number; one that no object has, where the number is too great.
+pub fn entry_of(number: u64) -> u16
+    ensures { result ≡ entry_named number }
+{
+    if number < 65535 { number as u16 } else { 65535 }
+}
+
+/// Whether the mark is among those that C added.
+#[inline(always)]
+fn has_mark(marks: u64, mark: u64) -> bool
+    requires { 0 < mark }
+    ensures { result ≡ is_marked marks mark }
+{
+    marks / mark % 2 == 1
+}
+
+/// The call that C issues. Marks: 1 due, 2 by a requeue without abort, 4 aborted.
+#[inline(always)]
+pub fn arriving_of(caller: u64, entry: u64, marks: u64) -> Arriving<u64>
+    ensures { result ≡ arriving_named caller entry marks }
+{
+    Arriving {
+        entry: entry_of(entry),
+        value: caller,
+        sealed: has_mark(marks, 2),
+        aborted: has_mark(marks, 4),
+        deadline: if has_mark(marks, 1) {
+            Deadline::At(0)
+        } else {
+            Deadline::Never
+        },
+    }
+}
+
+/// How C says that a body ended: 0 and 4 completed, 1 failed, 2 and 3 requeued to the entry, without and with abort; any other
+/// number names no entry, and so is refused.
+pub fn body_end_of(how: u64, entry: u64, marks: u64) -> BodyEnd
+    ensures { result ≡ body_end_named how entry marks }
+{
+    match how {
+        0 | 4 => BodyEnd::Completed,
+        1 => BodyEnd::Failed,
+        _ => BodyEnd::Requeued(Requeue {
+            target: if how < 4 { entry_of(entry) } else { 65535 },
+            with_abort: how == 3,
+            aborted: has_mark(marks, 4),
+            due: has_mark(marks, 1),
+        }),
+    }
+}
+
+/// What came of an attempt to cancel, as C is told it.
+pub fn number_of(cancellation: Cancellation) -> u64
+    ensures { result ≡ number_of_cancellation cancellation }
+{
+    match cancellation {
+        Cancellation::Made => 0,
+        Cancellation::Kept => 1,
+        Cancellation::Unknown => 2,
+        Cancellation::Refused => 3,
+    }
+}

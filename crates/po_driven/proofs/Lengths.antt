@@ -1,0 +1,15 @@
+-- At which length a queue is full.
+use Rattle.std.proofs.Common.{ℕ, ◌≡◌, ◌++◌, List, [], ◌∷◌, max, Some, refl}
+use Rattle.std.specs.Prelude.{IsSome}
+use Rattle.std.specs.List.{slice_get}
+use Rattle.std.proofs.lemmas.Bool.{ne_eqb}
+use Rattle.po_calls.specs.declared.call.Call.{Call}
+use Rattle.po_driven.specs.Noted.{full_at}
+
+pub full_some : (limit count : ℕ) → (limit ≡ 0 → ⊥) → Some (max limit count) ≡ full_at limit count
+full_some limit count some = rw (ne_eqb limit 0 some) refl
+
+-- where one more call is queued, one is first
+pub one_waits : (xs : List (Call ℕ)) (x : Call ℕ) → IsSome (slice_get (xs ++ x ∷ []) 0)
+one_waits [] x = refl
+one_waits (y ∷ xs) x = refl

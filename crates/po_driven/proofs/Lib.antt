@@ -1,0 +1,7 @@
+mod Held
+mod Left
+mod Lengths
+mod Numbers
+mod Rests
+mod Spots
+mod Traces

@@ -1,0 +1,85 @@
+-- Each call stays in one place: what each word of a step does to the numbers that wait, are in hand or have ended.
+use Rattle.std.proofs.Common.{◌≡◌, ℕ, ◌+◌, ◌≤◌, map, refl, ap, ap₂, sym, subst, ◌∙◌, arith, Bool, true, false, cond, ◌&&◌, Option, Some, None, nat_le, nat_lt, if◌then◌else◌}
+use Rattle.std.specs.List.{count_by, find}
+use Rattle.po_calls.specs.declared.call.Call.{Call}
+use Rattle.po_calls.specs.declared.end.End.{End}
+use Rattle.po_calls.specs.declared.end.End.TheVariants.{Cancelled}
+use Rattle.po_engine.specs.ObjectState.{ObjectState}
+use Rattle.po_engine.specs.StateView.{StateView}
+use Rattle.po_accepted.specs.WaitingCalls.{has_number, mark}
+use Rattle.po_accepted.specs.Ending.{ended_as, has_ended}
+use Rattle.po_accepted.proofs.Lists.{without_none}
+use Rattle.po_engine.specs.Step.{end_call, take_out, cancel, abort}
+use Rattle.po_engine.proofs.Sums.{sum_by-push, sum_by-without, sum_by-mapped}
+use Rattle.po_driven.specs.OnePlace.{in_hands, places_with, IsInOnePlace}
+
+abbrev one_if : ℕ → Call ℕ → ℕ
+one_if n x = cond (has_number n x) 1 0
+
+marked : (n : ℕ) (b : Bool) (x : Call ℕ) → has_number n (if b then record x { aborted = true } else x) ≡ has_number n x
+marked n true x = refl
+marked n false x = refl
+
+abbrev S : Type 0
+S = ObjectState ℕ ℕ
+
+module _ (n : ℕ) where
+  abbrev places_of : S → ℕ
+  places_of p = count_by (has_number n) p.waiting + count_by (has_ended n) p.ended
+
+  places-end_call : (p : S) (x : Call ℕ) (end : End ℕ) → places_of (end_call p x end) ≡ places_of p + one_if n x
+  places-end_call p x end = omega (arith, sum_by-push (λ y. cond (has_ended n y) 1 0) p.ended (ended_as end x))
+
+  places-take : (p : S) (test : Call ℕ → Bool) (x : Call ℕ) → find test p.waiting ≡ Some x → places_of (take_out p test) + one_if n x ≡ places_of p
+  places-take p test x h = omega (arith, sum_by-without (λ y. cond (has_number n y) 1 0) test p.waiting x h)
+
+  places-cancel : (p : S) (k : ℕ) (o : Option (Call ℕ)) → find (has_number k) p.waiting ≡ o → places_of (cancel p k o) ≡ places_of p
+  places-cancel p k None h = refl
+  places-cancel p k (Some x) h = places-end_call (take_out p (has_number k)) x Cancelled ∙ places-take p (has_number k) x h
+
+  places-aborted : (p : S) (k : ℕ) (b : Bool) (x : Call ℕ) → find (has_number k) p.waiting ≡ Some x → places_of (if b then record p { waiting = map (mark k) p.waiting } else cancel p k (Some x)) ≡ places_of p
+  places-aborted p k true x h = omega (arith, sum_by-mapped (λ y. cond (has_number n y) 1 0) (mark k) (λ y. cond (has_number n y) 1 0) (λ y. ap (λ b. cond b 1 0) (marked n (has_number k y) y)) p.waiting)
+  places-aborted p k false x h = places-cancel p k (Some x) h
+
+  places-abort : (p : S) (k : ℕ) (o : Option (Call ℕ)) → find (has_number k) p.waiting ≡ o → places_of (abort p k o) ≡ places_of p
+  places-abort p k None h = refl
+  places-abort p k (Some x) h = places-aborted p k x.sealed x h
+
+  spots-take : (p : S) (hand : Option (Call ℕ)) (test : Call ℕ → Bool) (o : Option (Call ℕ)) → hand ≡ None → find test p.waiting ≡ o → places_with n (take_out p test) o ≡ places_with n p hand
+  spots-take p hand test None h f = omega (arith, ap (λ xs. count_by (has_number n) xs) (without_none test p.waiting f), ap (in_hands n) h)
+  spots-take p hand test (Some x) h f = omega (arith, places-take p test x f, ap (in_hands n) h)
+
+  spots-cancel : (p : S) (hand : Option (Call ℕ)) (k : ℕ) → hand ≡ None → places_with n (cancel p k (find (has_number k) p.waiting)) None ≡ places_with n p hand
+  spots-cancel p hand k h = omega (arith, places-cancel p k (find (has_number k) p.waiting) refl, ap (in_hands n) h)
+
+  spots-abort : (p : S) (hand : Option (Call ℕ)) (k : ℕ) → hand ≡ None → places_with n (abort p k (find (has_number k) p.waiting)) None ≡ places_with n p hand
+  spots-abort p hand k h = omega (arith, places-abort p k (find (has_number k) p.waiting) refl, ap (in_hands n) h)
+
+next-cancel : (p : S) (k : ℕ) (o : Option (Call ℕ)) → (cancel p k o).next ≡ p.next
+next-cancel p k None = refl
+next-cancel p k (Some x) = refl
+
+next-aborted : (p : S) (k : ℕ) (b : Bool) (x : Call ℕ) → (if b then record p { waiting = map (mark k) p.waiting } else cancel p k (Some x)).next ≡ p.next
+next-aborted p k true x = refl
+next-aborted p k false x = refl
+
+next-abort : (p : S) (k : ℕ) (o : Option (Call ℕ)) → (abort p k o).next ≡ p.next
+next-abort p k None = refl
+next-abort p k (Some x) = next-aborted p k x.sealed x
+
+-- where the state and the hand are so, and the numbers are in as many places as before, each call is in one place
+moved : (a b : StateView ℕ ℕ) (s : S) (hand : Option (Call ℕ)) → b.state ≡ s → b.hand ≡ hand → s.next ≡ a.state.next → ((n : ℕ) → places_with n s hand ≡ places_with n a.state a.hand) → IsInOnePlace a → IsInOnePlace b
+moved a b s hand st ha nx k p =
+    let next : b.state.next ≡ a.state.next = ap (λ t. t.next) st ∙ nx in record {
+      low = subst (λ j. 1 ≤ j) (sym next) p.low;
+      each = λ n. subst (λ j. places_with n b.state b.hand ≡ (if nat_le 1 n && nat_lt n j then 1 else 0)) (sym next) (ap₂ (places_with n) st ha ∙ (k n ∙ p.each n));
+    }
+
+pub took : (a b : StateView ℕ ℕ) (test : Call ℕ → Bool) (o : Option (Call ℕ)) → a.hand ≡ None → find test a.state.waiting ≡ o → b.state ≡ take_out a.state test → b.hand ≡ o → IsInOnePlace a → IsInOnePlace b
+took a b test o h f st ha p = moved a b (take_out a.state test) o st ha refl (λ n. spots-take n a.state a.hand test o h f) p
+
+pub cancelled : (a b : StateView ℕ ℕ) (k : ℕ) → a.hand ≡ None → b.state ≡ cancel a.state k (find (has_number k) a.state.waiting) → b.hand ≡ None → IsInOnePlace a → IsInOnePlace b
+cancelled a b k h st ha p = moved a b (cancel a.state k (find (has_number k) a.state.waiting)) None st ha (next-cancel a.state k (find (has_number k) a.state.waiting)) (λ n. spots-cancel n a.state a.hand k h) p
+
+pub attempted : (a b : StateView ℕ ℕ) (k : ℕ) → a.hand ≡ None → b.state ≡ abort a.state k (find (has_number k) a.state.waiting) → b.hand ≡ None → IsInOnePlace a → IsInOnePlace b
+attempted a b k h st ha p = moved a b (abort a.state k (find (has_number k) a.state.waiting)) None st ha (next-abort a.state k (find (has_number k) a.state.waiting)) (λ n. spots-abort n a.state a.hand k h) p

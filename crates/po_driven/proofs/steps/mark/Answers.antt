@@ -1,0 +1,12 @@
+use Rattle.std.proofs.Common.{ap, ◌∙◌}
+use Rattle.po_driven.proofs.Spots.{attempted}
+use Rattle.po_driven.proofs.Rests.{rests_marked}
+use Rattle.po_driven.proofs.steps.mark.Goals as goal
+
+pub returns-clause-placed : goal.returns-clause-placed
+returns-clause-placed c = λ p.
+    attempted c.args.state.now c.abort.new.self c.args.ticket.number c.requires.hand (ap (λ v. v.state) c.abort.ensures.state) (ap (λ v. v.hand) c.abort.ensures.state ∙ c.requires.hand) p
+
+pub returns-clause-rests : goal.returns-clause-rests
+returns-clause-rests c = λ closed rest.
+    rests_marked c.args.state.now c.abort.new.self c.args.ticket.number c.args.call c.requires.found c.requires.sealed (ap (λ v. v.state) c.abort.ensures.state) (ap (λ v. v.hand) c.abort.ensures.state) closed rest

@@ -1,0 +1,17 @@
+use Rattle.std.proofs.Common.{◌≡◌, ◌∙◌, None, ap, sym, subst}
+use Rattle.po_driven.specs.Happening.{end_oldest}
+use Rattle.po_driven.proofs.Traces.{traced_on}
+use Rattle.po_driven.specs.declared.happening.Happening.TheVariants.{Broken}
+use Rattle.po_driven.specs.Happening.{driving_of, happen}
+use Rattle.po_driven.specs.TracedView.{TracedView}
+use Rattle.po_driven.proofs.traced_state.TracedState.break_oldest.Goals as goal
+
+pub invariant_of-self-2 : goal.invariant_of-self-2
+invariant_of-self-2 c =
+    let i = c.self.inside in
+    let old : TracedView = record { object = i.state; place = i.place; happened = i.happened.items } in
+    let a = c.break_oldest.ensures in
+    let hand = subst (λ v. v.object.hand ≡ None) (sym c.self.view_is) c.requires in
+    let new : TracedView = record { object = c.break_oldest.new.state; place = i.place; happened = c.then-self-inside.result.items } in
+    let goes : happen Broken (driving_of i.state) ≡ driving_of c.break_oldest.new.state = ap (λ o. record { state = end_oldest i.state.state o; hand = None }) (sym a.found) ∙ sym (ap driving_of a.state ∙ ap (λ o. record { state = end_oldest i.state.state c.break_oldest.result; hand = o }) hand) in
+    traced_on old new Broken c.self.invariant a.unit c.then-self-inside.ensures goes a.placed (a.tickets c.self.invariant.tickets) a.rises (a.kept i.place c.self.invariant.later)

@@ -1,0 +1,20 @@
+use Rattle.std.proofs.Common.{◌≡◌, ◌∙◌, None, ap, sym, subst}
+use Rattle.std.specs.List.{find}
+use Rattle.po_accepted.specs.WaitingCalls.{has_number}
+use Rattle.po_engine.specs.Step.{cancel}
+use Rattle.po_driven.proofs.Traces.{traced_on}
+use Rattle.po_driven.specs.declared.happening.Happening.TheVariants.{Cancelled}
+use Rattle.po_driven.specs.Happening.{driving_of, happen}
+use Rattle.po_driven.specs.TracedView.{TracedView}
+use Rattle.po_driven.proofs.traced_state.TracedState.cancel.Goals as goal
+
+pub invariant_of-self : goal.invariant_of-self
+invariant_of-self c =
+    let i = c.self.inside in
+    let old : TracedView = record { object = i.state; place = i.place; happened = i.happened.items } in
+    let a = c.withdraw.ensures in
+    let hand = subst (λ v. v.object.hand ≡ None) (sym c.self.view_is) c.requires.hand in
+    let n = c.args.ticket.number in
+    let new : TracedView = record { object = c.withdraw.new.state; place = i.place; happened = c.then-self-inside.result.items } in
+    let goes : happen (Cancelled n) (driving_of i.state) ≡ driving_of c.withdraw.new.state = sym (ap driving_of a.state ∙ ap (λ o. record { state = cancel i.state.state n (find (has_number n) i.state.state.waiting); hand = o }) hand) in
+    traced_on old new (Cancelled n) c.self.invariant a.unit c.then-self-inside.ensures goes a.placed (a.tickets c.self.invariant.tickets) a.rises (a.kept i.place c.self.invariant.later)

@@ -1,0 +1,24 @@
+use Rattle.std.proofs.Common.{◌≡◌, ◌∙◌, None, ap, sym, subst}
+use Rattle.po_driven.specs.AtRest.{IsAtRest}
+use Rattle.std.specs.List.{find}
+use Rattle.po_accepted.specs.WaitingCalls.{has_number}
+use Rattle.po_engine.specs.Step.{abort}
+use Rattle.po_driven.proofs.Traces.{traced_on}
+use Rattle.po_driven.specs.declared.happening.Happening.TheVariants.{Marked}
+use Rattle.po_driven.specs.Happening.{driving_of, happen}
+use Rattle.po_driven.specs.TracedView.{TracedView}
+use Rattle.po_driven.proofs.traced_state.TracedState.mark.Goals as goal
+
+pub invariant_of-self : goal.invariant_of-self
+invariant_of-self c =
+    let i = c.self.inside in
+    let old : TracedView = record { object = i.state; place = i.place; happened = i.happened.items } in
+    let a = c.mark.ensures in
+    let hand = subst (λ v. v.object.hand ≡ None) (sym c.self.view_is) c.requires.hand in
+    let n = c.args.ticket.number in
+    let new : TracedView = record { object = c.mark.new.state; place = i.place; happened = c.then-self-inside.result.items } in
+    let goes : happen (Marked n) (driving_of i.state) ≡ driving_of c.mark.new.state = sym (ap driving_of a.state ∙ ap (λ o. record { state = abort i.state.state n (find (has_number n) i.state.state.waiting); hand = o }) hand) in
+    traced_on old new (Marked n) c.self.invariant a.unit c.then-self-inside.ensures goes a.placed (a.tickets c.self.invariant.tickets) a.rises (a.kept i.place c.self.invariant.later)
+
+pub returns-clause-rests : goal.returns-clause-rests
+returns-clause-rests c = λ closed rest. c.mark.ensures.rests closed (subst (λ v. IsAtRest v.object closed) (sym c.self.view_is) rest)

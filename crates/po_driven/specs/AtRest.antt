@@ -1,0 +1,21 @@
+-- When an object that its client drives is at rest (9.5.1, 9.5.3, 9.7.2).
+use Rattle.std.specs.Prelude.{ℕ, ◌≡◌, ◌<◌, ◌==◌, List, Bool, true, None, All, find}
+use Rattle.std.specs.List.{list_any}
+use Rattle.po_calls.specs.declared.call.Call.{Call}
+use Rattle.po_accepted.specs.WaitingCalls.{is_due}
+use Rattle.po_engine.specs.StateView.{StateView}
+
+-- whether the entry was answered to be closed
+abbrev pub told : List ℕ → ℕ → Bool
+told closed e = list_any (λ k. k == e) closed
+
+-- Each queued call on an entry below this one is on one that was answered to be closed.
+abbrev pub ToldBelow : List ℕ → ℕ → List (Call ℕ) → Type 0
+ToldBelow closed from waiting = All (λ x. x.entry < from → told closed x.entry ≡ true) waiting
+
+-- The object is at rest: no body runs, each queued call is on an entry that the client has answered to be closed since
+-- anything last changed, and none is due.
+pub record IsAtRest (o : StateView ℕ ℕ) (answered : List ℕ) : Type 0 where
+  pub idle : o.hand ≡ None
+  pub closed : All (λ x. told answered x.entry ≡ true) o.state.waiting
+  pub none_due : find (is_due o.state.clock) o.state.waiting ≡ None

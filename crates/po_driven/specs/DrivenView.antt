@@ -1,0 +1,83 @@
+-- What contracts see of an object that its client drives, and what it keeps (9.5.1 to 9.5.4).
+use Rattle.std.specs.Prelude.{ℕ, replicate, ◌≡◌, ◌≢◌, ◌<◌, List, [], ◌∷◌, ◌++◌, length, false, None, find, IsSome}
+use Rattle.po_accepted.specs.WaitingCalls.{is_on}
+use Rattle.po_engine.specs.StateView.{StateView}
+use Rattle.po_driven.specs.AtRest.{IsAtRest, ToldBelow}
+use Rattle.po_driven.specs.TracedView.{TracedView, IsTraced}
+use Rattle.po_driven.specs.declared.phase.Phase.{Phase}
+use Rattle.po_driven.specs.declared.phase.Phase.TheVariants.{Resting, Asked, Running, Settling, Breaking}
+use Rattle.po_driven.specs.declared.action.Action.{Action}
+use Rattle.po_driven.specs.declared.action.Action.TheVariants.{Rest, Evaluate, Run, Queued, Cancelled, ProgramError, NoMemory, Refused}
+use Rattle.po_driven.specs.declared.words.Barrier.{Barrier}
+use Rattle.po_driven.specs.declared.words.Barrier.TheVariants.{Closed, Open, Raised}
+
+pub record DrivenView : Type 0 where
+  -- the calls, and what has happened to them
+  pub calls : TracedView
+  -- of each entry, how many calls may be queued on it; 0: any number (D.7)
+  pub limits : List ℕ
+  -- what the object waits for
+  pub phase : Phase
+  -- the entries that the client has answered to be closed since a body or a procedure ran, or a count changed: known to
+  -- proofs alone
+  pub closed : List ℕ
+
+-- an object at rest that was just made, with these calls and so many entries
+abbrev pub at_opening : TracedView → ℕ → DrivenView
+at_opening calls entries = record { calls = calls; limits = replicate entries 0; phase = Resting; closed = [] }
+
+-- What is so while an object waits for this: where it rests, it is at rest; where the client is asked for the barrier of an
+-- entry, a call is queued on it, and the client has answered for the entries below; and a call is in hand while its body runs.
+abbrev pub Awaits : Phase → StateView ℕ ℕ → List ℕ → Type 0
+Awaits Resting o closed = IsAtRest o closed
+Awaits (Asked e) o closed = (o.hand ≡ None) × (e < o.state.unit) × IsSome (find (is_on e) o.state.waiting) × ToldBelow closed e o.state.waiting
+Awaits Running o closed = IsSome o.hand
+Awaits Settling o closed = o.hand ≡ None
+Awaits Breaking o closed = o.hand ≡ None
+
+-- What a driven object keeps beside its calls: a limit for each entry, and what is so while it waits.
+pub record IsWaiting (d : DrivenView) : Type 0 where
+  pub limits : length d.limits ≡ d.calls.object.state.unit
+  pub awaits : Awaits d.phase d.calls.object d.closed
+
+-- What a driven object keeps.
+pub record IsDriven (d : DrivenView) : Type 0 where
+  pub traced : IsTraced d.calls
+  pub waits : IsWaiting d
+
+-- The object waits for a command, is not finalized, and numbers and places are left: a call of this entry is accepted.
+pub record MayIssue (d : DrivenView) (e : ℕ) : Type 0 where
+  pub resting : d.phase ≡ Resting
+  pub alive : d.calls.object.state.finalized ≡ false
+  pub entry : e < d.calls.object.state.unit
+  pub number : d.calls.object.state.next < 18_446_744_073_709_551_615
+  pub place : d.calls.place < 340_282_366_920_938_463_463_374_607_431_768_211_455
+
+-- What the client is told is so: what it is to do next is what the object waits for.
+abbrev pub Tells : Action → DrivenView → Type 0
+Tells Rest d = d.phase ≡ Resting
+Tells (Evaluate e) d = d.phase ≡ Asked e
+Tells (Run e) d = d.phase ≡ Running
+Tells (Queued e) d = d.phase ≡ Asked e
+Tells Cancelled d = d.phase ≡ Settling
+Tells ProgramError d = d.phase ≢ Running
+Tells NoMemory d = d.phase ≡ Resting
+Tells Refused d = Unit {0}
+
+-- After a step that may have changed what a barrier says, no entry counts as answered to be closed.
+abbrev pub Fresh : Action → DrivenView → Type 0
+Fresh NoMemory d = Unit {0}
+Fresh Refused d = Unit {0}
+Fresh other d = d.closed ≡ []
+
+-- A step that is refused, or finds no memory, changes nothing.
+abbrev pub KeepsAll : Action → DrivenView → DrivenView → Type 0
+KeepsAll NoMemory old new = new ≡ old
+KeepsAll Refused old new = new ≡ old
+KeepsAll other old new = Unit {0}
+
+-- which entries count as answered to be closed once the client has answered for this one
+abbrev pub closed_after : List ℕ → ℕ → Barrier → List ℕ
+closed_after closed e Closed = closed ++ e ∷ []
+closed_after closed e Open = []
+closed_after closed e Raised = []

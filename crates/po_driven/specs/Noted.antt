@@ -1,0 +1,117 @@
+-- What an answer says has happened, and whom it names (9.5.2 to 9.5.4, 9.7.2, D.7).
+use Rattle.std.specs.Prelude.{ℕ, ◌≡◌, ◌==◌, List, [], ◌∷◌, ◌++◌, max, Bool, true, false, Option, Some, None, find, count_by, IfSome, IsSomeAnd, if◌then◌else◌}
+use Rattle.std.specs.List.{slice_get, slice_index}
+use Rattle.po_unit.specs.declared.outcome.Outcome.TheVariants.{Requeue as RequeueTo}
+use Rattle.po_calls.specs.declared.call.Call.{Call}
+use Rattle.po_calls.specs.declared.end.End.TheVariants.{Completed, Raised, Cancelled as IsCancelled}
+use Rattle.po_calls.specs.declared.ticket.Ticket.{Ticket}
+use Rattle.po_accepted.specs.Tickets.{is_live}
+use Rattle.po_accepted.specs.WaitingCalls.{has_number, is_on, is_due}
+use Rattle.po_engine.specs.Driving.{new_call}
+use Rattle.po_engine.specs.Step.{is_full}
+use Rattle.po_engine.specs.declared.arriving.Arriving.{Arriving}
+use Rattle.po_driven.specs.DrivenView.{DrivenView}
+use Rattle.po_driven.specs.Happening.{cancellation_of}
+use Rattle.po_driven.specs.declared.action.Action.{Action}
+use Rattle.po_driven.specs.declared.action.Action.TheVariants.{Run, Queued, Cancelled, ProgramError, NoMemory, Refused}
+use Rattle.po_driven.specs.declared.happening.Happening.{Happening}
+use Rattle.po_driven.specs.declared.happening.Happening.TheVariants.{Served, Arrived, Selected, Ended, Due, Requeued, Broken, Cancelled as WasCancelled, Marked}
+use Rattle.po_driven.specs.declared.words.Barrier.{Barrier}
+use Rattle.po_driven.specs.declared.words.Barrier.TheVariants.{Raised as HasRaised}
+use Rattle.po_driven.specs.declared.words.BodyEnd.{BodyEnd}
+use Rattle.po_driven.specs.declared.words.BodyEnd.TheVariants.{Completed as IsComplete, Failed, Requeued as IsRequeued}
+use Rattle.po_driven.specs.declared.words.Cancellation.{Cancellation}
+use Rattle.po_driven.specs.declared.words.Cancellation.TheVariants.{Made, Kept, Unknown, Refused as IsRefused}
+use Rattle.po_driven.specs.declared.words.Step.{Step}
+
+-- at which length a queue is full, where so many calls are queued on it and this is its limit; 0: none
+abbrev pub full_at : ℕ → ℕ → Option ℕ
+full_at limit count = if limit == 0 then None else Some (max limit count)
+
+-- at which length the queue of the entry is full
+abbrev pub longest_on : DrivenView → ℕ → Option ℕ
+longest_on d e = full_at (slice_index d.limits e) (count_by (is_on e) d.calls.object.state.waiting)
+
+-- what has happened when an object answers so that serviced its queues
+abbrev pub serviced : Action → DrivenView → List Happening
+serviced (Run e) d = Selected e ∷ []
+serviced Cancelled d = cancellation_of (find (is_due d.calls.object.state.clock) d.calls.object.state.waiting)
+serviced ProgramError d = Broken ∷ []
+serviced other d = []
+
+-- what has happened when an object answers so to a call that is issued
+abbrev pub issued : Action → Arriving ℕ → Barrier → DrivenView → List Happening
+issued (Run e) a barrier d = Served a ∷ []
+issued (Queued e) a barrier d = Arrived a (longest_on d a.entry) ∷ []
+issued ProgramError a HasRaised d = Arrived a None ∷ Broken ∷ []
+issued ProgramError a other d = Arrived a (longest_on d a.entry) ∷ []
+issued other a barrier d = []
+
+-- One more list of things has happened.
+abbrev pub Notes : List Happening → DrivenView → DrivenView → Type 0
+Notes hs old new = new.calls.happened ≡ old.calls.happened ++ hs
+
+-- Whom an answer names: the caller of the call whose body runs, of the one that is queued with this ticket, of the one that was
+-- due, or of the one that was queued first of all.
+abbrev pub Names : Action → Step → DrivenView → DrivenView → Type 0
+Names (Run e) step old new = IfSome new.calls.object.hand (λ x. (x.entry ≡ e) × (step.caller ≡ x.value))
+Names (Queued e) step old new = IfSome (find (has_number step.number) new.calls.object.state.waiting) (λ x. step.caller ≡ x.value)
+Names Cancelled step old new = IfSome (find (is_due old.calls.object.state.clock) old.calls.object.state.waiting) (λ x. step.caller ≡ x.value)
+Names ProgramError step old new = IfSome (slice_get old.calls.object.state.waiting 0) (λ x. step.caller ≡ x.value)
+Names other step old new = Unit {0}
+
+-- Whom an answer to a call that is issued names: its caller, but where its barrier raised the one that was queued first of all.
+abbrev pub NamesCaller : Action → Arriving ℕ → Barrier → Step → DrivenView → Type 0
+NamesCaller NoMemory a barrier step old = Unit {0}
+NamesCaller Refused a barrier step old = Unit {0}
+NamesCaller ProgramError a HasRaised step old = IfSome (slice_get (old.calls.object.state.waiting ++ new_call old.calls.object.state.next a ∷ []) 0) (λ x. step.caller ≡ x.value)
+NamesCaller (Queued e) a barrier step old = (step.caller ≡ a.value) × (step.number ≡ old.calls.object.state.next)
+NamesCaller other a barrier step old = step.caller ≡ a.value
+
+-- The answer says that the call is queued, and names its ticket.
+abbrev pub HasTicket : Action → Ticket → Step → Type 0
+HasTicket (Queued e) ticket step = (step.key ≡ ticket.key) × (step.number ≡ ticket.number)
+HasTicket other ticket step = ⊥
+
+-- what has happened when a body has ended so, whose call was in hand
+abbrev pub landed : BodyEnd → Call ℕ → Action → DrivenView → List Happening
+landed IsComplete x action d = Ended (Completed x.value) ∷ serviced action d
+landed Failed x action d = Ended (Raised 0) ∷ serviced action d
+landed (IsRequeued r) x Refused d = []
+landed (IsRequeued r) x Cancelled d = Ended IsCancelled ∷ []
+landed (IsRequeued r) x action d = (if r.due then Due ∷ [] else []) ++ Requeued (RequeueTo r.target r.with_abort x.value) (longest_on d r.target) ∷ []
+
+-- what has happened when an attempt to cancel the call with this number ends so
+abbrev pub attempted : Cancellation → ℕ → Bool → List Happening
+attempted Made n expired = WasCancelled n ∷ []
+attempted Kept n false = Marked n ∷ []
+attempted other n expired = []
+
+-- Where the answer says that a call is queued, the ticket that it names is that of an accepted call (9.5.3).
+abbrev pub NamesTicket : Action → Step → DrivenView → Type 0
+NamesTicket (Queued e) step new = is_live new.calls.object.tickets (record { key = step.key; number = step.number }) ≡ true
+NamesTicket other step new = Unit {0}
+
+-- The body didn't requeue its call.
+abbrev pub IsNoRequeue : BodyEnd → Type 0
+IsNoRequeue (IsRequeued r) = ⊥
+IsNoRequeue other = Unit {0}
+
+-- An attempt to cancel ends so, where the ticket is of this queued call: one that a requeue without abort queued is kept (9.5.4).
+abbrev pub Cancels : Cancellation → Option (Call ℕ) → Type 0
+Cancels Made queued = IsSomeAnd queued (λ x. x.sealed ≡ false)
+Cancels Kept queued = IsSomeAnd queued (λ x. x.sealed ≡ true)
+Cancels Unknown queued = queued ≡ None
+Cancels IsRefused queued = Unit {0}
+
+-- An attempt that cancels nothing leaves the object at rest; one that is refused, or knows no call, changes nothing.
+abbrev pub KeepsCalls : Cancellation → DrivenView → DrivenView → Type 0
+KeepsCalls Made old new = Unit {0}
+KeepsCalls Kept old new = new ≡ record old { calls = new.calls }
+KeepsCalls Unknown old new = new ≡ old
+KeepsCalls IsRefused old new = new ≡ old
+
+-- Where a call that is issued or requeued to the entry is answered Program_Error, its queue is full, or its barrier raised (9.5.3, D.7).
+abbrev pub EndsWhereFull : Action → ℕ → DrivenView → Type 0
+EndsWhereFull ProgramError e old = is_full (longest_on old e) (count_by (is_on e) old.calls.object.state.waiting) ≡ true
+EndsWhereFull other e old = Unit {0}

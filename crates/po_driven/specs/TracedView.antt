@@ -1,0 +1,46 @@
+-- What contracts see of the calls of a driven object with their history, and what is kept of them (this project's own).
+use Rattle.std.specs.Prelude.{ℕ, ◌≡◌, ◌<◌, List, [], Bool, None, All}
+use Rattle.po_engine.specs.Arrival.{Increases}
+use Rattle.po_engine.specs.ObjectState.{opening_state}
+use Rattle.po_engine.specs.StateView.{StateView}
+use Rattle.po_driven.specs.Happening.{driving_of, opening, replay}
+use Rattle.po_driven.specs.OnePlace.{HasTickets, IsInOnePlace}
+use Rattle.po_driven.specs.declared.happening.Happening.{Happening}
+
+pub record TracedView : Type 0 where
+  -- the calls, their tickets, and the call in hand, whose body the client runs
+  pub object : StateView ℕ ℕ
+  -- how many calls have arrived
+  pub place : ℕ
+  -- what has happened: known to proofs alone
+  pub happened : List Happening
+
+-- The calls of an object with so many entries that was just made, with memory for so many calls, and whether that stays so.
+abbrev pub opening_calls : ℕ → ℕ → Bool → TracedView
+opening_calls entries most is_fixed = record {
+  object = record {
+    state = opening_state entries 1;
+    places = [];
+    hand = None;
+    tickets = [];
+    keys = [];
+    first = 1;
+    most = most;
+    is_fixed = is_fixed;
+    before = 0;
+  };
+  place = 0;
+  happened = [];
+}
+
+-- What is kept of the calls of a driven object.
+pub record IsTraced (t : TracedView) : Type 0 where
+  -- what has happened leads to them
+  pub leads : replay (opening t.object.state.unit) t.happened ≡ driving_of t.object
+  -- each accepted call is in one place
+  pub placed : IsInOnePlace t.object
+  -- those that are queued or in hand have a ticket, and no other has one
+  pub tickets : HasTickets t.object
+  -- the queued calls stand in order of arrival, and all arrived before the present (9.5.3, D.4)
+  pub rises : Increases t.object.places
+  pub later : All (λ k. k < t.place) t.object.places

@@ -1,0 +1,58 @@
+//! What an object and its client say to each other beside the action.
+
+/// The call that an action is of: who issued it, and of a queued call its ticket.
+#[repr(C)]
+#[derive(Clone, Copy)]
+pub struct Step {
+    pub caller: u64,
+    pub key: usize,
+    pub number: u64,
+}
+
+/// What the client says of a barrier (9.5.2, 9.5.3).
+#[derive(Clone, Copy, Debug, PartialEq, Eq)]
+pub enum Barrier {
+    /// The entry is closed.
+    Closed,
+    /// The entry is open.
+    Open,
+    /// Its evaluation propagated an exception.
+    Raised,
+}
+
+/// How a body requeues its call (9.5.4).
+#[derive(Clone, Copy, Debug, PartialEq, Eq)]
+pub struct Requeue {
+    /// The entry to which the call goes.
+    pub target: u16,
+    /// Whether the call may be cancelled while it is queued there.
+    pub with_abort: bool,
+    /// Whether its caller was aborted while the body ran.
+    pub aborted: bool,
+    /// Whether its time has come.
+    pub due: bool,
+}
+
+/// How the body of the call in hand ended (9.5.2, 9.5.4).
+#[derive(Clone, Copy, Debug, PartialEq, Eq)]
+pub enum BodyEnd {
+    /// It completed, by an exception or not, or requeued its call to another object: the client sees to the caller.
+    Completed,
+    /// The same, and all queued calls end by Program_Error.
+    Failed,
+    /// It requeued its call to an entry of this object.
+    Requeued(Requeue),
+}
+
+/// What comes of an attempt to cancel a queued call (9.5.3, 9.5.4).
+#[derive(Clone, Copy, Debug, PartialEq, Eq)]
+pub enum Cancellation {
+    /// The call is cancelled.
+    Made,
+    /// A requeue without abort queued the call, and it stays. An abort is remembered.
+    Kept,
+    /// No call is queued with that ticket.
+    Unknown,
+    /// The object isn't at rest, and nothing has changed.
+    Refused,
+}

@@ -1,0 +1,10 @@
+pub mod Absent
+pub mod Alone
+pub mod BusyLemmas
+pub mod Looks
+pub mod Oldest
+pub mod Owed
+pub mod Owing
+pub mod PlaceSteps
+pub mod Places
+pub mod Sums

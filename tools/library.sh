@@ -1,0 +1,87 @@
+# shellcheck shell=bash
+# The library for C, proved and built, and the archive for machines without the toolchain. Read by `pobj`, behind crates.sh and
+# build.sh.
+
+# The version of the programs, and of the library.
+version() { sed -nE 's/.*VERSION: .*"([0-9.]+)".*/\1/p' "$top/crates/po_command_line/src/commands.rt"; }
+
+# Proves and builds the static library: the crate po_c, with those that it stands on.
+build_library() {
+  local failed=""
+  list_crates po_c
+  is_older "$(built_of po_c)" "$top/crates.txt" "${crates[@]}" || return 0
+  SECONDS=0
+  : >"$log"
+  say "the library for C: ${#crates[@]} crates are proved, in 8 to 12 minutes on 4 processors, less where some are proved already"
+  if ! build_crates po_c || [ ! -e "$top/crates/po_c/out/libpo_c.a" ]; then
+    [ ! -t 2 ] || echo >&2
+    say "the library could not be built: $failed; see $log"
+    exit 5
+  fi
+  [ ! -t 2 ] || printf '\r\033[K' >&2
+  say "the library is built in $(since)"
+}
+
+# Puts libpobj.a into the folder: what was proved, and the kit's three functions over malloc, realloc and free.
+put_archive() {
+  local kit objects
+  kit=$(dirname "$(rt doc)")
+  objects=$(mktemp -d)
+  (cd "$objects" && ar x "$top/crates/po_c/out/libpo_c.a" && ar x "$kit/c/liblibc_c.a" && ar rcsD "$1/libpobj.a" ./*.o)
+  rm -rf "$objects"
+}
+
+# Puts into the folder what a C program needs: library, headers, the file for pkg-config, and the examples.
+put_library() {
+  local to=$1
+  mkdir -p "$to/lib/pkgconfig" "$to/include" "$to/share/pobj"
+  rm -f "$to/lib/libpobj.a"
+  put_archive "$to/lib"
+  cp "$top/include/pobj.h" "$top/bindings/c/pobj_threads.h" "$to/include/"
+  cp -r "$top/bindings/c/examples" "$to/share/pobj/"
+  sed "s,@prefix@,$to,; s,@version@,$(version)," "$top/bindings/c/pobj.pc.in" >"$to/lib/pkgconfig/pobj.pc"
+}
+
+# Carries out `pobj c DEST`.
+library() {
+  if [ $# -ne 1 ]; then
+    say "pobj c takes a folder, into which it puts the library for C"
+    exit 2
+  fi
+  need_rt "the library has to be built"
+  wait_for_turn
+  build_library 9<&-
+  mkdir -p "$1"
+  put_library "$(cd "$1" && pwd)"
+  say "in $1 are lib/libpobj.a, include/pobj.h, include/pobj_threads.h and share/pobj/examples; docs/C.md says how to use them"
+}
+
+# Puts into the folder what users without the toolchain need.
+put_all() {
+  local to=$1 word
+  mkdir -p "$to/bin" "$to/doc"
+  for word in run check stress; do
+    cp "$top/crates/pobj_$word/out/pobj_$word" "$to/bin/"
+  done
+  cp "$top/tools/installed.sh" "$to/bin/pobj"
+  put_library "$to"
+  sed -i 's,^prefix=.*,prefix=${pcfiledir}/../..,' "$to/lib/pkgconfig/pobj.pc"
+  cp "$top/README.md" "$top"/docs/*.md "$to/doc/"
+  cp -r "$top/examples" "$to/examples"
+  rt version >"$to/KIT"
+  (cd "$to" && find . -type f ! -name SHA256SUMS | LC_ALL=C sort | xargs sha256sum >SHA256SUMS)
+}
+
+# Carries out `pobj dist`: everything is built, and put into one archive, the same bytes from the same sources.
+dist() {
+  local name room
+  name=pobj-$(version)-x86_64-linux
+  need_rt "the programs have to be built"
+  build all
+  build_library
+  room=$(mktemp -d)
+  put_all "$room/$name"
+  (cd "$room" && find "$name" | LC_ALL=C sort | tar -c --no-recursion --mtime=@0 --owner=0 --group=0 --numeric-owner -T - | gzip -n >"$top/$name.tar.gz")
+  rm -rf "$room"
+  say "$name.tar.gz has the programs, the library, the pages and their sums"
+}

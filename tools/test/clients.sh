@@ -1,0 +1,47 @@
+# shellcheck shell=bash
+# The proved library called from C: the tests and examples of bindings/c, scripts carried out by a C program, the archive built
+# twice. Read by `test`, which sets `top`.
+
+# Shows what failed and what was skipped of what the command wrote, and counts its last line.
+count_clients() {
+  grep -vE '^passed: ' "$1"
+  count "$1" "$2"
+}
+
+# Builds the archive once more, in another folder, and compares the bytes.
+same_bytes() {
+  copy_crates "$scratch/again"
+  (cd "$scratch/again/crates/po_c" && rt lib) >"$scratch/again.log" 2>&1 || fail "po_c could not be built once more"
+  if cmp -s crates/po_c/out/libpo_c.a "$scratch/again/crates/po_c/out/libpo_c.a"; then
+    pass
+  else
+    fail "two builds of libpo_c.a differ"
+  fi
+}
+
+# What `pobj dist` packs, in a folder of its own and with no toolchain in the path: it runs a script, and its example is compiled.
+unpacked() {
+  local to=$scratch/dist bare=/usr/bin:/bin
+  put_all "$to"
+  if env -i PATH=$bare "$to/bin/pobj" run <examples/allocator.pobj | cmp -s - examples/allocator.out; then pass; else fail "the packed pobj doesn't run a script"; fi
+  if env -i PATH=$bare gcc -std=c11 "-I$to/include" "$to/share/pobj/examples/buffer.c" "-L$to/lib" -lpobj -lpthread -o "$scratch/buffer" \
+    && "$scratch/buffer" | cmp -s - "$to/share/pobj/examples/buffer.out"; then pass; else fail "the packed library doesn't run its example"; fi
+  if (cd "$to" && sha256sum --quiet -c SHA256SUMS); then pass; else fail "the packed sums differ"; fi
+}
+
+# Where a C compiler is there: all of bindings/c/tests, over the library that the proofs built.
+clients() {
+  if ! command -v gcc >/dev/null || [ ! -e crates/po_c/out/libpo_c.a ]; then
+    echo "the C tests are skipped: there is no gcc, or no library"
+    return
+  fi
+  mkdir -p "$scratch/lib"
+  put_archive "$scratch/lib"
+  bindings/c/tests/run.sh "$scratch/lib" >"$scratch/c" 2>&1
+  count_clients "$scratch/c" "the C tests"
+  gcc -std=c11 -O2 -Iinclude bindings/c/tests/scripts/*.c "$scratch/lib/libpobj.a" -o "$scratch/script" || fail "the C program of scripts can't be built"
+  bindings/c/tests/scripts/compare.sh "$scratch/script" crates/pobj_run/out/pobj_run 1000 >"$scratch/c" 2>&1
+  count_clients "$scratch/c" "scripts by a C program"
+  unpacked
+  same_bytes
+}
