@@ -38,12 +38,14 @@ def only(path):
     return ["--only", "::".join(parts[1:])] if parts[0] == "src" and parts[1:] not in (("lib",), ("main",)) else []
 
 
-def says_refused(said):
-    """Whether the check came to the proofs, and one of them failed."""
+def says_refused(status, said):
+    """Whether the check came to the proofs, and one of them failed, or met a limit of the prover, as `rt must-fail` has it."""
+    if status == 3:
+        return re.search(r"antt ran out of |outgrew the memory limit|stopped at the step limit", said) is not None
     told = re.search(r"^only=(\d+) proved=(\d+)", said, re.M)
     if told:
-        return told[1] != told[2]
-    return "logic=not-proved" in said and not re.search(r"\berror\[[\w-]+\]", said)
+        return status == 1 and told[1] != told[2]
+    return status == 1 and "logic=not-proved" in said and not re.search(r"\berror\[[\w-]+\]", said)
 
 
 def is_refused(crate, texts):
@@ -58,7 +60,7 @@ def is_refused(crate, texts):
         for path, text in kept.items():
             (crate / path).write_text(text)
     said = ran.stdout + ran.stderr
-    return ran.returncode == 1 and says_refused(said), said
+    return says_refused(ran.returncode, said), f"status {ran.returncode}: {said[-400:]}"
 
 
 def try_edit(edit, crate):
@@ -68,7 +70,7 @@ def try_edit(edit, crate):
     except (OSError, ValueError) as fault:
         refused, said = False, str(fault)
     name = f"{crate.name}/{edit.stem}"
-    print(f"{name}: refused" if refused else f"FAILED: {name}: not refused, or not tried: {said[-400:]}", flush=True)
+    print(f"{name}: refused" if refused else f"FAILED: {name}: not refused, or not tried: {said}", flush=True)
     return refused
 
 
