@@ -65,6 +65,7 @@ put_all() {
   done
   cp "$top/tools/installed.sh" "$to/bin/pobj"
   put_library "$to"
+  cp -r "$top/bindings/ada" "$to/share/pobj/"
   sed -i 's,^prefix=.*,prefix=${pcfiledir}/../..,' "$to/lib/pkgconfig/pobj.pc"
   cp "$top/README.md" "$top"/docs/*.md "$to/doc/"
   cp -r "$top/examples" "$to/examples"

@@ -1,0 +1,15 @@
+
+   ---------------------
+   -- Protected_Count --
+   ---------------------
+
+   function Protected_Count
+     (Object : Protection_Entries'Class;
+      E      : Protected_Entry_Index) return Natural is
+   begin
+      if Pobj.Serves (Object'Unrestricted_Access) then
+         return Pobj.Count (Object, E);
+      else
+         return GNARL_Count (Object, E);
+      end if;
+   end Protected_Count;

@@ -1,0 +1,21 @@
+
+   procedure GNARL_Do_Or_Queue
+     (Self_ID    : Task_Id;
+      Object     : Protection_Entries_Access;
+      Entry_Call : Entry_Call_Link);
+
+   procedure GNARL_Service_Entries
+     (Self_ID       : Task_Id;
+      Object        : Entries.Protection_Entries_Access;
+      Unlock_Object : Boolean := True);
+
+   function GNARL_Count
+     (Object : Protection_Entries'Class;
+      E      : Protected_Entry_Index) return Natural;
+   --  What stands here without pobj, for the objects that it doesn't serve
+
+   procedure Leave
+     (Self_ID : Task_Id;
+      Object  : Entries.Protection_Entries_Access);
+   pragma Inline (Leave);
+   --  The object is at rest behind PO_Do_Or_Queue: gives its lock up

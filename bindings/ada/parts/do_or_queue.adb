@@ -1,0 +1,16 @@
+
+   --------------------
+   -- PO_Do_Or_Queue --
+   --------------------
+
+   procedure PO_Do_Or_Queue
+     (Self_ID    : Task_Id;
+      Object     : Protection_Entries_Access;
+      Entry_Call : Entry_Call_Link) is
+   begin
+      if Pobj.Serves (Object) then
+         Pobj.Issue (Self_ID, Object, Entry_Call);
+      else
+         GNARL_Do_Or_Queue (Self_ID, Object, Entry_Call);
+      end if;
+   end PO_Do_Or_Queue;

@@ -1,0 +1,6 @@
+      procedure Finalize_Queues
+        (Self_ID : Task_Id;
+         Object  : Protection_Entries_Access);
+      pragma Import (Ada, Finalize_Queues, "pobj_ada_finalize");
+      --  Pobj.Finalize: its unit needs this one
+

@@ -1,0 +1,35 @@
+
+   ------------------------
+   -- PO_Service_Entries --
+   ------------------------
+
+   procedure PO_Service_Entries
+     (Self_ID       : Task_Id;
+      Object        : Entries.Protection_Entries_Access;
+      Unlock_Object : Boolean := True) is
+   begin
+      if not Pobj.Serves (Object) then
+         GNARL_Service_Entries (Self_ID, Object, Unlock_Object);
+      else
+         Pobj.Service (Self_ID, Object);
+
+         if Unlock_Object then
+            Pobj.Leave (Self_ID, Object);
+         end if;
+      end if;
+   end PO_Service_Entries;
+
+   -----------
+   -- Leave --
+   -----------
+
+   procedure Leave
+     (Self_ID : Task_Id;
+      Object  : Entries.Protection_Entries_Access) is
+   begin
+      if Pobj.Serves (Object) then
+         Pobj.Leave (Self_ID, Object);
+      else
+         GNARL_Service_Entries (Self_ID, Object, True);
+      end if;
+   end Leave;

@@ -1,0 +1,971 @@
+with Ada.Exceptions;
+with Ada.Unchecked_Conversion;
+
+with System.Restrictions;
+with System.Task_Primitives.Operations;
+with System.Tasking.Initialization;
+with System.Tasking.Protected_Objects.Traces;
+with System.Tasking.Queuing;
+with System.Tasking.Rendezvous;
+
+package body System.Tasking.Protected_Objects.Pobj is
+
+   package STPO renames System.Task_Primitives.Operations;
+
+   use Ada.Exceptions;
+   use Entries;
+   use type Flag;
+   use type Word;
+
+   Queuing_Policy : constant Character;
+   pragma Import (C, Queuing_Policy, "__gl_queuing_policy");
+
+   --  A queued call keeps its ticket in Prev, the key, and Next, the number:
+   --  that is never 0, so Next isn't null while the call is queued, as GNARL
+   --  has it. The first queue of GNARL's has no other use here: its Head is
+   --  the engine's, and its Tail the last of the calls that bodies requeued
+   --  elsewhere. These are in a ring, chained by Acceptor_Prev_Call.
+
+   pragma Warnings (Off);  --  aliasing: compiled with -fno-strict-aliasing
+   function To_Link is
+     new Ada.Unchecked_Conversion (Word, Entry_Call_Link);
+   function To_Word is
+     new Ada.Unchecked_Conversion (Entry_Call_Link, Word);
+   pragma Warnings (On);
+
+   Most_Entries : constant := 65_535;
+   --  As pobj.h has it
+
+   function Queues_Of
+     (Object : Protection_Entries'Class) return Queues;
+   pragma Inline (Queues_Of);
+
+   function Action_Of (Answer : Word) return Word;
+   pragma Inline (Action_Of);
+
+   function Entry_Of (Answer : Word) return Protected_Entry_Index;
+   pragma Inline (Entry_Of);
+   --  The engine numbers entries from 0, and GNARL from 1
+
+   function No_Call_Is_Queued return Boolean;
+   --  Whether the program's restrictions let no call be queued (D.7)
+
+   function Longest
+     (Object : Protection_Entries_Access;
+      E      : Protected_Entry_Index) return Natural;
+   --  How many calls the queue of the entry may have, 0 for any number: by
+   --  Max_Queue_Length, and by the restriction Max_Entry_Queue_Length (D.7).
+
+   procedure Set_Limits (Object : Protection_Entries_Access);
+   --  Tells the engine the longest queue of each entry that has one
+
+   function Barrier_Of
+     (Object : Protection_Entries_Access;
+      E      : Protected_Entry_Index) return Word;
+   --  What the barrier of the entry says. An exception of it goes no further
+   --  (9.5.3).
+
+   function Only_Expired (Call : Entry_Call_Link) return Boolean;
+   --  Whether a cancellation was attempted since the call's time has come,
+   --  and not by an abort. Both are noted under the caller's lock.
+
+   function Attempted (Call : Entry_Call_Link) return Word;
+   pragma Inline (Attempted);
+   --  The mark of a call for the cancellation that was attempted, if any
+
+   function Marks_Of (Call : Entry_Call_Link) return Word;
+   pragma Inline (Marks_Of);
+   --  All that is known of a call that arrives
+
+   procedure Trace
+     (Object : Protection_Entries_Access;
+      Call   : Entry_Call_Link;
+      What   : String);
+   pragma Inline (Trace);
+   --  Records what came of a call, if it is asked for
+
+   procedure End_Call
+     (Self_ID : Task_Id;
+      Call    : Entry_Call_Link;
+      State   : Entry_Call_State);
+   --  Ends the call, and wakes its caller
+
+   procedure End_By
+     (Self_ID : Task_Id;
+      Call    : Entry_Call_Link;
+      Why     : Exception_Id);
+   --  Ends the call by an exception of the runtime's own, without a message
+
+   procedure Note_Queued
+     (Self_ID : Task_Id;
+      Object  : Protection_Entries_Access;
+      Call    : Entry_Call_Link;
+      Told    : Step);
+   --  The call is queued: keeps its ticket, and says whether its caller may
+   --  cancel it.
+
+   procedure Look_Again (Call : Entry_Call_Link);
+   --  The call can be cancelled from now on. An abort may have come before,
+   --  and the abortable part of an asynchronous select begins now (9.7.4):
+   --  its caller looks again.
+
+   procedure Send_Elsewhere
+     (Object : Protection_Entries_Access;
+      Call   : Entry_Call_Link);
+   --  The call is to be issued once the object's lock is given up
+
+   procedure Join (Last : in out Entry_Call_Link; More : Entry_Call_Link);
+   --  Appends the calls of one ring to those of another
+
+   procedure Take_First
+     (Last  : in out Entry_Call_Link;
+      First : out Entry_Call_Link);
+   --  Takes the first call out of a ring
+
+   function Is_Run
+     (Object : Protection_Entries_Access;
+      Call   : Entry_Call_Link;
+      E      : Protected_Entry_Index) return Boolean;
+   --  Runs the body of the entry for the call. False: an exception left it
+   --  that its own handlers don't see.
+
+   function Completed_Call
+     (Self_ID : Task_Id;
+      Object  : Protection_Entries_Access;
+      Call    : Entry_Call_Link;
+      How     : Word;
+      Told    : in out Step) return Word;
+   --  Tells the engine that the body has completed the call, ends it, and
+   --  gives the next answer.
+
+   function Requeued_Call
+     (Object : Protection_Entries_Access;
+      Call   : Entry_Call_Link;
+      Told   : in out Step) return Word;
+   --  Tells the engine that the body has requeued the call, and gives the
+   --  next answer.
+
+   function Body_Run
+     (Self_ID : Task_Id;
+      Object  : Protection_Entries_Access;
+      E       : Protected_Entry_Index;
+      Told    : in out Step) return Word;
+   --  Runs the body of the entry, tells the engine how it ended, and gives
+   --  the next answer.
+
+   procedure Carry_Out_Beside
+     (Self_ID : Task_Id;
+      Object  : Protection_Entries_Access;
+      Answer  : Word;
+      Told    : in out Step);
+   --  As Carry_Out, and keeps the exception that this task's own call is
+   --  going to raise.
+
+   procedure Carry_Out
+     (Self_ID : Task_Id;
+      Object  : Protection_Entries_Access;
+      Answer  : Word;
+      Told    : in out Step);
+   --  Does what the engine says, and what it says then, until the object is
+   --  at rest.
+
+   procedure Issue_To_Task (Self_ID : Task_Id; Call : Entry_Call_Link);
+   --  A call that was requeued to a task arrives there. Where that task has
+   --  come to its end, Tasking_Error is raised in the caller (9.5.3).
+
+   procedure Issue_To_Object
+     (Self_ID : Task_Id;
+      Call    : Entry_Call_Link;
+      Last    : in out Entry_Call_Link);
+   --  A call that was requeued to another object arrives there. What follows
+   --  elsewhere joins the ring.
+
+   procedure Issue_All (Self_ID : Task_Id; Ring : Entry_Call_Link);
+   --  Issues the calls of a ring, one after the other
+
+   function Is_Cancelled (Call : Entry_Call_Link) return Boolean;
+   --  Whether the engine cancels the queued call now
+
+   procedure Stop;
+   pragma No_Return (Stop);
+   --  The engine refused a step, so this unit is wrong: ends the program
+
+   ------------
+   -- Serves --
+   ------------
+
+   function Serves (Object : Protection_Entries_Access) return Boolean is
+   begin
+      return Queuing_Policy /= 'P'
+        and then Object.Num_Entries > 0
+        and then Object.Entry_Queues (1).Head /= null;
+   end Serves;
+
+   ---------------
+   -- Queues_Of --
+   ---------------
+
+   function Queues_Of (Object : Protection_Entries'Class) return Queues is
+   begin
+      return Object.Entry_Queues (1).Head'Address;
+   end Queues_Of;
+
+   ---------------
+   -- Action_Of --
+   ---------------
+
+   function Action_Of (Answer : Word) return Word is
+   begin
+      return Answer mod 2 ** 8;
+   end Action_Of;
+
+   --------------
+   -- Entry_Of --
+   --------------
+
+   function Entry_Of (Answer : Word) return Protected_Entry_Index is
+   begin
+      return Protected_Entry_Index (Answer / 2 ** 8 + 1);
+   end Entry_Of;
+
+   -----------------------
+   -- No_Call_Is_Queued --
+   -----------------------
+
+   function No_Call_Is_Queued return Boolean is
+      use System.Restrictions;
+      use System.Restrictions.Rident;
+   begin
+      return Run_Time_Restrictions.Set (Max_Entry_Queue_Length)
+        and then Run_Time_Restrictions.Value (Max_Entry_Queue_Length) = 0;
+   end No_Call_Is_Queued;
+
+   -------------
+   -- Longest --
+   -------------
+
+   function Longest
+     (Object : Protection_Entries_Access;
+      E      : Protected_Entry_Index) return Natural
+   is
+      use System.Restrictions;
+      use System.Restrictions.Rident;
+
+      Of_Entry   : Natural := 0;
+      Of_Program : Natural := 0;
+
+   begin
+      if Object.Entry_Queue_Maxes /= null then
+         Of_Entry := Object.Entry_Queue_Maxes
+           (Object.Find_Body_Index (Object.Compiler_Info, E));
+      end if;
+
+      if Run_Time_Restrictions.Set (Max_Entry_Queue_Length) then
+         Of_Program := Run_Time_Restrictions.Value (Max_Entry_Queue_Length);
+      end if;
+
+      return (if Of_Entry = 0 or else Of_Program = 0
+              then Of_Entry + Of_Program
+              else Natural'Min (Of_Entry, Of_Program));
+   end Longest;
+
+   ----------------
+   -- Set_Limits --
+   ----------------
+
+   procedure Set_Limits (Object : Protection_Entries_Access) is
+      Most : Natural;
+   begin
+      for E in Object.Entry_Queues'Range loop
+         Most := Longest (Object, E);
+
+         if Most > 0
+           and then pobj_limit
+             (Queues_Of (Object.all), Word (E - 1), Word (Most)) = 0
+         then
+            Stop;
+         end if;
+      end loop;
+   end Set_Limits;
+
+   ----------
+   -- Make --
+   ----------
+
+   procedure Make (Object : Protection_Entries_Access) is
+      Self_ID : constant Task_Id := STPO.Self;
+      Is_Made : Boolean;
+
+   begin
+      Traces.Start (Self_ID);
+
+      if Queuing_Policy = 'P'
+        or else Object.Num_Entries = 0
+        or else No_Call_Is_Queued
+      then
+         return;
+      end if;
+
+      if Object.Num_Entries > Most_Entries then
+         raise Storage_Error with "a protected object over 65_535 entries";
+      end if;
+
+      Initialization.Defer_Abort_Nestable (Self_ID);
+      Is_Made :=
+        pobj_make (Queues_Of (Object.all), Word (Object.Num_Entries)) /= 0;
+
+      if Is_Made then
+         Set_Limits (Object);
+
+         if Traces.Is_On then
+            Traces.Note_Made (Object);
+         end if;
+      end if;
+
+      Initialization.Undefer_Abort_Nestable (Self_ID);
+
+      if not Is_Made then
+         raise Storage_Error with "no memory for queues of entries";
+      end if;
+   end Make;
+
+   ----------------
+   -- Barrier_Of --
+   ----------------
+
+   function Barrier_Of
+     (Object : Protection_Entries_Access;
+      E      : Protected_Entry_Index) return Word is
+   begin
+      return Boolean'Pos
+        (Object.Entry_Bodies
+          (Object.Find_Body_Index (Object.Compiler_Info, E)).
+             Barrier (Object.Compiler_Info, E));
+   exception
+      when others =>
+         return Raised;
+   end Barrier_Of;
+
+   ------------------
+   -- Only_Expired --
+   ------------------
+
+   function Only_Expired (Call : Entry_Call_Link) return Boolean is
+      Expired : Boolean;
+   begin
+      if Call.Mode /= Timed_Call then
+         return False;
+      end if;
+
+      STPO.Write_Lock (Call.Self);
+      Expired := Call.Self.Pending_ATC_Level = Call.Level - 1;
+      STPO.Unlock (Call.Self);
+      return Expired;
+   end Only_Expired;
+
+   ---------------
+   -- Attempted --
+   ---------------
+
+   function Attempted (Call : Entry_Call_Link) return Word is
+   begin
+      return (if not Call.Cancellation_Attempted then 0
+              elsif Only_Expired (Call) then Due
+              else Aborted);
+   end Attempted;
+
+   --------------
+   -- Marks_Of --
+   --------------
+
+   function Marks_Of (Call : Entry_Call_Link) return Word is
+   begin
+      return Attempted (Call)
+        or (if Call.Mode = Conditional_Call then Due else 0)
+        or (if Call.With_Abort then 0 else Without_Abort);
+   end Marks_Of;
+
+   -----------
+   -- Trace --
+   -----------
+
+   procedure Trace
+     (Object : Protection_Entries_Access;
+      Call   : Entry_Call_Link;
+      What   : String) is
+   begin
+      if Traces.Is_On then
+         Traces.Note (Object, Call, Protected_Entry_Index (Call.E), What);
+      end if;
+   end Trace;
+
+   --------------
+   -- End_Call --
+   --------------
+
+   procedure End_Call
+     (Self_ID : Task_Id;
+      Call    : Entry_Call_Link;
+      State   : Entry_Call_State)
+   is
+      Caller : constant Task_Id := Call.Self;
+   begin
+      Call.Next := null;
+      STPO.Write_Lock (Caller);
+      Initialization.Wakeup_Entry_Caller (Self_ID, Call, State);
+      STPO.Unlock (Caller);
+   end End_Call;
+
+   ------------
+   -- End_By --
+   ------------
+
+   procedure End_By
+     (Self_ID : Task_Id;
+      Call    : Entry_Call_Link;
+      Why     : Exception_Id) is
+   begin
+      Call.Exception_To_Raise := Why;
+
+      --  Who waits raises nothing meanwhile, but an abortable part may
+
+      if Call.Mode /= Asynchronous_Call then
+         Save_Occurrence
+           (Call.Self.Common.Compiler_Data.Current_Excep, Null_Occurrence);
+      end if;
+
+      End_Call (Self_ID, Call, Done);
+   end End_By;
+
+   ----------------
+   -- Look_Again --
+   ----------------
+
+   procedure Look_Again (Call : Entry_Call_Link) is
+      Sleep : Task_States;
+   begin
+      STPO.Write_Lock (Call.Self);
+      Sleep := Call.Self.Common.State;
+
+      if Sleep in Entry_Caller_Sleep | Async_Select_Sleep
+        and then (Call.Cancellation_Attempted
+                  or else Call.Mode = Asynchronous_Call)
+      then
+         STPO.Wakeup (Call.Self, Sleep);
+      end if;
+
+      STPO.Unlock (Call.Self);
+   end Look_Again;
+
+   -----------------
+   -- Note_Queued --
+   -----------------
+
+   procedure Note_Queued
+     (Self_ID : Task_Id;
+      Object  : Protection_Entries_Access;
+      Call    : Entry_Call_Link;
+      Told    : Step) is
+   begin
+      Trace (Object, Call, "queued");
+      Call.Prev := To_Link (Word (Told.Key));
+      Call.Next := To_Link (Told.Number);
+
+      if Call.With_Abort
+        and then Call.State in Not_Yet_Abortable | Was_Abortable
+      then
+         Call.State := Now_Abortable;
+      end if;
+
+      if Call.State = Now_Abortable and then Call.Self /= Self_ID then
+         Look_Again (Call);
+      end if;
+   end Note_Queued;
+
+   ----------
+   -- Join --
+   ----------
+
+   procedure Join (Last : in out Entry_Call_Link; More : Entry_Call_Link) is
+      First : Entry_Call_Link;
+   begin
+      if Last /= null and then More /= null then
+         First := Last.Acceptor_Prev_Call;
+         Last.Acceptor_Prev_Call := More.Acceptor_Prev_Call;
+         More.Acceptor_Prev_Call := First;
+      end if;
+
+      if More /= null then
+         Last := More;
+      end if;
+   end Join;
+
+   ----------------
+   -- Take_First --
+   ----------------
+
+   procedure Take_First
+     (Last  : in out Entry_Call_Link;
+      First : out Entry_Call_Link) is
+   begin
+      First := Last.Acceptor_Prev_Call;
+
+      if First = Last then
+         Last := null;
+      else
+         Last.Acceptor_Prev_Call := First.Acceptor_Prev_Call;
+      end if;
+
+      First.Acceptor_Prev_Call := null;
+   end Take_First;
+
+   --------------------
+   -- Send_Elsewhere --
+   --------------------
+
+   procedure Send_Elsewhere
+     (Object : Protection_Entries_Access;
+      Call   : Entry_Call_Link) is
+   begin
+      Call.Acceptor_Prev_Call := Call;
+      Join (Object.Entry_Queues (1).Tail, Call);
+   end Send_Elsewhere;
+
+   ------------
+   -- Is_Run --
+   ------------
+
+   function Is_Run
+     (Object : Protection_Entries_Access;
+      Call   : Entry_Call_Link;
+      E      : Protected_Entry_Index) return Boolean is
+   begin
+      Call.Next := null;
+
+      --  It can't be cancelled while it is served
+
+      if Call.State = Now_Abortable then
+         Call.State := Was_Abortable;
+      end if;
+
+      Object.Call_In_Progress := Call;
+      Object.Entry_Bodies
+        (Object.Find_Body_Index (Object.Compiler_Info, E)).Action
+          (Object.Compiler_Info, Call.Uninterpreted_Data, E);
+      return True;
+   exception
+      when others =>
+         return False;
+   end Is_Run;
+
+   --------------------
+   -- Completed_Call --
+   --------------------
+
+   function Completed_Call
+     (Self_ID : Task_Id;
+      Object  : Protection_Entries_Access;
+      Call    : Entry_Call_Link;
+      How     : Word;
+      Told    : in out Step) return Word
+   is
+      Answer : constant Word :=
+                 pobj_body_ended
+                   (Queues_Of (Object.all), How, 0, 0, Told'Address);
+      Is_Own : constant Boolean :=
+                 Call.Self = Self_ID
+                   and then Call.Exception_To_Raise /= Null_Id;
+   begin
+      End_Call (Self_ID, Call, Done);
+
+      if Is_Own and then Answer /= Rest then
+         Carry_Out_Beside (Self_ID, Object, Answer, Told);
+         return Rest;
+      else
+         return Answer;
+      end if;
+   end Completed_Call;
+
+   -------------------
+   -- Requeued_Call --
+   -------------------
+
+   function Requeued_Call
+     (Object : Protection_Entries_Access;
+      Call   : Entry_Call_Link;
+      Told   : in out Step) return Word is
+   begin
+      if Call.Called_PO = To_Address (Object) then
+         return pobj_body_ended
+           (Queues_Of (Object.all),
+            (if Call.With_Abort then Requeued_With_Abort else Requeued),
+            Word (Call.E - 1), Attempted (Call), Told'Address);
+      else
+         Send_Elsewhere (Object, Call);
+         return pobj_body_ended
+           (Queues_Of (Object.all), Requeued_Elsewhere, 0, 0, Told'Address);
+      end if;
+   end Requeued_Call;
+
+   --------------
+   -- Body_Run --
+   --------------
+
+   function Body_Run
+     (Self_ID : Task_Id;
+      Object  : Protection_Entries_Access;
+      E       : Protected_Entry_Index;
+      Told    : in out Step) return Word
+   is
+      Call        : constant Entry_Call_Link := To_Link (Told.Caller);
+      Is_Fine     : constant Boolean := Is_Run (Object, Call, E);
+      Is_Requeued : constant Boolean :=
+                      Is_Fine and then Object.Call_In_Progress = null;
+
+   begin
+      Object.Call_In_Progress := null;
+
+      if not Is_Fine then
+         Call.Exception_To_Raise := Program_Error'Identity;
+      end if;
+
+      if Traces.Is_On then
+         Traces.Note_Body (Object, Call, E, Is_Requeued);
+      end if;
+
+      if Is_Requeued then
+         return Requeued_Call (Object, Call, Told);
+      else
+         return Completed_Call
+           (Self_ID, Object, Call, (if Is_Fine then Completed else Failed),
+            Told);
+      end if;
+   end Body_Run;
+
+   ----------------------
+   -- Carry_Out_Beside --
+   ----------------------
+
+   procedure Carry_Out_Beside
+     (Self_ID : Task_Id;
+      Object  : Protection_Entries_Access;
+      Answer  : Word;
+      Told    : in out Step)
+   is
+      Own : Exception_Occurrence;
+   begin
+      Save_Occurrence (Own, Self_ID.Common.Compiler_Data.Current_Excep);
+      Carry_Out (Self_ID, Object, Answer, Told);
+      Save_Occurrence (Self_ID.Common.Compiler_Data.Current_Excep, Own);
+   end Carry_Out_Beside;
+
+   ---------------
+   -- Carry_Out --
+   ---------------
+
+   procedure Carry_Out
+     (Self_ID : Task_Id;
+      Object  : Protection_Entries_Access;
+      Answer  : Word;
+      Told    : in out Step)
+   is
+      Now : Word := Answer;
+      E   : Protected_Entry_Index;
+
+   begin
+      while Now /= Rest loop
+         E := Entry_Of (Now);
+
+         case Action_Of (Now) is
+            when Run =>
+               Now := Body_Run (Self_ID, Object, E, Told);
+
+            when Evaluate =>
+               Now := pobj_answer
+                 (Queues_Of (Object.all), Barrier_Of (Object, E),
+                  Told'Address);
+
+            when Now_Queued =>
+               Note_Queued (Self_ID, Object, To_Link (Told.Caller), Told);
+               Now := pobj_answer
+                 (Queues_Of (Object.all), Barrier_Of (Object, E),
+                  Told'Address);
+
+            when Now_Cancelled =>
+               Trace (Object, To_Link (Told.Caller), "cancelled");
+               End_Call (Self_ID, To_Link (Told.Caller), Cancelled);
+               Now := pobj_next (Queues_Of (Object.all), Told'Address);
+
+            when Now_Broken =>
+               Trace (Object, To_Link (Told.Caller), "program_error");
+               End_By (Self_ID, To_Link (Told.Caller),
+                       Program_Error'Identity);
+               Now := pobj_next (Queues_Of (Object.all), Told'Address);
+
+            when others =>
+               Stop;
+         end case;
+      end loop;
+   end Carry_Out;
+
+   -----------
+   -- Issue --
+   -----------
+
+   procedure Issue
+     (Self_ID : Task_Id;
+      Object  : Protection_Entries_Access;
+      Call    : Entry_Call_Link)
+   is
+      E      : constant Protected_Entry_Index :=
+                 Protected_Entry_Index (Call.E);
+      Told   : aliased Step;
+      Answer : Word;
+
+   begin
+      --  An abortable part begins once the call is queued, or requeued with
+      --  abort, and not before (9.7.4).
+
+      if Call.Mode = Asynchronous_Call and then Call.State = Now_Abortable then
+         Call.State := Not_Yet_Abortable;
+      end if;
+
+      Answer := pobj_issue
+        (Queues_Of (Object.all), To_Word (Call), Word (E - 1),
+         Marks_Of (Call), Barrier_Of (Object, E), Told'Address);
+
+      if Answer = No_Memory then
+         Trace (Object, Call, "raised STORAGE_ERROR");
+         End_By (Self_ID, Call, Storage_Error'Identity);
+      else
+         Carry_Out (Self_ID, Object, Answer, Told);
+      end if;
+   end Issue;
+
+   -------------
+   -- Service --
+   -------------
+
+   procedure Service
+     (Self_ID : Task_Id;
+      Object  : Protection_Entries_Access)
+   is
+      Told   : aliased Step;
+      Answer : constant Word :=
+                 pobj_next (Queues_Of (Object.all), Told'Address);
+   begin
+      if Answer /= Rest then
+         Carry_Out (Self_ID, Object, Answer, Told);
+      end if;
+   end Service;
+
+   --------------------
+   -- Note_Procedure --
+   --------------------
+
+   procedure Note_Procedure
+     (Self_ID : Task_Id;
+      Object  : Protection_Entries_Access) is
+   begin
+      if Traces.Is_On then
+         Traces.Note_Procedure (Self_ID, Object);
+      end if;
+   end Note_Procedure;
+
+   -------------------
+   -- Issue_To_Task --
+   -------------------
+
+   procedure Issue_To_Task (Self_ID : Task_Id; Call : Entry_Call_Link) is
+   begin
+      if not Rendezvous.Task_Do_Or_Queue (Self_ID, Call) then
+         End_By (Self_ID, Call, Tasking_Error'Identity);
+      end if;
+   end Issue_To_Task;
+
+   ---------------------
+   -- Issue_To_Object --
+   ---------------------
+
+   procedure Issue_To_Object
+     (Self_ID : Task_Id;
+      Call    : Entry_Call_Link;
+      Last    : in out Entry_Call_Link)
+   is
+      Object    : constant Protection_Entries_Access :=
+                    To_Protection (Call.Called_PO);
+      Violation : Boolean;
+
+   begin
+      begin
+         Lock_Entries_With_Status (Object, Violation);
+      exception
+         when others =>
+            Violation := True;
+      end;
+
+      if Violation then
+         End_By (Self_ID, Call, Program_Error'Identity);
+      else
+         Issue (Self_ID, Object, Call);
+         Join (Last, Object.Entry_Queues (1).Tail);
+         Object.Entry_Queues (1).Tail := null;
+         Unlock_Entries (Object);
+      end if;
+   end Issue_To_Object;
+
+   ---------------
+   -- Issue_All --
+   ---------------
+
+   procedure Issue_All (Self_ID : Task_Id; Ring : Entry_Call_Link) is
+      Last : Entry_Call_Link := Ring;
+      Call : Entry_Call_Link;
+   begin
+      while Last /= null loop
+         Take_First (Last, Call);
+
+         if Call.Called_Task /= null then
+            Issue_To_Task (Self_ID, Call);
+         else
+            Issue_To_Object (Self_ID, Call, Last);
+         end if;
+      end loop;
+   end Issue_All;
+
+   -----------
+   -- Leave --
+   -----------
+
+   procedure Leave
+     (Self_ID : Task_Id;
+      Object  : Protection_Entries_Access)
+   is
+      Ring : Entry_Call_Link := null;
+   begin
+      if Serves (Object) then
+         Ring := Object.Entry_Queues (1).Tail;
+         Object.Entry_Queues (1).Tail := null;
+      end if;
+
+      Unlock_Entries (Object);
+
+      if Ring /= null then
+         Issue_All (Self_ID, Ring);
+      end if;
+   end Leave;
+
+   --------------
+   -- Finalize --
+   --------------
+
+   procedure Finalize
+     (Self_ID : Task_Id;
+      Object  : Protection_Entries_Access)
+   is
+      Told : aliased Step;
+   begin
+      if Serves (Object) then
+         Carry_Out
+           (Self_ID, Object,
+            pobj_finalize (Queues_Of (Object.all), Told'Address), Told);
+         pobj_free (Queues_Of (Object.all));
+
+         if Traces.Is_On then
+            Traces.Note_Finalized (Object);
+         end if;
+
+         Object.Entry_Queues (1).Head := null;
+      end if;
+   end Finalize;
+
+   -----------
+   -- Count --
+   -----------
+
+   function Count
+     (Object : Protection_Entries'Class;
+      E      : Protected_Entry_Index) return Natural is
+   begin
+      return Natural (pobj_count (Queues_Of (Object), Word (E - 1)));
+   end Count;
+
+   ------------------
+   -- Is_Cancelled --
+   ------------------
+
+   function Is_Cancelled (Call : Entry_Call_Link) return Boolean is
+      Object : constant Protection_Entries_Access :=
+                 To_Protection (Call.Called_PO);
+   begin
+      case pobj_cancel
+             (Queues_Of (Object.all), Size (To_Word (Call.Prev)),
+              To_Word (Call.Next), Boolean'Pos (Only_Expired (Call)))
+      is
+         when Made =>
+            Trace (Object, Call, "cancelled");
+            Call.Next := null;
+            Call.Prev := null;
+            return True;
+
+         when Kept =>
+            return False;
+
+         when others =>
+            Stop;
+      end case;
+   end Is_Cancelled;
+
+   ------------------
+   -- Is_Withdrawn --
+   ------------------
+
+   function Is_Withdrawn (Call : Entry_Call_Link) return Boolean is
+   begin
+      if not Queuing.Onqueue (Call) or else Call.State /= Now_Abortable then
+         return False;
+
+      elsif Call.Called_Task = null
+        and then Serves (To_Protection (Call.Called_PO))
+      then
+         return Is_Cancelled (Call);
+
+      else
+         return True;
+      end if;
+   end Is_Withdrawn;
+
+   -----------------
+   -- Leave_Queue --
+   -----------------
+
+   procedure Leave_Queue (Call : Entry_Call_Link) is
+   begin
+      if Queuing.Onqueue (Call) then
+         Queuing.Dequeue_Call (Call);
+      end if;
+   end Leave_Queue;
+
+   ----------
+   -- Stop --
+   ----------
+
+   procedure Stop is
+      Message : constant String :=
+                  "pobj: the engine refused a step of a protected object, so"
+                  & " the program is ended: please report it" & ASCII.LF;
+
+      procedure C_Write
+        (File : Interfaces.C.int; From : System.Address; Bytes : Size);
+      pragma Import (C, C_Write, "write");
+
+      procedure C_Abort;
+      pragma Import (C, C_Abort, "abort");
+      pragma No_Return (C_Abort);
+
+   begin
+      C_Write (2, Message'Address, Message'Length);
+      C_Abort;
+   end Stop;
+
+end System.Tasking.Protected_Objects.Pobj;

@@ -1,0 +1,341 @@
+with Ada.Exceptions;
+with Interfaces.C;
+
+with System.Storage_Elements;
+with System.Tasking.Initialization;
+
+package body System.Tasking.Protected_Objects.Traces is
+
+   use Entries;
+   use System.Storage_Elements;
+   use type Ada.Exceptions.Exception_Id;
+   use type Interfaces.C.int;
+
+   Queuing_Policy : constant Character;
+   pragma Import (C, Queuing_Policy, "__gl_queuing_policy");
+
+   Is_Started : Boolean := False;
+   File       : Interfaces.C.int := -1;
+
+   Room : constant := 2_000;
+   --  The most characters of a line; what is longer is cut
+
+   type Line is record
+      Text : String (1 .. Room);
+      Last : Natural;
+   end record;
+   pragma Suppress_Initialization (Line);
+   --  A line as it is put together
+
+   procedure Begin_Line (L : out Line);
+
+   procedure Put (L : in out Line; Text : String);
+
+   procedure Put_Number (L : in out Line; Number : Natural);
+
+   procedure Put_Address (L : in out Line; Where : System.Address);
+   --  In hexadecimal digits
+
+   procedure Put_Task (L : in out Line; T : Task_Id);
+   --  The task's name, and its address, since names may be the same
+
+   procedure Put_Program (L : in out Line);
+   --  The running program's file, and where it stands in memory
+
+   procedure Write (L : in out Line; Where : Interfaces.C.int := File);
+   --  Writes the line at once, behind those of other tasks
+
+   procedure Say (Text : String);
+   --  Tells on standard error what can't be recorded
+
+   procedure Open_File (Path : System.Address);
+
+   ----------------
+   -- Begin_Line --
+   ----------------
+
+   procedure Begin_Line (L : out Line) is
+   begin
+      L.Last := 0;
+   end Begin_Line;
+
+   ---------
+   -- Put --
+   ---------
+
+   procedure Put (L : in out Line; Text : String) is
+   begin
+      for C of Text loop
+         if L.Last < Room - 1 then
+            L.Last := L.Last + 1;
+            L.Text (L.Last) := C;
+         end if;
+      end loop;
+   end Put;
+
+   ----------------
+   -- Put_Number --
+   ----------------
+
+   procedure Put_Number (L : in out Line; Number : Natural) is
+      Image : constant String := Number'Image;
+   begin
+      Put (L, Image (Image'First + 1 .. Image'Last));
+   end Put_Number;
+
+   -----------------
+   -- Put_Address --
+   -----------------
+
+   procedure Put_Address (L : in out Line; Where : System.Address) is
+      Digit : constant String := "0123456789abcdef";
+      Rest  : Integer_Address := To_Integer (Where);
+      Text  : String (1 .. 16);
+   begin
+      for C of reverse Text loop
+         C := Digit (Integer (Rest mod 16) + 1);
+         Rest := Rest / 16;
+      end loop;
+
+      Put (L, Text);
+   end Put_Address;
+
+   --------------
+   -- Put_Task --
+   --------------
+
+   procedure Put_Task (L : in out Line; T : Task_Id) is
+   begin
+      Put (L, T.Common.Task_Image (1 .. T.Common.Task_Image_Len));
+      Put (L, "_");
+      Put_Address (L, T.all'Address);
+   end Put_Task;
+
+   -----------------
+   -- Put_Program --
+   -----------------
+
+   procedure Put_Program (L : in out Line) is
+
+      function C_Readlink
+        (Path, Into : System.Address;
+         Bytes      : Interfaces.C.size_t) return Interfaces.C.long;
+      pragma Import (C, C_Readlink, "readlink");
+
+      function C_Auxiliary
+        (Which : Interfaces.C.unsigned_long) return System.Address;
+      pragma Import (C, C_Auxiliary, "getauxval");
+
+      Own     : constant String := "/proc/self/exe" & ASCII.NUL;
+      Path    : String (1 .. 1_000);
+      Length  : constant Integer :=
+                  Integer (C_Readlink
+                    (Own'Address, Path'Address, Path'Length));
+      Headers : constant := 3;
+      --  AT_PHDR: where the program's headers are
+   begin
+      Put (L, "program ");
+      Put_Address (L, C_Auxiliary (Headers));
+      Put (L, " " & Path (1 .. Length));
+   end Put_Program;
+
+   -----------
+   -- Write --
+   -----------
+
+   procedure Write (L : in out Line; Where : Interfaces.C.int := File) is
+      procedure C_Write
+        (File  : Interfaces.C.int;
+         From  : System.Address;
+         Bytes : Interfaces.C.size_t);
+      pragma Import (C, C_Write, "write");
+   begin
+      L.Last := L.Last + 1;
+      L.Text (L.Last) := ASCII.LF;
+      C_Write (Where, L.Text'Address, Interfaces.C.size_t (L.Last));
+   end Write;
+
+   ---------
+   -- Say --
+   ---------
+
+   procedure Say (Text : String) is
+      L : Line;
+   begin
+      Begin_Line (L);
+      Put (L, "pobj: ");
+      Put (L, Text);
+      Write (L, 2);
+   end Say;
+
+   ---------------
+   -- Open_File --
+   ---------------
+
+   procedure Open_File (Path : System.Address) is
+
+      function C_Open
+        (Path : System.Address;
+         Way  : Interfaces.C.int;
+         Mode : Interfaces.C.int) return Interfaces.C.int;
+      pragma Import (C, C_Open, "open");
+
+      Anew : constant := 8#1# + 8#100# + 8#1000# + 8#2000# + 8#2000000#;
+      --  O_WRONLY, O_CREAT, O_TRUNC, O_APPEND, O_CLOEXEC
+      L    : Line;
+
+   begin
+      File := C_Open (Path, Anew, 8#666#);
+
+      if File < 0 then
+         Say ("the file that POBJ_TRACE names can't be written");
+      else
+         Is_On := True;
+         Begin_Line (L);
+         Put_Program (L);
+         Write (L);
+      end if;
+   end Open_File;
+
+   -----------
+   -- Start --
+   -----------
+
+   procedure Start (Self_ID : Task_Id) is
+
+      function C_Environment (Name : System.Address) return System.Address;
+      pragma Import (C, C_Environment, "secure_getenv");
+
+      Name : constant String := "POBJ_TRACE" & ASCII.NUL;
+      Path : System.Address;
+
+   begin
+      if Is_Started then
+         return;
+      end if;
+
+      Initialization.Task_Lock (Self_ID);
+
+      if not Is_Started then
+         Path := C_Environment (Name'Address);
+
+         if Path = System.Null_Address then
+            null;
+         elsif Queuing_Policy = 'P' then
+            Say ("under Priority_Queuing (D.4) GNAT's own runtime has the"
+                 & " entry calls of this program: nothing is traced");
+         else
+            Open_File (Path);
+         end if;
+
+         Is_Started := True;
+      end if;
+
+      Initialization.Task_Unlock (Self_ID);
+   end Start;
+
+   ---------------
+   -- Note_Made --
+   ---------------
+
+   procedure Note_Made (Object : Protection_Entries_Access) is
+      Last : Protected_Entry_Index := 0;
+      B    : Protected_Entry_Index;
+      L    : Line;
+   begin
+      Begin_Line (L);
+      Put_Address (L, Object.all'Address);
+      Put (L, " made");
+
+      for E in Object.Entry_Queues'Range loop
+         B := Object.Find_Body_Index (Object.Compiler_Info, E);
+
+         if B /= Last then
+            Put (L, " ");
+            Put_Number (L, Natural (E));
+            Put (L, ":");
+            Put_Address (L, Object.Entry_Bodies (B).Action.all'Address);
+            Last := B;
+         end if;
+      end loop;
+
+      Write (L);
+   end Note_Made;
+
+   --------------------
+   -- Note_Finalized --
+   --------------------
+
+   procedure Note_Finalized (Object : Protection_Entries_Access) is
+      L : Line;
+   begin
+      Begin_Line (L);
+      Put_Address (L, Object.all'Address);
+      Put (L, " finalized");
+      Write (L);
+   end Note_Finalized;
+
+   --------------------
+   -- Note_Procedure --
+   --------------------
+
+   procedure Note_Procedure
+     (Self_ID : Task_Id;
+      Object  : Protection_Entries_Access)
+   is
+      L : Line;
+   begin
+      Begin_Line (L);
+      Put_Address (L, Object.all'Address);
+      Put (L, " procedure ");
+      Put_Task (L, Self_ID);
+      Write (L);
+   end Note_Procedure;
+
+   ----------
+   -- Note --
+   ----------
+
+   procedure Note
+     (Object : Protection_Entries_Access;
+      Call   : Entry_Call_Link;
+      E      : Protected_Entry_Index;
+      What   : String)
+   is
+      L : Line;
+   begin
+      Begin_Line (L);
+      Put_Address (L, Object.all'Address);
+      Put (L, " call ");
+      Put_Number (L, Natural (E));
+      Put (L, " ");
+      Put_Number (L, Natural (Call.Level));
+      Put (L, " ");
+      Put_Task (L, Call.Self);
+      Put (L, " ");
+      Put (L, What);
+      Write (L);
+   end Note;
+
+   ---------------
+   -- Note_Body --
+   ---------------
+
+   procedure Note_Body
+     (Object      : Protection_Entries_Access;
+      Call        : Entry_Call_Link;
+      E           : Protected_Entry_Index;
+      Is_Requeued : Boolean) is
+   begin
+      if Is_Requeued then
+         Note (Object, Call, E, "requeued");
+      elsif Call.Exception_To_Raise = Ada.Exceptions.Null_Id then
+         Note (Object, Call, E, "done");
+      else
+         Note (Object, Call, E,
+               "raised "
+               & Ada.Exceptions.Exception_Name (Call.Exception_To_Raise));
+      end if;
+   end Note_Body;
+
+end System.Tasking.Protected_Objects.Traces;

@@ -1,0 +1,104 @@
+# Shows the record of a program over pobj: awk -f trace.awk NAMES RECORD. NAMES has the addresses and names of entry bodies.
+
+function number_of(digits,   at, number) {
+    sub(/^0x/, "", digits)
+    number = 0
+    for (at = 1; at <= length(digits); at++) number = number * 16 + index("0123456789abcdef", substr(digits, at, 1)) - 1
+    return number
+}
+
+# The task's name without its address, where no other task has it.
+function name_of(it,   short) {
+    short = it
+    sub(/_[0-9a-f]+$/, "", short)
+    return tasks_of[short] == 1 ? short : it
+}
+
+# Learns a task, and that there is one more of its name.
+function learn(it,   short) {
+    if (it in is_known) return
+    is_known[it] = 1
+    short = it
+    sub(/_[0-9a-f]+$/, "", short)
+    tasks_of[short]++
+}
+
+# The object that begins at this address: its number, and from the names of its bodies its type and its entries.
+function make(   at, parts, symbol, words, count) {
+    object = ++objects
+    object_at[$1] = object
+    entries[object] = NF - 2
+    for (at = 3; at <= NF; at++) {
+        split($at, parts, ":")
+        first[object, at - 2] = parts[1]
+        symbol = symbols[number_of(parts[2]) - shift]
+        sub(/_E[0-9]+b(\.[0-9]+)?$/, "", symbol)
+        count = split(symbol, words, "__")
+        if (count > 0) {
+            entry_name[object, at - 2] = words[count]
+            type_name[object] = substr(symbol, 1, length(symbol) - length(words[count]) - 2)
+        }
+    }
+    gsub("__", ".", type_name[object])
+}
+
+# The entry of the object: by its name, or by its number where the program has no names; of a family the position in it.
+function entry_of(object, number,   at, name) {
+    for (at = entries[object]; at > 1 && first[object, at] + 0 > number; at--) {}
+    name = entry_name[object, at]
+    if (name == "") return "entry " number
+    if (at < entries[object] ? first[object, at + 1] - first[object, at] > 1 : 0) return name "(#" number - first[object, at] + 1 ")"
+    return number > first[object, at] + 0 ? name "(#" number - first[object, at] + 1 ")" : name
+}
+
+# One more line of the object.
+function note(object, who, where, what) {
+    lines_of[object]++
+    who_of[object, lines_of[object]] = who
+    where_of[object, lines_of[object]] = where
+    what_of[object, lines_of[object]] = what
+    learn(who)
+}
+
+function call(   object, key, what, at) {
+    object = object_at[$1]
+    what = $6
+    for (at = 7; at <= NF; at++) what = what " " $at
+    note(object, $5, entry_of(object, $3), what)
+    key = object SUBSEP $5 SUBSEP $4
+    if ($6 == "queued") waits[key] = ++order
+    else delete waits[key]
+    waits_on[key] = entry_of(object, $3)
+}
+
+# Puts the calls that wait at the end into the order in which they were queued.
+function sort_waiting(   key, at) {
+    for (key in waits) {
+        for (at = ++waiting; at > 1 && waits[still[at - 1]] > waits[key]; at--) still[at] = still[at - 1]
+        still[at] = key
+    }
+}
+
+function show(object,   at, parts, some) {
+    printf "object %d%s\n", object, (type_name[object] == "" ? "" : ", " type_name[object])
+    for (at = 1; at <= lines_of[object]; at++)
+        printf "  %-24s  %-16s  %s\n", name_of(who_of[object, at]), where_of[object, at], what_of[object, at]
+    for (at = 1; at <= waiting; at++) {
+        split(still[at], parts, SUBSEP)
+        if (parts[1] != object) continue
+        printf "  %s waits on %s\n", name_of(parts[2]), waits_on[still[at]]
+        some = 1
+    }
+    if (!some) print "  nothing waits"
+}
+
+FILENAME != ARGV[2] { if ($1 == "headers") headers = number_of($2); else symbols[number_of($1)] = $2; next }
+$1 == "program" { shift = number_of($2) - headers; next }
+$2 == "made" { make() }
+$2 == "procedure" { note(object_at[$1], $3, "", "procedure") }
+$2 == "call" { call() }
+$2 == "finalized" { note(object_at[$1], "", "", "finalized") }
+END {
+    sort_waiting()
+    for (object = 1; object <= objects; object++) show(object)
+}

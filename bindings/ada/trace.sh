@@ -1,0 +1,23 @@
+#!/bin/sh
+# Shows the file that a program has written for POBJ_TRACE, object by object, with what still waits at its end:
+#   trace.sh FILE
+set -eu
+here=$(cd "$(dirname "$0")" && pwd)
+
+fail() {
+  echo "pobj trace: $*" >&2
+  exit 4
+}
+
+[ $# -eq 1 ] || fail "it takes the file that POBJ_TRACE named"
+[ -r "$1" ] || fail "there is no file $1 that can be read"
+head -n 1 "$1" | grep -q '^program [0-9a-f]* ' || fail "$1 isn't a record of a program over pobj"
+program=$(sed -n '1s/^program [0-9a-f]* //p' "$1")
+names=$(mktemp)
+trap 'rm -f "$names"' EXIT
+if [ -r "$program" ]; then
+  # Where the program's headers are without a shift, and the bodies of entries.
+  readelf -lW "$program" 2>/dev/null | awk '$1 == "PHDR" { print "headers", $3 }' >"$names"
+  nm "$program" 2>/dev/null | awk '$3 ~ /_E[0-9]+b(\.[0-9]+)?$/ { print $1, $3 }' >>"$names"
+fi
+awk -f "$here/trace.awk" "$names" "$1"

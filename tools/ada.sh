@@ -1,0 +1,16 @@
+# shellcheck shell=bash
+# The runtime folder for Ada programs of GNAT 12.2, and its check. Read by `pobj`, behind library.sh. In the archive for machines
+# without the toolchain bin/pobj does the same with the library that is there.
+
+# Carries out `pobj ada`: builds the library, where it isn't built, and does the rest in bindings/ada/.
+ada() {
+  local room status=0
+  need_rt "the library has to be built"
+  wait_for_turn
+  build_library 9<&-
+  room=$(mktemp -d)
+  put_archive "$room"
+  "$top/bindings/ada/ada.sh" "$room/libpobj.a" "${@:-}" || status=$?
+  rm -rf "$room"
+  exit "$status"
+}
