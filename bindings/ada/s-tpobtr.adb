@@ -36,6 +36,10 @@ package body System.Tasking.Protected_Objects.Traces is
    procedure Put_Address (L : in out Line; Where : System.Address);
    --  In hexadecimal digits
 
+   function Code_Of (Action : System.Address) return System.Address;
+   --  The code of an entry's body. What stands for a nested one is a
+   --  descriptor, with one added to its address: the code is its second word.
+
    procedure Put_Task (L : in out Line; T : Task_Id);
    --  The task's name, and its address, since names may be the same
 
@@ -99,6 +103,27 @@ package body System.Tasking.Protected_Objects.Traces is
 
       Put (L, Text);
    end Put_Address;
+
+   -------------
+   -- Code_Of --
+   -------------
+
+   function Code_Of (Action : System.Address) return System.Address is
+      Word_Bytes : constant := Standard'Address_Size / System.Storage_Unit;
+   begin
+      if To_Integer (Action) mod 2 = 0 then
+         return Action;
+      else
+         declare
+            Code : System.Address;
+            for Code'Address use
+              To_Address (To_Integer (Action) + Word_Bytes - 1);
+            pragma Import (Ada, Code);
+         begin
+            return Code;
+         end;
+      end if;
+   end Code_Of;
 
    --------------
    -- Put_Task --
@@ -254,7 +279,8 @@ package body System.Tasking.Protected_Objects.Traces is
             Put (L, " ");
             Put_Number (L, Natural (E));
             Put (L, ":");
-            Put_Address (L, Object.Entry_Bodies (B).Action.all'Address);
+            Put_Address
+              (L, Code_Of (Object.Entry_Bodies (B).Action.all'Address));
             Last := B;
          end if;
       end loop;
