@@ -13,6 +13,8 @@ TOP = HERE.parent
 OUT = HERE / "out"
 # The program pobj, unless the environment names another one.
 POBJ = os.environ.get("POBJ", str(TOP / "pobj"))
+# The runtime folder (`./pobj ada DEST`) over which the Ada programs run, or None for GNAT's own runtime.
+over = None
 # How long a run of either program may take, in seconds, and building pobj.
 LIMIT = 120
 BUILD_LIMIT = 7_200
@@ -61,10 +63,23 @@ def prepare():
         raise Failed(f"{POBJ} can't be built or run: status {first.returncode}")
 
 
-def run(words, text, limit=LIMIT):
+def environment():
+    """The environment of an Ada program: with a runtime folder its protected objects are carried out by pobj."""
+    return os.environ if over is None else {**os.environ, "LD_LIBRARY_PATH": f"{over}/adalib"}
+
+
+def use_runtime(folder):
+    """Has the Ada programs run over this runtime folder."""
+    global over
+    if not (folder / "adalib" / "libgnarl-12.so").is_file() or not (folder / "POBJ").is_file():
+        raise Failed(f"{folder} is no runtime folder; ./pobj ada {folder} makes one")
+    over = folder.resolve()
+
+
+def run(words, text, limit=LIMIT, env=None):
     """The program with the text on its standard input, ended after the limit."""
     try:
-        return subprocess.run(words, input=text, capture_output=True, text=True, timeout=limit)
+        return subprocess.run(words, input=text, capture_output=True, text=True, timeout=limit, env=env)
     except subprocess.TimeoutExpired as late:
         raise Failed(f"{' '.join(words)} took more than {limit} seconds on this script:\n{text}") from late
 
@@ -85,7 +100,7 @@ def of_pobj(text):
 def of_gnat(text, step):
     """What the protected object of GNAT writes, or None where the machine was too slow for this step of time. A call that
     is never woken takes the time that later deadlines want; what was written up to these is the answer then."""
-    ended = run([str(OUT / "carry_out"), str(step)], text)
+    ended = run([str(OUT / "carry_out"), str(step)], text, env=environment())
     if ended.returncode not in (0, TOO_LATE):
         raise Failed(f"the Ada program ended with status {ended.returncode} on this script:\n{text}\n{ended.stderr}")
     return ended.stdout if ended.returncode == 0 or "never woken" in ended.stdout else None

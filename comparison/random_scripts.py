@@ -1,4 +1,4 @@
-"""Random scripts over all units, without the constructs by which GNAT is known to differ: a conditional call that could
+"""Random scripts over all units, where nothing else is said without the constructs by which GNAT is known to differ: a conditional call that could
 open an entry by being counted, and on the relay conditional calls, and attempts to cancel a call that is protected from
 them by a requeue without abort."""
 
@@ -24,8 +24,10 @@ GREAT = [2**32, 2**32 - 1, 2**63, 2**64 - 1]
 class Maker:
     """A script in the making, and what the exclusions need to know of its object."""
 
-    def __init__(self, chance):
+    def __init__(self, chance, leaves_out):
         self.chance = chance
+        # Whether it leaves out what GNAT is known to do in another way.
+        self.leaves_out = leaves_out
         self.unit = chance.choices(list(ENTRIES), [2, 1, 1, 2, 2, 4, 2, 4])[0]
         self.size = chance.randint(1, 5)
         self.lines = [f"unit {self.unit}" + (f" {self.size}" if self.unit in PARAMETER else "")]
@@ -65,11 +67,12 @@ class Maker:
     def kind(self, entry):
         """The first words of a call of the entry."""
         kind = self.chance.choice(self.kinds)
-        if kind == "cond" and (self.unit == "relay" or self.may_open_by_being_counted(entry)):
+        if kind == "cond" and self.leaves_out and (self.unit == "relay" or self.may_open_by_being_counted(entry)):
             kind = "call"
         if kind != "timed":
             return kind
-        later = 1_000_000 if self.unit == "relay" and self.level == 0 else self.chance.choice([-1, 0, 1, 1, 2, 2, 3, 9])
+        is_protected = self.leaves_out and self.unit == "relay" and self.level == 0
+        later = 1_000_000 if is_protected else self.chance.choice([-1, 0, 1, 1, 2, 2, 3, 9])
         return f"timed {max(0, self.clock + later)}"
 
     def call(self):
@@ -81,7 +84,7 @@ class Maker:
         self.calls += 1
         if kind != "cond" or entry == "Claim":
             self.may_wait.append(self.calls)
-        if self.unit == "relay" and self.level == 0:
+        if self.leaves_out and self.unit == "relay" and self.level == 0:
             self.protected.add(self.calls)
         if entry == "Fail":
             self.level = value
@@ -128,9 +131,14 @@ class Maker:
             self.lines.append(f"func State {self.value()}")
 
 
-def script(seed, place):
+def any_script(seed, place):
+    """The script at that place among those of the seed, where nothing is left out."""
+    return script(seed, place, False)
+
+
+def script(seed, place, leaves_out=True):
     """The script at that place among those of the seed."""
-    maker = Maker(random.Random(f"{seed} {place}"))
+    maker = Maker(random.Random(f"{seed} {place}"), leaves_out)
     for _ in range(maker.chance.randint(6, 36)):
         maker.command()
     if maker.chance.random() < 0.2:

@@ -27,9 +27,10 @@ def not_expressible(file):
 
 
 def stated(name):
-    """What a page says that GNAT writes on the script of that name, or None where there is no page."""
+    """What a page says that GNAT writes on the script of that name, or None where there is no page, or pobj has GNAT's
+    objects: then nothing may differ."""
     file = DIFFERENCES / f"{name}.gnat"
-    return programs.comparable(file.read_text()) if file.exists() else None
+    return programs.comparable(file.read_text()) if programs.over is None and file.exists() else None
 
 
 def compared(file):
@@ -56,6 +57,8 @@ def difference(file):
         return "pobj DOESN'T WRITE what the page says", False
     if theirs == page:
         return f"differs, explained in {file.with_suffix('.why').name}", True
+    if theirs == ours and programs.over is not None:
+        return "same", True
     if theirs == ours:
         return "same: this GNAT is another one than the page speaks of", True
     return "DIFFERS in another way than the page says", False
@@ -81,7 +84,8 @@ def scripts():
     good = True
     rows = [(file, compared) for folder in ("examples", "cases") for file in scripts_in(programs.TOP / folder)]
     rows += [(file, difference) for file in scripts_in(DIFFERENCES)]
-    rows.append((programs.HERE / "ada" / "two_functions.adb", two_functions))
+    if programs.over is None:
+        rows.append((programs.HERE / "ada" / "two_functions.adb", two_functions))
     names = [str(file.relative_to(programs.TOP)) for file, _ in rows]
     width = max(len(name) for name in names)
     print(f"{'script':<{width}} result")

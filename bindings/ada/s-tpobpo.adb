@@ -47,9 +47,6 @@ package body System.Tasking.Protected_Objects.Pobj is
    pragma Inline (Entry_Of);
    --  The engine numbers entries from 0, and GNARL from 1
 
-   function No_Call_Is_Queued return Boolean;
-   --  Whether the program's restrictions let no call be queued (D.7)
-
    function Longest
      (Object : Protection_Entries_Access;
       E      : Protected_Entry_Index) return Natural;
@@ -196,9 +193,7 @@ package body System.Tasking.Protected_Objects.Pobj is
 
    function Serves (Object : Protection_Entries_Access) return Boolean is
    begin
-      return Queuing_Policy /= 'P'
-        and then Object.Num_Entries > 0
-        and then Object.Entry_Queues (1).Head /= null;
+      return Queuing_Policy /= 'P' and then Object.Num_Entries > 0;
    end Serves;
 
    ---------------
@@ -227,18 +222,6 @@ package body System.Tasking.Protected_Objects.Pobj is
    begin
       return Protected_Entry_Index (Answer / 2 ** 8 + 1);
    end Entry_Of;
-
-   -----------------------
-   -- No_Call_Is_Queued --
-   -----------------------
-
-   function No_Call_Is_Queued return Boolean is
-      use System.Restrictions;
-      use System.Restrictions.Rident;
-   begin
-      return Run_Time_Restrictions.Set (Max_Entry_Queue_Length)
-        and then Run_Time_Restrictions.Value (Max_Entry_Queue_Length) = 0;
-   end No_Call_Is_Queued;
 
    -------------
    -- Longest --
@@ -299,10 +282,7 @@ package body System.Tasking.Protected_Objects.Pobj is
    begin
       Traces.Start (Self_ID);
 
-      if Queuing_Policy = 'P'
-        or else Object.Num_Entries = 0
-        or else No_Call_Is_Queued
-      then
+      if not Serves (Object) then
          return;
       end if;
 
@@ -865,7 +845,9 @@ package body System.Tasking.Protected_Objects.Pobj is
    is
       Told : aliased Step;
    begin
-      if Serves (Object) then
+      --  There are no queues where there was no memory for them
+
+      if Serves (Object) and then Object.Entry_Queues (1).Head /= null then
          Carry_Out
            (Self_ID, Object,
             pobj_finalize (Queues_Of (Object.all), Told'Address), Told);

@@ -14,8 +14,8 @@ package System.Tasking.Protected_Objects.Pobj is
    function Serves
      (Object : Entries.Protection_Entries_Access) return Boolean;
    pragma Inline (Serves);
-   --  Whether the engine has the object's entry calls. GNARL keeps them under
-   --  Priority_Queuing (D.4), and where no call may be queued (D.7).
+   --  Whether the engine has the object's entry calls: it has entries, and
+   --  the program isn't under Priority_Queuing (D.4), where GNARL keeps them.
 
    procedure Make (Object : Entries.Protection_Entries_Access);
    pragma Export (Ada, Make, "pobj_ada_make");

@@ -1,0 +1,119 @@
+#!/usr/bin/env bash
+# Makes a runtime folder from libpobj.a and runs the programs of this folder over it: linked with it, and by its shared library.
+# A line says what passed and what failed. The last line is 'N passed, M failed, K skipped', and the exit status tells whether
+# nothing failed. With a second folder the runtime folder stays there.
+set -u
+if [ $# -lt 1 ] || [ ! -f "$1/libpobj.a" ]; then
+  echo "usage: bindings/ada/tests/run.sh LIB_DIR [DEST]    (LIB_DIR has libpobj.a)" >&2
+  exit 2
+fi
+library=$(cd "$1" && pwd)/libpobj.a
+scratch=$(mktemp -d) || exit 2
+trap 'rm -rf "$scratch"' EXIT
+dest=${2:-$scratch/runtime}
+cd "$(dirname "$0")" || exit 2
+include=$(cd ../../../include && pwd)
+passed=0 failed=0
+
+# row NAME COMMAND..: a line, by the status of the command, and where it failed what it said.
+row() {
+  local name=$1 said
+  shift
+  if said=$("$@" 2>&1); then
+    echo "passed: $name"
+    passed=$((passed + 1))
+  else
+    echo "failed: $name"
+    printf '    %s\n' "${said//$'\n'/$'\n    '}"
+    failed=$((failed + 1))
+  fi
+}
+
+# Compiles a program of this folder: linked with the runtime folder, or with GNAT's shared libraries.
+linked() { (cd "$scratch" && gnatmake -q -f -gnat2022 "--RTS=$dest" "$OLDPWD/$1.adb" -o "$1-linked" -bargs -static "${@:2}"); }
+shared() { (cd "$scratch" && gnatmake -q -f -gnat2022 "$OLDPWD/$1.adb" -o "$1-shared" -bargs -shared); }
+
+# Whether a program writes what its .out says, in both ways.
+writes() {
+  linked "$1" && timeout 60 "$scratch/$1-linked" | diff "$1.out" - || return
+  shared "$1" && LD_LIBRARY_PATH=$dest/adalib timeout 60 "$scratch/$1-shared" | diff "$1.out" -
+}
+
+# Whether each allocation of the library is refused in its turn, and the program says so.
+refused_memory() {
+  gcc -c refuse.c -o "$scratch/refuse.o" &&
+    linked refused_memory -largs "$scratch/refuse.o" -Wl,--wrap=malloc,--wrap=realloc &&
+    timeout 120 "$scratch/refused_memory-linked" | diff refused_memory.out -
+}
+
+# Whether a program that hangs says in its record what waits.
+record() {
+  linked hangs || return
+  POBJ_TRACE=$scratch/record timeout 1 "$scratch/hangs-linked"
+  ../trace.sh "$scratch/record" | diff hangs.out -
+}
+
+# Whether a program without a record writes none, and under Priority_Queuing a line says why.
+no_record() {
+  local said
+  linked priority_queuing || return
+  said=$(POBJ_TRACE=$scratch/none "$scratch/priority_queuing-linked" 2>&1 >/dev/null)
+  [[ $said == *Priority_Queuing* ]] && [ ! -e "$scratch/none" ]
+}
+
+# Whether a step that the engine refuses ends the program, with a message.
+ends_where_refused() {
+  local said status
+  gcc -O1 "-I$include" -c refuses.c -o "$scratch/refuses.o" && ar rc "$scratch/librefuses.a" "$scratch/refuses.o" || return
+  ../make.sh "$scratch/refusing" "$scratch/librefuses.a" || return
+  (cd "$scratch" && gnatmake -q -f "--RTS=$scratch/refusing" "$OLDPWD/../there_and_back.adb" -o refused -bargs -static) || return
+  said=$(timeout 10 "$scratch/refused" 2>&1)
+  status=$?
+  [ $status -eq 134 ] && [[ $said == *"refused a step"* ]]
+}
+
+# A GNAT in the path whose sources lack a line, and whose version is this one.
+other_gnat() {
+  local sources
+  mkdir -p "$scratch/other/bin" "$scratch/other/adainclude"
+  sources=$(gnatls -v | sed -n 's,^ *\(/.*adainclude\)$,\1,p' | head -n 1)
+  cp "$sources"/s-t*.adb "$sources/g-semaph.adb" "$scratch/other/adainclude/"
+  sed -i 's/Queuing.Dequeue_Call/Queuing.Take_Off/' "$scratch/other/adainclude/s-taenca.adb"
+  {
+    echo '#!/bin/sh'
+    echo "if [ \"\$1\" = --version ]; then echo 'GNATLS $1'; exit; fi"
+    echo "$(command -v gnatls) \"\$@\" | sed 's,$sources,$scratch/other/adainclude,'"
+  } >"$scratch/other/bin/gnatls"
+  chmod +x "$scratch/other/bin/gnatls"
+}
+
+# Whether another GNAT is refused by a message with these words, and nothing is made.
+refuses_gnat() {
+  local said
+  other_gnat "$1"
+  if said=$(PATH=$scratch/other/bin:$PATH ../make.sh "$scratch/never" "$library" 2>&1); then return 1; fi
+  echo "$said"
+  [[ $said == *"$2"* ]] && [ ! -e "$scratch/never" ] && ! compgen -G "$scratch/never.*" >/dev/null
+}
+
+# Whether a folder that is something else is left as it is.
+leaves_others() {
+  mkdir "$scratch/mine" && touch "$scratch/mine/file"
+  ! ../make.sh "$scratch/mine" "$library" 2>/dev/null && [ -e "$scratch/mine/file" ]
+}
+
+row "the runtime folder" ../make.sh "$dest" "$library"
+row "the runtime folder, made again" ../make.sh "$dest" "$library"
+row "pobj ada --check" ../check.sh "$dest"
+for name in priority_queuing queues_with_limits; do
+  row "$name.adb" writes "$name"
+done
+row "refused_memory.adb" refused_memory
+row "POBJ_TRACE, and pobj trace" record
+row "POBJ_TRACE under Priority_Queuing" no_record
+row "a step that is refused" ends_where_refused
+row "a GNAT of another version" refuses_gnat 13.1.0 "found is GNATLS 13.1.0"
+row "a GNAT with other sources" refuses_gnat 12.2.0 "Check_Pending_Actions_For_Entry_Call"
+row "a folder that is something else" leaves_others
+echo "$passed passed, $failed failed, 0 skipped"
+[ "$failed" -eq 0 ]
