@@ -7,8 +7,8 @@
      (Object : Protection_Entries'Class;
       E      : Protected_Entry_Index) return Natural is
    begin
-      if Pobj.Serves (Object'Unrestricted_Access) then
-         return Pobj.Count (Object, E);
+      if Queues.Serves (Object'Unrestricted_Access) then
+         return Queues.Count (Object, E);
       else
          return GNARL_Count (Object, E);
       end if;

@@ -8,8 +8,8 @@
       Object     : Protection_Entries_Access;
       Entry_Call : Entry_Call_Link) is
    begin
-      if Pobj.Serves (Object) then
-         Pobj.Issue (Self_ID, Object, Entry_Call);
+      if Queues.Serves (Object) then
+         Actions.Issue (Self_ID, Object, Entry_Call);
       else
          GNARL_Do_Or_Queue (Self_ID, Object, Entry_Call);
       end if;

@@ -8,13 +8,13 @@
       Object        : Entries.Protection_Entries_Access;
       Unlock_Object : Boolean := True) is
    begin
-      if not Pobj.Serves (Object) then
+      if not Queues.Serves (Object) then
          GNARL_Service_Entries (Self_ID, Object, Unlock_Object);
       else
-         Pobj.Service (Self_ID, Object);
+         Actions.Service (Self_ID, Object);
 
          if Unlock_Object then
-            Pobj.Leave (Self_ID, Object);
+            Actions.Leave (Self_ID, Object);
          end if;
       end if;
    end PO_Service_Entries;
@@ -27,8 +27,8 @@
      (Self_ID : Task_Id;
       Object  : Entries.Protection_Entries_Access) is
    begin
-      if Pobj.Serves (Object) then
-         Pobj.Leave (Self_ID, Object);
+      if Queues.Serves (Object) then
+         Actions.Leave (Self_ID, Object);
       else
          GNARL_Service_Entries (Self_ID, Object, True);
       end if;

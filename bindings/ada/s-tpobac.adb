@@ -1,30 +1,27 @@
 with Ada.Exceptions;
 with Ada.Unchecked_Conversion;
 
-with System.Restrictions;
 with System.Task_Primitives.Operations;
 with System.Tasking.Initialization;
+with System.Tasking.Protected_Objects.Pobj;
+with System.Tasking.Protected_Objects.Queues;
 with System.Tasking.Protected_Objects.Traces;
 with System.Tasking.Queuing;
 with System.Tasking.Rendezvous;
 
-package body System.Tasking.Protected_Objects.Pobj is
+package body System.Tasking.Protected_Objects.Actions is
 
    package STPO renames System.Task_Primitives.Operations;
 
    use Ada.Exceptions;
    use Entries;
-   use type Flag;
-   use type Word;
-
-   Queuing_Policy : constant Character;
-   pragma Import (C, Queuing_Policy, "__gl_queuing_policy");
+   use Pobj;
+   use Queues;
+   use type Pobj.Word;
 
    --  A queued call keeps its ticket in Prev, the key, and Next, the number:
    --  that is never 0, so Next isn't null while the call is queued, as GNARL
-   --  has it. The first queue of GNARL's has no other use here: its Head is
-   --  the engine's, and its Tail the last of the calls that bodies requeued
-   --  elsewhere. These are in a ring, chained by Acceptor_Prev_Call.
+   --  has it.
 
    pragma Warnings (Off);  --  aliasing: compiled with -fno-strict-aliasing
    function To_Link is
@@ -33,28 +30,12 @@ package body System.Tasking.Protected_Objects.Pobj is
      new Ada.Unchecked_Conversion (Entry_Call_Link, Word);
    pragma Warnings (On);
 
-   Most_Entries : constant := 65_535;
-   --  As pobj.h has it
-
-   function Queues_Of
-     (Object : Protection_Entries'Class) return Queues;
-   pragma Inline (Queues_Of);
-
    function Action_Of (Answer : Word) return Word;
    pragma Inline (Action_Of);
 
    function Entry_Of (Answer : Word) return Protected_Entry_Index;
    pragma Inline (Entry_Of);
    --  The engine numbers entries from 0, and GNARL from 1
-
-   function Longest
-     (Object : Protection_Entries_Access;
-      E      : Protected_Entry_Index) return Natural;
-   --  How many calls the queue of the entry may have, 0 for any number: by
-   --  Max_Queue_Length, and by the restriction Max_Entry_Queue_Length (D.7).
-
-   procedure Set_Limits (Object : Protection_Entries_Access);
-   --  Tells the engine the longest queue of each entry that has one
 
    function Barrier_Of
      (Object : Protection_Entries_Access;
@@ -105,19 +86,6 @@ package body System.Tasking.Protected_Objects.Pobj is
    --  The call can be cancelled from now on. An abort may have come before,
    --  and the abortable part of an asynchronous select begins now (9.7.4):
    --  its caller looks again.
-
-   procedure Send_Elsewhere
-     (Object : Protection_Entries_Access;
-      Call   : Entry_Call_Link);
-   --  The call is to be issued once the object's lock is given up
-
-   procedure Join (Last : in out Entry_Call_Link; More : Entry_Call_Link);
-   --  Appends the calls of one ring to those of another
-
-   procedure Take_First
-     (Last  : in out Entry_Call_Link;
-      First : out Entry_Call_Link);
-   --  Takes the first call out of a ring
 
    function Is_Run
      (Object : Protection_Entries_Access;
@@ -183,28 +151,6 @@ package body System.Tasking.Protected_Objects.Pobj is
    function Is_Cancelled (Call : Entry_Call_Link) return Boolean;
    --  Whether the engine cancels the queued call now
 
-   procedure Stop;
-   pragma No_Return (Stop);
-   --  The engine refused a step, so this unit is wrong: ends the program
-
-   ------------
-   -- Serves --
-   ------------
-
-   function Serves (Object : Protection_Entries_Access) return Boolean is
-   begin
-      return Queuing_Policy /= 'P' and then Object.Num_Entries > 0;
-   end Serves;
-
-   ---------------
-   -- Queues_Of --
-   ---------------
-
-   function Queues_Of (Object : Protection_Entries'Class) return Queues is
-   begin
-      return Object.Entry_Queues (1).Head'Address;
-   end Queues_Of;
-
    ---------------
    -- Action_Of --
    ---------------
@@ -222,92 +168,6 @@ package body System.Tasking.Protected_Objects.Pobj is
    begin
       return Protected_Entry_Index (Answer / 2 ** 8 + 1);
    end Entry_Of;
-
-   -------------
-   -- Longest --
-   -------------
-
-   function Longest
-     (Object : Protection_Entries_Access;
-      E      : Protected_Entry_Index) return Natural
-   is
-      use System.Restrictions;
-      use System.Restrictions.Rident;
-
-      Of_Entry   : Natural := 0;
-      Of_Program : Natural := 0;
-
-   begin
-      if Object.Entry_Queue_Maxes /= null then
-         Of_Entry := Object.Entry_Queue_Maxes
-           (Object.Find_Body_Index (Object.Compiler_Info, E));
-      end if;
-
-      if Run_Time_Restrictions.Set (Max_Entry_Queue_Length) then
-         Of_Program := Run_Time_Restrictions.Value (Max_Entry_Queue_Length);
-      end if;
-
-      return (if Of_Entry = 0 or else Of_Program = 0
-              then Of_Entry + Of_Program
-              else Natural'Min (Of_Entry, Of_Program));
-   end Longest;
-
-   ----------------
-   -- Set_Limits --
-   ----------------
-
-   procedure Set_Limits (Object : Protection_Entries_Access) is
-      Most : Natural;
-   begin
-      for E in Object.Entry_Queues'Range loop
-         Most := Longest (Object, E);
-
-         if Most > 0
-           and then pobj_limit
-             (Queues_Of (Object.all), Word (E - 1), Word (Most)) = 0
-         then
-            Stop;
-         end if;
-      end loop;
-   end Set_Limits;
-
-   ----------
-   -- Make --
-   ----------
-
-   procedure Make (Object : Protection_Entries_Access) is
-      Self_ID : constant Task_Id := STPO.Self;
-      Is_Made : Boolean;
-
-   begin
-      Traces.Start (Self_ID);
-
-      if not Serves (Object) then
-         return;
-      end if;
-
-      if Object.Num_Entries > Most_Entries then
-         raise Storage_Error with "a protected object over 65_535 entries";
-      end if;
-
-      Initialization.Defer_Abort_Nestable (Self_ID);
-      Is_Made :=
-        pobj_make (Queues_Of (Object.all), Word (Object.Num_Entries)) /= 0;
-
-      if Is_Made then
-         Set_Limits (Object);
-
-         if Traces.Is_On then
-            Traces.Note_Made (Object);
-         end if;
-      end if;
-
-      Initialization.Undefer_Abort_Nestable (Self_ID);
-
-      if not Is_Made then
-         raise Storage_Error with "no memory for queues of entries";
-      end if;
-   end Make;
 
    ----------------
    -- Barrier_Of --
@@ -462,55 +322,6 @@ package body System.Tasking.Protected_Objects.Pobj is
       end if;
    end Note_Queued;
 
-   ----------
-   -- Join --
-   ----------
-
-   procedure Join (Last : in out Entry_Call_Link; More : Entry_Call_Link) is
-      First : Entry_Call_Link;
-   begin
-      if Last /= null and then More /= null then
-         First := Last.Acceptor_Prev_Call;
-         Last.Acceptor_Prev_Call := More.Acceptor_Prev_Call;
-         More.Acceptor_Prev_Call := First;
-      end if;
-
-      if More /= null then
-         Last := More;
-      end if;
-   end Join;
-
-   ----------------
-   -- Take_First --
-   ----------------
-
-   procedure Take_First
-     (Last  : in out Entry_Call_Link;
-      First : out Entry_Call_Link) is
-   begin
-      First := Last.Acceptor_Prev_Call;
-
-      if First = Last then
-         Last := null;
-      else
-         Last.Acceptor_Prev_Call := First.Acceptor_Prev_Call;
-      end if;
-
-      First.Acceptor_Prev_Call := null;
-   end Take_First;
-
-   --------------------
-   -- Send_Elsewhere --
-   --------------------
-
-   procedure Send_Elsewhere
-     (Object : Protection_Entries_Access;
-      Call   : Entry_Call_Link) is
-   begin
-      Call.Acceptor_Prev_Call := Call;
-      Join (Object.Entry_Queues (1).Tail, Call);
-   end Send_Elsewhere;
-
    ------------
    -- Is_Run --
    ------------
@@ -551,7 +362,7 @@ package body System.Tasking.Protected_Objects.Pobj is
    is
       Answer : constant Word :=
                  pobj_body_ended
-                   (Queues_Of (Object.all), How, 0, 0, Told'Address);
+                   (Engine_Of (Object.all), How, 0, 0, Told'Address);
       Is_Own : constant Boolean :=
                  Call.Self = Self_ID
                    and then Call.Exception_To_Raise /= Null_Id;
@@ -577,13 +388,13 @@ package body System.Tasking.Protected_Objects.Pobj is
    begin
       if Call.Called_PO = To_Address (Object) then
          return pobj_body_ended
-           (Queues_Of (Object.all),
+           (Engine_Of (Object.all),
             (if Call.With_Abort then Requeued_With_Abort else Requeued),
             Word (Call.E - 1), Attempted (Call), Told'Address);
       else
          Send_Elsewhere (Object, Call);
          return pobj_body_ended
-           (Queues_Of (Object.all), Requeued_Elsewhere, 0, 0, Told'Address);
+           (Engine_Of (Object.all), Requeued_Elsewhere, 0, 0, Told'Address);
       end if;
    end Requeued_Call;
 
@@ -662,25 +473,25 @@ package body System.Tasking.Protected_Objects.Pobj is
 
             when Evaluate =>
                Now := pobj_answer
-                 (Queues_Of (Object.all), Barrier_Of (Object, E),
+                 (Engine_Of (Object.all), Barrier_Of (Object, E),
                   Told'Address);
 
             when Now_Queued =>
                Note_Queued (Self_ID, Object, To_Link (Told.Caller), Told);
                Now := pobj_answer
-                 (Queues_Of (Object.all), Barrier_Of (Object, E),
+                 (Engine_Of (Object.all), Barrier_Of (Object, E),
                   Told'Address);
 
             when Now_Cancelled =>
                Trace (Object, To_Link (Told.Caller), "cancelled");
                End_Call (Self_ID, To_Link (Told.Caller), Cancelled);
-               Now := pobj_next (Queues_Of (Object.all), Told'Address);
+               Now := pobj_next (Engine_Of (Object.all), Told'Address);
 
             when Now_Broken =>
                Trace (Object, To_Link (Told.Caller), "program_error");
                End_By (Self_ID, To_Link (Told.Caller),
                        Program_Error'Identity);
-               Now := pobj_next (Queues_Of (Object.all), Told'Address);
+               Now := pobj_next (Engine_Of (Object.all), Told'Address);
 
             when others =>
                Stop;
@@ -711,7 +522,7 @@ package body System.Tasking.Protected_Objects.Pobj is
       end if;
 
       Answer := pobj_issue
-        (Queues_Of (Object.all), To_Word (Call), Word (E - 1),
+        (Engine_Of (Object.all), To_Word (Call), Word (E - 1),
          Marks_Of (Call), Barrier_Of (Object, E), Told'Address);
 
       if Answer = No_Memory then
@@ -732,7 +543,7 @@ package body System.Tasking.Protected_Objects.Pobj is
    is
       Told   : aliased Step;
       Answer : constant Word :=
-                 pobj_next (Queues_Of (Object.all), Told'Address);
+                 pobj_next (Engine_Of (Object.all), Told'Address);
    begin
       if Answer /= Rest then
          Carry_Out (Self_ID, Object, Answer, Told);
@@ -774,6 +585,7 @@ package body System.Tasking.Protected_Objects.Pobj is
    is
       Object    : constant Protection_Entries_Access :=
                     To_Protection (Call.Called_PO);
+      Sent      : Entry_Call_Link;
       Violation : Boolean;
 
    begin
@@ -788,8 +600,8 @@ package body System.Tasking.Protected_Objects.Pobj is
          End_By (Self_ID, Call, Program_Error'Identity);
       else
          Issue (Self_ID, Object, Call);
-         Join (Last, Object.Entry_Queues (1).Tail);
-         Object.Entry_Queues (1).Tail := null;
+         Take_Sent (Object, Sent);
+         Join (Last, Sent);
          Unlock_Entries (Object);
       end if;
    end Issue_To_Object;
@@ -824,8 +636,7 @@ package body System.Tasking.Protected_Objects.Pobj is
       Ring : Entry_Call_Link := null;
    begin
       if Serves (Object) then
-         Ring := Object.Entry_Queues (1).Tail;
-         Object.Entry_Queues (1).Tail := null;
+         Take_Sent (Object, Ring);
       end if;
 
       Unlock_Entries (Object);
@@ -850,27 +661,10 @@ package body System.Tasking.Protected_Objects.Pobj is
       if Serves (Object) and then Object.Entry_Queues (1).Head /= null then
          Carry_Out
            (Self_ID, Object,
-            pobj_finalize (Queues_Of (Object.all), Told'Address), Told);
-         pobj_free (Queues_Of (Object.all));
-
-         if Traces.Is_On then
-            Traces.Note_Finalized (Object);
-         end if;
-
-         Object.Entry_Queues (1).Head := null;
+            pobj_finalize (Engine_Of (Object.all), Told'Address), Told);
+         Free (Object);
       end if;
    end Finalize;
-
-   -----------
-   -- Count --
-   -----------
-
-   function Count
-     (Object : Protection_Entries'Class;
-      E      : Protected_Entry_Index) return Natural is
-   begin
-      return Natural (pobj_count (Queues_Of (Object), Word (E - 1)));
-   end Count;
 
    ------------------
    -- Is_Cancelled --
@@ -881,7 +675,7 @@ package body System.Tasking.Protected_Objects.Pobj is
                  To_Protection (Call.Called_PO);
    begin
       case pobj_cancel
-             (Queues_Of (Object.all), Size (To_Word (Call.Prev)),
+             (Engine_Of (Object.all), Size (To_Word (Call.Prev)),
               To_Word (Call.Next), Boolean'Pos (Only_Expired (Call)))
       is
          when Made =>
@@ -928,26 +722,4 @@ package body System.Tasking.Protected_Objects.Pobj is
       end if;
    end Leave_Queue;
 
-   ----------
-   -- Stop --
-   ----------
-
-   procedure Stop is
-      Message : constant String :=
-                  "pobj: the engine refused a step of a protected object, so"
-                  & " the program is ended: please report it" & ASCII.LF;
-
-      procedure C_Write
-        (File : Interfaces.C.int; From : System.Address; Bytes : Size);
-      pragma Import (C, C_Write, "write");
-
-      procedure C_Abort;
-      pragma Import (C, C_Abort, "abort");
-      pragma No_Return (C_Abort);
-
-   begin
-      C_Write (2, Message'Address, Message'Length);
-      C_Abort;
-   end Stop;
-
-end System.Tasking.Protected_Objects.Pobj;
+end System.Tasking.Protected_Objects.Actions;

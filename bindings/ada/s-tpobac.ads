@@ -1,0 +1,54 @@
+--  The protected actions of an object whose entry calls the engine has: what
+--  it decides is carried out here, by barriers, bodies and the callers'
+--  waking. GNARL keeps its locks, sleeping, clocks, aborts and exceptions.
+--  Nothing is elaborated here, so that programs which are linked already can
+--  use it.
+
+with System.Tasking.Protected_Objects.Entries;
+
+package System.Tasking.Protected_Objects.Actions is
+
+   procedure Issue
+     (Self_ID : Task_Id;
+      Object  : Entries.Protection_Entries_Access;
+      Call    : Entry_Call_Link);
+   --  A call arrives, by an entry call or a requeue (9.5.3): carries out all
+   --  that follows until the object is at rest. Holding the object's lock.
+
+   procedure Service
+     (Self_ID : Task_Id;
+      Object  : Entries.Protection_Entries_Access);
+   --  The body of a procedure has run, or a call was cancelled (9.5.3):
+   --  carries out what follows until the object is at rest. Holding its lock.
+
+   procedure Note_Procedure
+     (Self_ID : Task_Id;
+      Object  : Entries.Protection_Entries_Access);
+   pragma Inline (Note_Procedure);
+   --  A procedure of the object was called (9.5.1): records it, if that is
+   --  asked for.
+
+   procedure Leave
+     (Self_ID : Task_Id;
+      Object  : Entries.Protection_Entries_Access);
+   --  Gives up the lock of an object at rest, and then issues the calls that
+   --  its bodies requeued to other objects or to tasks (9.5.4), with no lock
+   --  held in between.
+
+   procedure Finalize
+     (Self_ID : Task_Id;
+      Object  : Entries.Protection_Entries_Access);
+   pragma Export (Ada, Finalize, "pobj_ada_finalize");
+   --  Ends all queued calls by Program_Error (9.4), and frees the queues.
+   --  Holding the object's lock.
+
+   function Is_Withdrawn (Call : Entry_Call_Link) return Boolean;
+   --  Whether the call, whose caller was aborted or doesn't wait any longer,
+   --  is taken off its queue now: the engine decides that for a protected
+   --  object (9.5.3, 9.7.2, 9.8). Holding the lock of the called object or
+   --  task.
+
+   procedure Leave_Queue (Call : Entry_Call_Link);
+   --  Takes a call that is withdrawn off a queue of GNARL's
+
+end System.Tasking.Protected_Objects.Actions;

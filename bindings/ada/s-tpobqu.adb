@@ -1,0 +1,245 @@
+with Interfaces.C;
+
+with System.Restrictions;
+with System.Task_Primitives.Operations;
+with System.Tasking.Initialization;
+with System.Tasking.Protected_Objects.Traces;
+
+package body System.Tasking.Protected_Objects.Queues is
+
+   package STPO renames System.Task_Primitives.Operations;
+
+   use Entries;
+   use Pobj;
+   use type Pobj.Flag;
+
+   Queuing_Policy : constant Character;
+   pragma Import (C, Queuing_Policy, "__gl_queuing_policy");
+
+   Most_Entries : constant := 65_535;
+   --  As pobj.h has it
+
+   function Longest
+     (Object : Protection_Entries_Access;
+      E      : Protected_Entry_Index) return Natural;
+   --  How many calls the queue of the entry may have, 0 for any number: by
+   --  Max_Queue_Length, and by the restriction Max_Entry_Queue_Length (D.7).
+
+   procedure Set_Limits (Object : Protection_Entries_Access);
+   --  Tells the engine the longest queue of each entry that has one
+
+   ------------
+   -- Serves --
+   ------------
+
+   function Serves (Object : Protection_Entries_Access) return Boolean is
+   begin
+      return Queuing_Policy /= 'P' and then Object.Num_Entries > 0;
+   end Serves;
+
+   ---------------
+   -- Engine_Of --
+   ---------------
+
+   function Engine_Of
+     (Object : Protection_Entries'Class) return Pobj.Engine is
+   begin
+      return Object.Entry_Queues (1).Head'Address;
+   end Engine_Of;
+
+   -------------
+   -- Longest --
+   -------------
+
+   function Longest
+     (Object : Protection_Entries_Access;
+      E      : Protected_Entry_Index) return Natural
+   is
+      use System.Restrictions;
+      use System.Restrictions.Rident;
+
+      Of_Entry   : Natural := 0;
+      Of_Program : Natural := 0;
+
+   begin
+      if Object.Entry_Queue_Maxes /= null then
+         Of_Entry := Object.Entry_Queue_Maxes
+           (Object.Find_Body_Index (Object.Compiler_Info, E));
+      end if;
+
+      if Run_Time_Restrictions.Set (Max_Entry_Queue_Length) then
+         Of_Program := Run_Time_Restrictions.Value (Max_Entry_Queue_Length);
+      end if;
+
+      return (if Of_Entry = 0 or else Of_Program = 0
+              then Of_Entry + Of_Program
+              else Natural'Min (Of_Entry, Of_Program));
+   end Longest;
+
+   ----------------
+   -- Set_Limits --
+   ----------------
+
+   procedure Set_Limits (Object : Protection_Entries_Access) is
+      Most : Natural;
+   begin
+      for E in Object.Entry_Queues'Range loop
+         Most := Longest (Object, E);
+
+         if Most > 0
+           and then pobj_limit
+             (Engine_Of (Object.all), Word (E - 1), Word (Most)) = 0
+         then
+            Stop;
+         end if;
+      end loop;
+   end Set_Limits;
+
+   ----------
+   -- Make --
+   ----------
+
+   procedure Make (Object : Protection_Entries_Access) is
+      Self_ID : constant Task_Id := STPO.Self;
+      Is_Made : Boolean;
+
+   begin
+      Traces.Start (Self_ID);
+
+      if not Serves (Object) then
+         return;
+      end if;
+
+      if Object.Num_Entries > Most_Entries then
+         raise Storage_Error with "a protected object over 65_535 entries";
+      end if;
+
+      Initialization.Defer_Abort_Nestable (Self_ID);
+      Is_Made :=
+        pobj_make (Engine_Of (Object.all), Word (Object.Num_Entries)) /= 0;
+
+      if Is_Made then
+         Set_Limits (Object);
+
+         if Traces.Is_On then
+            Traces.Note_Made (Object);
+         end if;
+      end if;
+
+      Initialization.Undefer_Abort_Nestable (Self_ID);
+
+      if not Is_Made then
+         raise Storage_Error with "no memory for queues of entries";
+      end if;
+   end Make;
+
+   ----------
+   -- Free --
+   ----------
+
+   procedure Free (Object : Protection_Entries_Access) is
+   begin
+      pobj_free (Engine_Of (Object.all));
+
+      if Traces.Is_On then
+         Traces.Note_Finalized (Object);
+      end if;
+
+      Object.Entry_Queues (1).Head := null;
+   end Free;
+
+   -----------
+   -- Count --
+   -----------
+
+   function Count
+     (Object : Protection_Entries'Class;
+      E      : Protected_Entry_Index) return Natural is
+   begin
+      return Natural (pobj_count (Engine_Of (Object), Word (E - 1)));
+   end Count;
+
+   ----------
+   -- Join --
+   ----------
+
+   procedure Join (Last : in out Entry_Call_Link; More : Entry_Call_Link) is
+      First : Entry_Call_Link;
+   begin
+      if Last /= null and then More /= null then
+         First := Last.Acceptor_Prev_Call;
+         Last.Acceptor_Prev_Call := More.Acceptor_Prev_Call;
+         More.Acceptor_Prev_Call := First;
+      end if;
+
+      if More /= null then
+         Last := More;
+      end if;
+   end Join;
+
+   ----------------
+   -- Take_First --
+   ----------------
+
+   procedure Take_First
+     (Last  : in out Entry_Call_Link;
+      First : out Entry_Call_Link) is
+   begin
+      First := Last.Acceptor_Prev_Call;
+
+      if First = Last then
+         Last := null;
+      else
+         Last.Acceptor_Prev_Call := First.Acceptor_Prev_Call;
+      end if;
+
+      First.Acceptor_Prev_Call := null;
+   end Take_First;
+
+   --------------------
+   -- Send_Elsewhere --
+   --------------------
+
+   procedure Send_Elsewhere
+     (Object : Protection_Entries_Access;
+      Call   : Entry_Call_Link) is
+   begin
+      Call.Acceptor_Prev_Call := Call;
+      Join (Object.Entry_Queues (1).Tail, Call);
+   end Send_Elsewhere;
+
+   ---------------
+   -- Take_Sent --
+   ---------------
+
+   procedure Take_Sent
+     (Object : Protection_Entries_Access;
+      Ring   : out Entry_Call_Link) is
+   begin
+      Ring := Object.Entry_Queues (1).Tail;
+      Object.Entry_Queues (1).Tail := null;
+   end Take_Sent;
+
+   ----------
+   -- Stop --
+   ----------
+
+   procedure Stop is
+      Message : constant String :=
+                  "pobj: the engine refused a step of a protected object, so"
+                  & " the program is ended: please report it" & ASCII.LF;
+
+      procedure C_Write
+        (File : Interfaces.C.int; From : System.Address; Bytes : Size);
+      pragma Import (C, C_Write, "write");
+
+      procedure C_Abort;
+      pragma Import (C, C_Abort, "abort");
+      pragma No_Return (C_Abort);
+
+   begin
+      C_Write (2, Message'Address, Message'Length);
+      C_Abort;
+   end Stop;
+
+end System.Tasking.Protected_Objects.Queues;

@@ -1,0 +1,63 @@
+--  The entry queues of an object that the engine has, and the calls that its
+--  bodies requeued elsewhere. Nothing is elaborated here, so that programs
+--  which are linked already can use it.
+
+with System.Tasking.Protected_Objects.Entries;
+with System.Tasking.Protected_Objects.Pobj;
+
+package System.Tasking.Protected_Objects.Queues is
+
+   --  The first queue of GNARL's has no other use here: its Head is the
+   --  engine's, and its Tail the last of the calls that bodies requeued
+   --  elsewhere. These are in a ring, chained by Acceptor_Prev_Call.
+
+   function Serves
+     (Object : Entries.Protection_Entries_Access) return Boolean;
+   pragma Inline (Serves);
+   --  Whether the engine has the object's entry calls: it has entries, and
+   --  the program isn't under Priority_Queuing (D.4), where GNARL keeps them.
+
+   function Engine_Of
+     (Object : Entries.Protection_Entries'Class) return Pobj.Engine;
+   pragma Inline (Engine_Of);
+   --  The engine of an object that it serves
+
+   procedure Make (Object : Entries.Protection_Entries_Access);
+   pragma Export (Ada, Make, "pobj_ada_make");
+   --  Makes the queues of a new object, with the longest that each may get,
+   --  where the engine serves it. Raises Storage_Error where there is no
+   --  memory for them, or where the object has more than 65_535 entries.
+
+   procedure Free (Object : Entries.Protection_Entries_Access);
+   --  Frees the queues of an object, where no call is queued any more
+
+   function Count
+     (Object : Entries.Protection_Entries'Class;
+      E      : Protected_Entry_Index) return Natural;
+   --  How many calls are queued on the entry (9.9)
+
+   procedure Send_Elsewhere
+     (Object : Entries.Protection_Entries_Access;
+      Call   : Entry_Call_Link);
+   --  A body requeued the call to another object or to a task: it is issued
+   --  there once the object's lock is given up.
+
+   procedure Take_Sent
+     (Object : Entries.Protection_Entries_Access;
+      Ring   : out Entry_Call_Link);
+   pragma Inline (Take_Sent);
+   --  Takes the ring of those calls, or null
+
+   procedure Join (Last : in out Entry_Call_Link; More : Entry_Call_Link);
+   --  Appends the calls of one ring to those of another
+
+   procedure Take_First
+     (Last  : in out Entry_Call_Link;
+      First : out Entry_Call_Link);
+   --  Takes the first call out of a ring
+
+   procedure Stop;
+   pragma No_Return (Stop);
+   --  The engine refused a step, so this runtime is wrong: ends the program
+
+end System.Tasking.Protected_Objects.Queues;
