@@ -253,6 +253,16 @@ package body System.Tasking.Protected_Objects.Actions is
       Call.Next := null;
       STPO.Write_Lock (Caller);
       Initialization.Wakeup_Entry_Caller (Self_ID, Call, State);
+
+      --  A caller that is being aborted waits for its trigger's end too, and
+      --  isn't woken by that (9.7.4, 9.8).
+
+      if Call.Mode = Asynchronous_Call
+        and then Caller.Common.State = Entry_Caller_Sleep
+      then
+         STPO.Wakeup (Caller, Entry_Caller_Sleep);
+      end if;
+
       STPO.Unlock (Caller);
    end End_Call;
 

@@ -1,6 +1,6 @@
 # shellcheck shell=bash
-# The proved library called from C: the tests and examples of bindings/c, scripts carried out by a C program, the archive built
-# twice. Read by `test`, which sets `top`.
+# The proved library called from C and from Ada: the tests and examples of bindings/c, scripts carried out by a C program, the
+# archive built twice; the runtime for Ada, and scripts carried out by its tasks. Read by `test`, which sets `top`.
 
 # Shows what failed and what was skipped of what the command wrote, and counts its last line.
 count_clients() {
@@ -29,6 +29,28 @@ unpacked() {
   if (cd "$to" && sha256sum --quiet -c SHA256SUMS); then pass; else fail "the packed sums differ"; fi
 }
 
+# Counts the rows of a table of ./compare, which ends well where all are as they should be.
+count_rows() {
+  local status=0
+  ./compare "${@:2}" >"$scratch/rows" 2>"$scratch/rows.faults" || status=$?
+  passed=$((passed + $(grep -cE "$1" "$scratch/rows")))
+  [ "$status" -eq 0 ] || fail "./compare ${*:2} ended with status $status: $(cat "$scratch/rows" "$scratch/rows.faults")"
+}
+
+# Where GNAT is there: the tests of bindings/ada, Ada programs, and scripts that GNAT's tasks carry out over the engine.
+ada_clients() {
+  if ! command -v gnatmake >/dev/null; then
+    echo "the Ada tests are skipped: there is no gnatmake"
+    return
+  fi
+  bindings/ada/tests/run.sh "$scratch/lib" "$scratch/ada" >"$scratch/a" 2>&1
+  count_clients "$scratch/a" "the Ada tests"
+  export POBJ=$top/crates/pobj_run/out/pobj_run
+  count_rows ' (same|not expressible)' scripts over "$scratch/ada"
+  count_rows 'as the standard says' ada "$scratch/ada"
+  export -n POBJ
+}
+
 # Where a C compiler is there: all of bindings/c/tests, over the library that the proofs built.
 clients() {
   if ! command -v gcc >/dev/null || [ ! -e crates/po_c/out/libpo_c.a ]; then
@@ -44,4 +66,5 @@ clients() {
   count_clients "$scratch/c" "scripts by a C program"
   unpacked
   same_bytes
+  ada_clients
 }
