@@ -11,7 +11,7 @@ fail() {
   exit 4
 }
 
-[ -f "$1/POBJ" ] && [ -f "$1/adalib/libgnarl-12.so" ] || fail "$1 isn't a runtime folder of pobj"
+if [ ! -f "$1/POBJ" ] || [ ! -f "$1/adalib/libgnarl-12.so" ]; then fail "$1 isn't a runtime folder of pobj"; fi
 dest=$(cd "$1" && pwd)
 room=$(mktemp -d)
 trap 'rm -rf "$room"' EXIT

@@ -19,13 +19,26 @@ same_bytes() {
   fi
 }
 
-# What `pobj dist` packs, in a folder of its own and with no toolchain in the path: it runs a script, and its example is compiled.
+# The packed runtime for Ada, where GNAT is there.
+packed_ada() {
+  if ! command -v gnatmake >/dev/null; then
+    echo "the packed runtime for Ada is skipped: there is no gnatmake"
+  elif (cd "$scratch" && env -i "PATH=$2" "$1/bin/pobj" ada --check >"$scratch/packed" 2>&1); then
+    pass
+  else
+    fail "the packed runtime for Ada: $(cat "$scratch/packed")"
+  fi
+}
+
+# What `pobj dist` packs, in a folder of its own and with no toolchain in the path: it runs a script, its example is compiled, and an
+# Ada program runs over its runtime.
 unpacked() {
   local to=$scratch/dist bare=/usr/bin:/bin
   put_all "$to"
   if env -i PATH=$bare "$to/bin/pobj" run <examples/allocator.pobj | cmp -s - examples/allocator.out; then pass; else fail "the packed pobj doesn't run a script"; fi
   if env -i PATH=$bare gcc -std=c11 "-I$to/include" "$to/share/pobj/examples/buffer.c" "-L$to/lib" -lpobj -lpthread -o "$scratch/buffer" \
     && "$scratch/buffer" | cmp -s - "$to/share/pobj/examples/buffer.out"; then pass; else fail "the packed library doesn't run its example"; fi
+  packed_ada "$to" "$bare"
   if (cd "$to" && sha256sum --quiet -c SHA256SUMS); then pass; else fail "the packed sums differ"; fi
 }
 
