@@ -1,0 +1,160 @@
+"""The tests of ACATS, Ada's conformity assessment, by plain GNAT and over the engine of pobj by both ways of use."""
+
+import collections
+import concurrent.futures
+import os
+import shutil
+import subprocess
+
+import acats_build
+import acats_source
+import acats_tests
+import programs
+
+# The ways to run a test: as GNAT links it, the same program with the library of a runtime folder, and linked with that
+# folder.
+PLAIN, SHARED, STATIC = "plain", "shared", "static"
+# How long one test may run, in seconds.
+LIMIT = 60
+# How many tests are compiled and run at a time.
+AT_A_TIME = len(os.sched_getaffinity(0))
+# A test says by the first characters of a line how it ended. A tentative result has a second such line.
+LENGTH = 4
+SAID = {"****": "FAILED", "!!!!": "TENTATIVE", "++++": "NOT APPLICABLE", "====": "PASSED"}
+GOOD = {"PASSED", "NOT APPLICABLE", "TENTATIVE"}
+# What is said of a program that GNAT links without its tasking runtime. There is nothing to replace then.
+NO_TASKS = "NO TASKS"
+# What each test wrote by each way.
+WRITTEN = acats_source.OUT / "written"
+# The widths of the first two columns, and of the others.
+FIRST, OTHER = (10, 11), 20
+
+
+def result_of(text, status):
+    """What a test says of itself, and the status of its program where that isn't 0."""
+    begun = {line[:LENGTH] for line in text.splitlines()}
+    result = next((word for mark, word in SAID.items() if mark in begun), "SAYS NOTHING")
+    return result if status == 0 else f"{result}, status {status}"
+
+
+def surroundings(library):
+    """The environment of a program: GNAT's libraries are taken from the folder, or from their own place."""
+    names = {name: value for name, value in os.environ.items() if name != "LD_LIBRARY_PATH"}
+    return names if library is None else {**names, "LD_LIBRARY_PATH": str(library)}
+
+
+def run(program, library=None):
+    """What a test says of itself, with all that it wrote."""
+    try:
+        ended = subprocess.run(
+            [str(program)], cwd=program.parent, env=surroundings(library), timeout=LIMIT, stdin=subprocess.DEVNULL,
+            stdout=subprocess.PIPE, stderr=subprocess.STDOUT, text=True, errors="replace",
+        )
+    except subprocess.TimeoutExpired as late:
+        return f"HANGS ({LIMIT} s)", (late.stdout or b"").decode(errors="replace")
+    return result_of(ended.stdout, ended.returncode), ended.stdout
+
+
+def run_over(program, library):
+    """The same with the libraries of the folder, if those are what the program takes."""
+    asked = subprocess.run(["ldd", str(program)], env=surroundings(library), capture_output=True, text=True)
+    lines = [line for line in asked.stdout.splitlines() if "libgnarl" in line]
+    if not lines:
+        return NO_TASKS, asked.stdout
+    if not all(f"=> {library}/" in line for line in lines):
+        return "NOT OVER DEST", asked.stdout
+    return run(program, library)
+
+
+class Tester:
+    """What runs a test by each way."""
+
+    def __init__(self, runtime):
+        """Over this runtime folder, or by plain GNAT alone."""
+        self.ways = {PLAIN: (acats_build.Linking(PLAIN), run)}
+        if runtime is not None:
+            library = runtime / "adalib"
+            self.ways[SHARED] = self.ways[PLAIN][0], lambda program: run_over(program, library)
+            self.ways[STATIC] = acats_build.Linking(STATIC, runtime), run
+        self.options = acats_source.options()
+
+    def prepare(self):
+        """Compiles the support of ACATS for each way to link, and forgets what was written before."""
+        for linking in dict.fromkeys(linking for linking, _ in self.ways.values()):
+            linking.prepare()
+        shutil.rmtree(WRITTEN, ignore_errors=True)
+        WRITTEN.mkdir(parents=True)
+
+    def results(self, test):
+        """What a test says by each way."""
+        name, _, paths = test
+        said, programs_of = {}, {}
+        for way, (linking, carry_out) in self.ways.items():
+            if linking not in programs_of:
+                programs_of[linking] = linking.build(name, paths, self.options.get(name, []))
+            program, text = programs_of[linking]
+            said[way], text = ("CAN'T BE BUILT", text) if program is None else carry_out(program)
+            (WRITTEN / f"{name}.{way}").write_text(text, errors="replace")
+        for linking in programs_of:
+            linking.remove(name)
+        return said
+
+
+def is_good(said):
+    """Whether a test that passes by plain GNAT passes by each way."""
+    return said[PLAIN] not in GOOD or all(word in GOOD or word == NO_TASKS for word in said.values())
+
+
+def print_row(name, group, words):
+    """Prints a row of the table."""
+    cells = [f"{name:<{FIRST[0]}}{group:<{FIRST[1]}}", *(f"{word:<{OTHER}}" for word in words)]
+    print("".join(cells).rstrip(), flush=True)
+
+
+def print_sums(tests, answers):
+    """Prints for each group and way how many tests said what."""
+    for group, title in acats_tests.GROUPS.items():
+        rows = [said for test, said in zip(tests, answers) if test[1] == group]
+        if rows:
+            print(f"\n{group}: {title}, {len(rows)} tests")
+        for way in rows[0] if rows else ():
+            counts = collections.Counter(said[way] for said in rows)
+            print(f"  {way:<8}" + ", ".join(f"{count} {word}" for word, count in counts.most_common()))
+
+
+def conclude(tests, answers, runtime):
+    """Says what came of it in a line, and gives the status."""
+    written = f"what each wrote is in {WRITTEN.relative_to(programs.TOP)}/"
+    bad = [test[0] for test, said in zip(tests, answers) if not is_good(said)]
+    if runtime is None:
+        print(f"\nno runtime folder was named: that was plain GNAT alone; {written}")
+    elif bad:
+        print(f"\nthese pass by plain GNAT, and not over the runtime folder: {' '.join(bad)}; {written}")
+    else:
+        print(f"\nall that pass by plain GNAT pass over the runtime folder too; {written}")
+    return 1 if bad else 0
+
+
+def prepare():
+    """Sees that GNAT and the tests are there."""
+    if shutil.which("gnatmake") is None:
+        raise programs.Missing("there is no gnatmake; install it with: sudo apt-get install gnat")
+    acats_source.fetch()
+
+
+def acats(path, beginnings):
+    """Runs the tests by plain GNAT, and over the runtime folder at the path where one is named. Gives the status."""
+    runtime = None if path is None else acats_build.runtime_at(path)
+    tests = acats_tests.picked(beginnings)
+    if not tests:
+        raise programs.Failed(f"no test of tasks begins with {' or '.join(beginnings)}")
+    tester = Tester(runtime)
+    tester.prepare()
+    print_row("test", "group", tester.ways)
+    answers = []
+    with concurrent.futures.ThreadPoolExecutor(AT_A_TIME) as pool:
+        for test, said in zip(tests, pool.map(tester.results, tests)):
+            answers.append(said)
+            print_row(test[0], test[1], said.values())
+    print_sums(tests, answers)
+    return conclude(tests, answers, runtime)

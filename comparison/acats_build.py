@@ -1,0 +1,95 @@
+"""How the tests of ACATS become programs: their units are written into files of their own, and gnatmake links them."""
+
+import pathlib
+import shutil
+import subprocess
+
+import acats_source
+import programs
+
+OPTIONS = ["-gnatws", "-gnat95", "-O2"]
+# What the support of ACATS has beside the foundations, as far as tests of tasks want it.
+SUPPORT = {"enumchek", "fcndecl", "impdef", "lencheck", "repbody", "repspec", "spprt13s", "tctouch"}
+FOUNDATIONS = "f*.a"
+# What has to be there once the support is compiled. Some of the rest belongs to tests of other things, and needn't be.
+NEEDED = ("report.o", "impdef.o")
+# What a runtime folder has of its own; what it shares with GNAT are links that lead out of it.
+LIBRARIES = ("libgnarl-12.so", "libgnarl.a")
+
+
+def runtime_at(path):
+    """The runtime folder at the path. One that wasn't made to the end has GNAT's own libraries, or none, and would let
+    the tests run without the engine unseen."""
+    folder = pathlib.Path(path).resolve()
+    for name in LIBRARIES:
+        library = folder / "adalib" / name
+        if not library.exists() or folder not in library.resolve().parents:
+            made = f"make one with: ./pobj ada {path}"
+            raise programs.Failed(f"{path} is no runtime folder, for it has no adalib/{name} of its own; {made}")
+    return folder
+
+
+def chop(folder, paths):
+    """Writes the units of the files into the folder, each into a file with the name that GNAT wants."""
+    texts = folder / "texts"
+    texts.mkdir(parents=True)
+    for path in paths:
+        text = acats_source.filled(acats_source.text_of(path), folder.parent)
+        text = acats_source.expanded(text) if path.suffix == ".tst" else text
+        (texts / f"{path.stem}.ada").write_text(text, encoding="latin-1")
+    names = [f"texts/{path.stem}.ada" for path in paths]
+    what = f"{paths[0].name} can't be taken apart"
+    acats_source.quietly(["gnatchop", "-c", "-w", "-q", *names], folder, what, programs.Failed)
+
+
+def main_of(folder, name):
+    """The main program of a test: its name is that of the test, or begins with it."""
+    found = [folder / f"{name}.adb", *sorted(folder.glob(f"{name}*m.adb")), *sorted(folder.glob(f"{name}?.adb"))]
+    return next((file for file in found if file.exists()), None)
+
+
+class Linking:
+    """A way to link programs: as GNAT does, or with the runtime folder that is named."""
+
+    def __init__(self, name, runtime=None):
+        """A way of this name, which has a folder of its own."""
+        self.folder = acats_source.OUT / name
+        self.support = self.folder / "support"
+        self.first = [] if runtime is None else [f"--RTS={runtime}"]
+        self.last = [] if runtime is None else ["-bargs", "-static"]
+
+    def gnatmake(self, folder, words, last=()):
+        """Carries out gnatmake in the folder."""
+        words = ["gnatmake", "-q", *self.first, *OPTIONS, f"-I{self.support}", *words, *last]
+        return subprocess.run(
+            words, cwd=folder, stdin=subprocess.DEVNULL, stdout=subprocess.PIPE, stderr=subprocess.STDOUT,
+            text=True, errors="replace",
+        )
+
+    def prepare(self):
+        """Compiles the support of ACATS, from nothing."""
+        shutil.rmtree(self.folder, ignore_errors=True)
+        paths = sorted((acats_source.SOURCE / "support").iterdir())
+        chop(self.support, [path for path in paths if path.match(FOUNDATIONS) or path.stem in SUPPORT])
+        # The package of what an implementation defines names the object file of this one.
+        foreign = acats_source.SOURCE / "tests/cd/cd300051.c"
+        what = "the support of ACATS can't be compiled"
+        acats_source.quietly(["gcc", "-c", str(foreign)], self.support, what, programs.Failed)
+        units = sorted(file.name for file in self.support.glob("*.ad[bs]"))
+        ended = self.gnatmake(self.support, ["-c", "-k", "-gnatE", *units])
+        if not all((self.support / name).exists() for name in NEEDED):
+            raise programs.Failed(f"{what}:\n{ended.stdout[-2000:]}")
+
+    def build(self, name, paths, options):
+        """The program of a test, or None where it can't be built, with what is to be said of it."""
+        folder = self.folder / name
+        chop(folder, paths)
+        main = main_of(folder, name)
+        if main is None:
+            return None, "no unit is the main program\n"
+        ended = self.gnatmake(folder, [*options, main.name], self.last)
+        return (main.with_suffix("") if ended.returncode == 0 else None), ended.stdout
+
+    def remove(self, name):
+        """Removes what a test was built in."""
+        shutil.rmtree(self.folder / name, ignore_errors=True)
