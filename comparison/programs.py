@@ -61,10 +61,11 @@ def prepare():
         raise Failed(f"{POBJ} can't be built or run: status {first.returncode}")
 
 
-def run(words, text, limit=LIMIT):
-    """The program with the text on its standard input, ended after the limit."""
+def run(words, text, limit=LIMIT, environment=None):
+    """The program with the text on its standard input, ended after the limit. The environment is added to the present one."""
+    with_this = {**os.environ, **(environment or {})}
     try:
-        return subprocess.run(words, input=text, capture_output=True, text=True, timeout=limit)
+        return subprocess.run(words, input=text, capture_output=True, text=True, timeout=limit, env=with_this)
     except subprocess.TimeoutExpired as late:
         raise Failed(f"{' '.join(words)} took more than {limit} seconds on this script:\n{text}") from late
 
