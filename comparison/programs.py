@@ -63,9 +63,9 @@ def prepare():
         raise Failed(f"{POBJ} can't be built or run: status {first.returncode}")
 
 
-def environment():
-    """The environment of an Ada program: with a runtime folder its protected objects are carried out by pobj."""
-    return os.environ if over is None else {**os.environ, "LD_LIBRARY_PATH": f"{over}/adalib"}
+def over_runtime():
+    """What the environment of an Ada program says: with a runtime folder its protected objects are carried out by pobj."""
+    return {} if over is None else {"LD_LIBRARY_PATH": f"{over}/adalib"}
 
 
 def use_runtime(folder):
@@ -76,10 +76,11 @@ def use_runtime(folder):
     over = folder.resolve()
 
 
-def run(words, text, limit=LIMIT, env=None):
-    """The program with the text on its standard input, ended after the limit."""
+def run(words, text, limit=LIMIT, environment=None):
+    """The program with the text on its standard input, ended after the limit. The environment is added to the present one."""
+    with_this = {**os.environ, **(environment or {})}
     try:
-        return subprocess.run(words, input=text, capture_output=True, text=True, timeout=limit, env=env)
+        return subprocess.run(words, input=text, capture_output=True, text=True, timeout=limit, env=with_this)
     except subprocess.TimeoutExpired as late:
         raise Failed(f"{' '.join(words)} took more than {limit} seconds on this script:\n{text}") from late
 
@@ -100,7 +101,7 @@ def of_pobj(text):
 def of_gnat(text, step):
     """What the protected object of GNAT writes, or None where the machine was too slow for this step of time. A call that
     is never woken takes the time that later deadlines want; what was written up to these is the answer then."""
-    ended = run([str(OUT / "carry_out"), str(step)], text, env=environment())
+    ended = run([str(OUT / "carry_out"), str(step)], text, environment=over_runtime())
     if ended.returncode not in (0, TOO_LATE):
         raise Failed(f"the Ada program ended with status {ended.returncode} on this script:\n{text}\n{ended.stderr}")
     return ended.stdout if ended.returncode == 0 or "never woken" in ended.stdout else None

@@ -1,5 +1,5 @@
-"""How fast the same work is with both objects of pobj, the recorded and the bounded one, and with GNAT; and how fast the
-library for C is beside the mutexes of POSIX."""
+"""How fast the same work is with both objects of pobj, the recorded and the bounded one, and with GNAT; how fast an Ada
+program is by plain GNAT and over the engine; and how fast the library for C is beside the mutexes of POSIX."""
 
 import json
 import os
@@ -8,6 +8,7 @@ import statistics
 import subprocess
 import time
 
+import ada_programs
 import programs
 
 # The work of each row, how many threads do it, and how often each of them.
@@ -24,6 +25,22 @@ ROWS = (
     ("meeting", 4, 5_000),
 )
 ROUNDS = 15
+# The same of the Ada program by plain GNAT and over the engine, and on how many processors, where not on all.
+ADA_ROWS = (
+    ("procedure", 1, 400_000, None),
+    ("function", 1, 400_000, None),
+    ("entry", 1, 200_000, None),
+    ("conditional", 1, 200_000, None),
+    ("buffer", 2, 40_000, None),
+    ("buffer", 4, 20_000, None),
+    ("buffer", 8, 10_000, None),
+    ("buffer", 4, 20_000, 1),
+    ("allocator", 4, 20_000, None),
+    ("allocator", 4, 20_000, 1),
+    ("meeting", 3, 10_000, None),
+    ("meeting", 4, 10_000, None),
+)
+ADA_ROUNDS = 9
 # The objects, and what stands before the word for the work where the program is to use them.
 PREFIXES = {"recorded": "", "bounded": "bounded-", "gnat": ""}
 OURS = ("recorded", "bounded")
@@ -58,7 +75,7 @@ def prepare_from_c():
 
 def prepare():
     """Builds all programs, that of pobj where it isn't there or is old."""
-    programs.build("speed", "-O2")
+    prepare_ada()
     prepare_from_c()
     if is_current():
         return
@@ -68,16 +85,20 @@ def prepare():
         raise programs.Failed(f"po_bench can't be built:\n{built.stdout[-2000:]}{built.stderr[-2000:]}")
 
 
+def prepare_ada():
+    """Builds the Ada program."""
+    programs.build("speed", "-O2")
+
+
 def words_of(name):
     """The words that call the program for the object of this name."""
     return [str(PROGRAM), "row"] if name in OURS else [str(programs.OUT / "speed")]
 
 
-def calls_a_second(name, row):
-    """How often a second the threads of a row do its work on the object of this name."""
-    work, threads, turns = PREFIXES[name] + row[0], *row[1:]
-    words = [*words_of(name), work, str(threads), str(turns)]
-    ended = programs.run(words, "")
+def calls_a_second(program, work, threads, turns, environment=None):
+    """How often a second the threads of the program do the work, each so many times."""
+    words = [*program, work, str(threads), str(turns)]
+    ended = programs.run(words, "", environment=environment)
     answer = ended.stdout.split()
     if ended.returncode != 0 or answer[:3] != [work, str(threads), str(threads * turns)]:
         raise programs.Failed(f"{' '.join(words)} ended with status {ended.returncode}: {ended.stdout}{ended.stderr}")
@@ -88,9 +109,10 @@ def measure():
     """The numbers of all rows, taken in turns."""
     numbers = {f"{work}/{threads}": {name: [] for name in PREFIXES} for work, threads, _ in ROWS}
     for _ in range(ROUNDS):
-        for row in ROWS:
+        for work, threads, turns in ROWS:
             for name in PREFIXES:
-                numbers[f"{row[0]}/{row[1]}"][name].append(calls_a_second(name, row))
+                took = calls_a_second(words_of(name), PREFIXES[name] + work, threads, turns)
+                numbers[f"{work}/{threads}"][name].append(took)
     return numbers
 
 
@@ -119,19 +141,74 @@ def busy():
     return (sum(ticks[:8]) - idle) / os.sysconf("SC_CLK_TCK"), sum(own[:4])
 
 
-def speed():
-    """Measures all, prints the table, and gives the status."""
+def with_others(measuring, *words):
+    """The numbers of a measurement. How many processors other work kept busy meanwhile is printed."""
     before, since = busy(), time.monotonic()
-    numbers = measure()
+    numbers = measuring(*words)
     after, seconds = busy(), time.monotonic() - since
     others = (after[0] - before[0]) - (after[1] - before[1])
-    NUMBERS.write_text(json.dumps(numbers))
     print(f"Other work kept {max(others, 0) / seconds:.1f} processors busy. The numbers mean little where that is much.")
+    return numbers
+
+
+def on_processors(number):
+    """The words in front of a program that is to run on so many processors."""
+    there = sorted(os.sched_getaffinity(0))
+    return [] if number is None else ["taskset", "-c", ",".join(str(place) for place in there[:number])]
+
+
+def named(work, threads, number):
+    """The name of a row of the Ada program."""
+    return f"{work}/{threads}" + ("" if number is None else f" on {number} processor")
+
+
+def measure_ada(runtime):
+    """The numbers of the Ada program by plain GNAT and over the engine, taken in turns."""
+    sides = {"GNAT": None, "over": ada_programs.over(runtime)}
+    numbers = {named(work, threads, number): {side: [] for side in sides} for work, threads, _, number in ADA_ROWS}
+    for _ in range(ADA_ROUNDS):
+        for work, threads, turns, number in ADA_ROWS:
+            program = [*on_processors(number), str(programs.OUT / "speed")]
+            for side, environment in sides.items():
+                took = calls_a_second(program, work, threads, turns, environment)
+                numbers[named(work, threads, number)][side].append(took)
+    return numbers
+
+
+def over_engine(runtime):
+    """Measures the Ada program by plain GNAT and over the engine, prints the table, and gives the status."""
+    ada_programs.check_is_over(programs.OUT / "speed", runtime)
+    numbers = with_others(measure_ada, runtime)
+    print("One Ada program, by plain GNAT and over the engine. Millions of calls a second: the median of nine rounds, with the")
+    print("lowest and the highest. The ratio is that of the medians, with that of the means in parentheses.")
+    print("| work/tasks | GNAT | GNAT over pobj | over pobj to GNAT |\n|---|---|---|---|")
+    for name, row in numbers.items():
+        print(f"| `{name}` | {millions(row['GNAT'])} | {millions(row['over'])} | {ratios(row['over'], row['GNAT'])} |")
+    return 0
+
+
+def runtime_if_there(words):
+    """The runtime folder that the words name, or else the one that `./pobj ada` made, or None where there is none."""
+    if words:
+        return ada_programs.runtime_at(pathlib.Path(words[0]))
+    return ada_programs.RUNTIME if ada_programs.is_runtime(ada_programs.RUNTIME) else None
+
+
+def speed(words):
+    """Measures all, prints the tables, and gives the status. The words may name a runtime folder."""
+    runtime = runtime_if_there(words)
+    numbers = with_others(measure)
+    NUMBERS.write_text(json.dumps(numbers))
     print("Millions of calls a second: the median of the rounds, with the lowest and the highest. The ratios are to GNAT: of")
     print("the medians, with those of the means in parentheses.")
     print("| work/threads | recorded | bounded | GNAT | recorded to GNAT | bounded to GNAT |\n|---|---|---|---|---|---|")
     for name, row in numbers.items():
         print(line(name, row))
+    if runtime is not None:
+        over_engine(runtime)
+    else:
+        folder = ada_programs.RUNTIME.relative_to(programs.TOP)
+        print(f"The rows of Ada over the engine are left out: there is no {folder}, which `./pobj ada {folder}` makes.")
     print("From C, beside the mutexes of POSIX: the median of nine rounds.")
     print(programs.run([str(FROM_C)], "").stdout, end="")
     return 0

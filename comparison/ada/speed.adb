@@ -8,12 +8,13 @@ with Speed_Objects; use Speed_Objects;
 
 procedure Speed is
 
-   type Work is (Proc, Func, Open_Entry, Put_Or_Get, Allocate, Meet);
+   type Work is (Proc, Func, Open_Entry, Closed_Entry, Put_Or_Get, Allocate, Meet);
 
    function Work_Named (Word : String) return Work is
      (if Word = "procedure" then Proc
       elsif Word = "function" then Func
       elsif Word = "entry" then Open_Entry
+      elsif Word = "conditional" then Closed_Entry
       elsif Word = "buffer" then Put_Or_Get
       elsif Word = "allocator" then Allocate
       elsif Word = "meeting" then Meet
@@ -52,6 +53,13 @@ procedure Speed is
          when Open_Entry =>
             Item := Value (Turn);
             The_Trap.Wait (1) (Item);
+         when Closed_Entry =>
+            Item := Value (Turn);
+            select
+               The_Trap.Wait (1) (Item);
+            else
+               Item := 0;
+            end select;
          when Put_Or_Get =>
             Item := Value (Turn);
             if Number mod 2 = 0 then

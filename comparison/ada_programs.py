@@ -1,0 +1,243 @@
+"""The Ada programs of comparison/programs/: what each writes by plain GNAT and over the engine, beside what the standard
+says that it writes."""
+
+import collections
+import concurrent.futures
+import dataclasses
+import itertools
+import os
+import pathlib
+import shutil
+import subprocess
+import time
+
+import programs
+
+FOLDER = programs.HERE / "programs"
+# What gnatmake builds: linked with the shared runtime of GNAT, and with the static one of a runtime folder.
+SHARED = programs.OUT / "shared"
+STATIC = programs.OUT / "static"
+# What `./pobj ada` fills where no other folder is named.
+RUNTIME = programs.OUT / "ada"
+LIBRARY = "adalib/libgnarl-12.so"
+# How long a program may take, in seconds: by plain GNAT, where several hang, and over the engine.
+PLAIN_LIMIT = 6
+OVER_LIMIT = 60
+# The programs that `stress` runs over and over, and on how many processors.
+STRESSED = ("stress", "delays_alone")
+PROCESSORS = (2, 4)
+# How many programs are built at a time.
+AT_A_TIME = 2
+
+
+@dataclasses.dataclass
+class Ended:
+    """What came of a run: its lines, and whether it was ended because it took too long."""
+    lines: list
+    hangs: bool
+
+
+def is_runtime(folder):
+    """Whether the folder is a runtime that was made to the end: its library is there, and is none of the system's."""
+    return (folder / LIBRARY).is_file() and not (folder / LIBRARY).is_symlink()
+
+
+def runtime_at(folder):
+    """The folder of a runtime, as an absolute path."""
+    if not is_runtime(folder):
+        raise programs.Failed(f"{folder} is no runtime folder: it has no {LIBRARY} of its own")
+    return folder.resolve()
+
+
+def made_runtime():
+    """The runtime folder that `./pobj ada` makes."""
+    made = subprocess.run([programs.POBJ, "ada", str(RUNTIME)], stdin=subprocess.DEVNULL, stdout=subprocess.DEVNULL)
+    if made.returncode != 0:
+        raise programs.Failed(f"{programs.POBJ} ada ended with status {made.returncode}")
+    return runtime_at(RUNTIME)
+
+
+def names():
+    """The names of the programs."""
+    return sorted(file.stem for file in FOLDER.glob("*.adb"))
+
+
+def stated(name, suffix=".out"):
+    """The lines of the file beside a program, or None where there is none."""
+    file = FOLDER / f"{name}{suffix}"
+    return file.read_text().splitlines() if file.exists() else None
+
+
+def build(name, folder, runtime=None):
+    """Builds a program in the folder: for GNAT's shared runtime, or with the static one of a runtime folder."""
+    if shutil.which("gnatmake") is None:
+        raise programs.Missing("there is no gnatmake; install it with: sudo apt-get install gnat")
+    folder.mkdir(parents=True, exist_ok=True)
+    # It is linked anew, since the runtime may be another one than the last time.
+    (folder / name).unlink(missing_ok=True)
+    which = ["-bargs", "-shared"] if runtime is None else [f"--RTS={runtime}", "-bargs", "-static"]
+    words = ["gnatmake", "-q", "-gnat2022", "-gnatws", "-O1", str(FOLDER / f"{name}.adb"), *which]
+    built = subprocess.run(words, cwd=folder, capture_output=True, text=True)
+    if built.returncode != 0:
+        raise programs.Failed(f"gnatmake can't build {name}:\n{built.stderr}")
+
+
+def build_all(wanted, runtime):
+    """Builds the programs for both ways of use."""
+    orders = [(name, SHARED, None) for name in wanted] + [(name, STATIC, runtime) for name in wanted]
+    with concurrent.futures.ThreadPoolExecutor(AT_A_TIME) as pool:
+        list(pool.map(lambda order: build(*order), orders))
+
+
+def over(runtime):
+    """The environment in which a program that is linked with GNAT's shared runtime takes that of the folder."""
+    return {"LD_LIBRARY_PATH": str(runtime / "adalib")}
+
+
+def check_is_over(program, runtime):
+    """Ends where the program would be carried out by another runtime than that of the folder."""
+    words = {"LD_TRACE_LOADED_OBJECTS": "1", **over(runtime)}
+    loaded = subprocess.run([str(program)], env={**os.environ, **words}, capture_output=True, text=True).stdout
+    if str(runtime / LIBRARY) not in loaded:
+        raise programs.Failed(f"{program} doesn't load {runtime / LIBRARY}:\n{loaded}")
+
+
+def text_of(written):
+    """What a program wrote, as text; None where it was ended before it wrote anything."""
+    return written.decode(errors="replace") if isinstance(written, bytes) else written or ""
+
+
+def run(program, limit, environment=None, processors=None):
+    """What came of a run of the program. Behind what it wrote stands how it ended, where that wasn't well."""
+    words = ["stdbuf", "-oL", str(program)]
+    if processors is not None:
+        words = ["taskset", "-c", ",".join(str(number) for number in processors), *words]
+    try:
+        ended = subprocess.run(words, stdin=subprocess.DEVNULL, capture_output=True, timeout=limit,
+                               env={**os.environ, **(environment or {})})
+    except subprocess.TimeoutExpired as late:
+        return Ended([*text_of(late.stdout).splitlines(), "(hangs)"], True)
+    lines = text_of(ended.stdout).splitlines()
+    if ended.returncode != 0:
+        lines += [*text_of(ended.stderr).splitlines()[:2], f"(status {ended.returncode})"]
+    return Ended(lines, False)
+
+
+def of_plain(name, ended):
+    """What there is to say of a program by plain GNAT."""
+    what = "hangs" if ended.hangs else "differs"
+    if ended.lines == stated(name):
+        return "same"
+    return f"{what}: {name}.why" if stated(name, ".why") is not None else f"{what}, AND NOTHING EXPLAINS IT"
+
+
+def of_engine(name, ended):
+    """What there is to say of a program over the engine, and whether it is good."""
+    if ended.lines == stated(name):
+        return "same", True
+    if ended.lines == stated(name, ".both"):
+        return f"as plain GNAT: {name}.why", True
+    return "HANGS" if ended.hangs else "DIFFERS", False
+
+
+def print_beside(columns):
+    """Prints the lines of several outputs beside each other, each under its title."""
+    rows = [list(columns), *itertools.zip_longest(*columns.values(), fillvalue="")]
+    widths = [max(len(row[place]) for row in rows) for place in range(len(columns))]
+    for row in rows:
+        print("    " + " | ".join(f"{cell:<{width}}" for cell, width in zip(row, widths)).rstrip())
+
+
+def print_outputs(name, outputs):
+    """Prints the outputs of a program beside what the standard says, where one of them differs. Two that are the same are
+    shown once."""
+    columns = {"the standard": stated(name)}
+    for title, ended in outputs.items():
+        if title == "linked with it" and ended.lines == outputs["over pobj"].lines:
+            continue
+        columns[title] = ended.lines
+    if any(lines != columns["the standard"] for lines in columns.values()):
+        print_beside(columns)
+
+
+def judged(name, runtime):
+    """Runs a program, prints what there is to say of it, and gives whether plain GNAT and the engine write what the standard
+    says."""
+    outputs = {
+        "plain GNAT": run(SHARED / name, PLAIN_LIMIT),
+        "over pobj": run(SHARED / name, OVER_LIMIT, over(runtime)),
+        "linked with it": run(STATIC / name, OVER_LIMIT),
+    }
+    plain = of_plain(name, outputs["plain GNAT"])
+    shared, linked = (of_engine(name, outputs[title]) for title in ("over pobj", "linked with it"))
+    width = max(len(each) for each in names())
+    lines = f"{len(stated(name))} lines"
+    print(f"{name:<{width}}  {lines:<8}  {plain:<{width + 13}}  {shared[0]:<10}  {linked[0]}")
+    print_outputs(name, outputs)
+    return plain == "same", shared[1] and linked[1]
+
+
+def all_programs(runtime):
+    """Compares all programs, prints them in a table, and gives the status."""
+    width = max(len(name) for name in names())
+    build_all(names(), runtime)
+    check_is_over(SHARED / names()[0], runtime)
+    print(f"{'program':<{width}}  {'standard':<8}  {'plain GNAT':<{width + 13}}  {'over pobj':<10}  linked with it")
+    verdicts = [judged(name, runtime) for name in names()]
+    faults = sum(not plain for plain, _ in verdicts)
+    wrong = [name for name, (_, engine) in zip(names(), verdicts) if not engine]
+    print(f"{len(verdicts)} programs; plain GNAT differs in {faults}, which comparison/programs/NAME.why explains")
+    print(f"over pobj these differ: {', '.join(wrong)}" if wrong else "over pobj none differs that isn't explained")
+    return 1 if wrong else 0
+
+
+def stress_once(name, runtime, processors):
+    """The lines of a run over the engine."""
+    return tuple(run(SHARED / name, OVER_LIMIT, over(runtime), processors).lines)
+
+
+def stress_program(name, count, runtime, processors):
+    """Runs a program over and over on these processors, prints what came of it, and gives whether each run was good."""
+    since = time.monotonic()
+    came = collections.Counter(stress_once(name, runtime, processors) for _ in range(count))
+    good = came.pop(tuple(stated(name)), 0)
+    seconds = time.monotonic() - since
+    print(f"{name} on {len(processors)} processors: {good} of {count} runs as the standard says, in {seconds:.0f} seconds",
+          flush=True)
+    for lines, times in came.most_common():
+        print(f"  {times} times: {'; '.join(lines)}")
+    return good == count
+
+
+def stress(count, runtime):
+    """Runs the stressed programs over and over, on two processors and on four, and gives the status."""
+    for name in STRESSED:
+        build(name, SHARED)
+        check_is_over(SHARED / name, runtime)
+    there = sorted(os.sched_getaffinity(0))
+    good = True
+    for number in PROCESSORS:
+        if number > len(there):
+            print(f"on {number} processors: left out, {len(there)} are there")
+            continue
+        for name in STRESSED:
+            good = stress_program(name, count, runtime, there[:number]) and good
+    return 0 if good else 1
+
+
+def runtime_named(words):
+    """The runtime folder that the words name, or the one that is made where they name none."""
+    return runtime_at(pathlib.Path(words[0])) if words else made_runtime()
+
+
+def work_of(words):
+    """What the words behind `ada` say is to be done, or None where they are refused."""
+    match words:
+        case [] | ["stress"]:
+            work = all_programs if not words else lambda runtime: stress(200, runtime)
+            return lambda: work(made_runtime())
+        case ["stress", count, *folder] if count.isdigit() and len(folder) <= 1:
+            return lambda: stress(int(count), runtime_named(folder))
+        case [folder] if not folder.startswith("-"):
+            return lambda: all_programs(runtime_at(pathlib.Path(folder)))
+    return None
