@@ -60,7 +60,7 @@ ada_clients() {
   count_clients "$scratch/a" "the Ada tests"
   export POBJ=$top/crates/pobj_run/out/pobj_run
   count_rows ' (same|not expressible)' scripts over "$scratch/ada"
-  count_rows 'as the standard says' ada "$scratch/ada"
+  count_rows '  same +same$' ada "$scratch/ada"
   export -n POBJ
 }
 
