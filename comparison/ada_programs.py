@@ -144,7 +144,8 @@ def of_engine(name, ended):
 def print_row(name, *cells):
     """Prints a row of the table of all programs."""
     width = max(len(each) for each in names())
-    print(f"{name:<{width}}  " + "  ".join(f"{cell:<{wide}}" for cell, wide in zip(cells, (8, 20, 13, 14))).rstrip(), flush=True)
+    row = "  ".join(f"{cell:<{wide}}" for cell, wide in zip((name, *cells), (width, 8, 20, 13, 14)))
+    print(row.rstrip(), flush=True)
 
 
 def print_beside(columns):
@@ -156,8 +157,7 @@ def print_beside(columns):
 
 
 def print_outputs(name, outputs):
-    """Prints the outputs of a program beside what the standard says, where one of them differs. Two that are the same are
-    shown once."""
+    """Prints the outputs of a program beside what the standard says, where one of them differs."""
     columns = {"the standard": stated(name)}
     for title, ended in outputs.items():
         if title == "linked with it" and ended.lines == outputs["over pobj"].lines:
