@@ -20,6 +20,7 @@ STATIC = programs.OUT / "static"
 # What `./pobj ada` fills where no other folder is named.
 RUNTIME = programs.OUT / "ada"
 LIBRARY = "adalib/libgnarl-12.so"
+STATIC_LIBRARY = "adalib/libgnarl.a"
 # How long a program may take, in seconds: by plain GNAT, where several hang, and over the engine.
 PLAIN_LIMIT = 6
 OVER_LIMIT = 60
@@ -38,14 +39,14 @@ class Ended:
 
 
 def is_runtime(folder):
-    """Whether the folder is a runtime that was made to the end: its library is there, and is none of the system's."""
-    return (folder / LIBRARY).is_file() and not (folder / LIBRARY).is_symlink()
+    """Whether the folder is a runtime that was made to the end: its libraries are there, and aren't those of the system."""
+    return all((folder / file).is_file() and not (folder / file).is_symlink() for file in (LIBRARY, STATIC_LIBRARY))
 
 
 def runtime_at(folder):
     """The folder of a runtime, as an absolute path."""
     if not is_runtime(folder):
-        raise programs.Failed(f"{folder} is no runtime folder: it has no {LIBRARY} of its own")
+        raise programs.Failed(f"{folder} is no runtime folder: it has no {LIBRARY} and {STATIC_LIBRARY} of its own")
     return folder.resolve()
 
 
@@ -103,7 +104,7 @@ def check_is_over(program, runtime):
 
 
 def text_of(written):
-    """What a program wrote, as text; None where it was ended before it wrote anything."""
+    """What a program wrote, as text; where it was ended before it wrote anything, that is None."""
     return written.decode(errors="replace") if isinstance(written, bytes) else written or ""
 
 
