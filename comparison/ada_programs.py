@@ -20,6 +20,7 @@ STATIC = programs.OUT / "static"
 # What `./pobj ada` fills where no other folder is named.
 RUNTIME = programs.OUT / "ada"
 LIBRARY = "adalib/libgnarl-12.so"
+STATIC_LIBRARY = "adalib/libgnarl.a"
 # How long a program may take, in seconds: by plain GNAT, where several hang, and over the engine.
 PLAIN_LIMIT = 6
 OVER_LIMIT = 60
@@ -38,14 +39,14 @@ class Ended:
 
 
 def is_runtime(folder):
-    """Whether the folder is a runtime that was made to the end: its library is there, and is none of the system's."""
-    return (folder / LIBRARY).is_file() and not (folder / LIBRARY).is_symlink()
+    """Whether the folder is a runtime that was made to the end: its libraries are there, and aren't those of the system."""
+    return all((folder / file).is_file() and not (folder / file).is_symlink() for file in (LIBRARY, STATIC_LIBRARY))
 
 
 def runtime_at(folder):
     """The folder of a runtime, as an absolute path."""
     if not is_runtime(folder):
-        raise programs.Failed(f"{folder} is no runtime folder: it has no {LIBRARY} of its own")
+        raise programs.Failed(f"{folder} is no runtime folder: it has no {LIBRARY} and {STATIC_LIBRARY} of its own")
     return folder.resolve()
 
 
@@ -103,7 +104,7 @@ def check_is_over(program, runtime):
 
 
 def text_of(written):
-    """What a program wrote, as text; None where it was ended before it wrote anything."""
+    """What a program wrote, as text; where it was ended before it wrote anything, that is None."""
     return written.decode(errors="replace") if isinstance(written, bytes) else written or ""
 
 
@@ -125,10 +126,11 @@ def run(program, limit, environment=None, processors=None):
 
 def of_plain(name, ended):
     """What there is to say of a program by plain GNAT."""
-    what = "hangs" if ended.hangs else "differs"
+    is_explained = stated(name, ".why") is not None
     if ended.lines == stated(name):
-        return "same"
-    return f"{what}: {name}.why" if stated(name, ".why") is not None else f"{what}, AND NOTHING EXPLAINS IT"
+        return "same this time" if is_explained else "same"
+    what = "hangs" if ended.hangs else "differs"
+    return f"{what}, explained" if is_explained else f"{what.upper()}, unexplained"
 
 
 def of_engine(name, ended):
@@ -136,8 +138,15 @@ def of_engine(name, ended):
     if ended.lines == stated(name):
         return "same", True
     if ended.lines == stated(name, ".both"):
-        return f"as plain GNAT: {name}.why", True
+        return "as plain GNAT", True
     return "HANGS" if ended.hangs else "DIFFERS", False
+
+
+def print_row(name, *cells):
+    """Prints a row of the table of all programs."""
+    width = max(len(each) for each in names())
+    row = "  ".join(f"{cell:<{wide}}" for cell, wide in zip((name, *cells), (width, 8, 20, 13, 14)))
+    print(row.rstrip(), flush=True)
 
 
 def print_beside(columns):
@@ -149,8 +158,7 @@ def print_beside(columns):
 
 
 def print_outputs(name, outputs):
-    """Prints the outputs of a program beside what the standard says, where one of them differs. Two that are the same are
-    shown once."""
+    """Prints the outputs of a program beside what the standard says, where one of them differs."""
     columns = {"the standard": stated(name)}
     for title, ended in outputs.items():
         if title == "linked with it" and ended.lines == outputs["over pobj"].lines:
@@ -170,24 +178,22 @@ def judged(name, runtime):
     }
     plain = of_plain(name, outputs["plain GNAT"])
     shared, linked = (of_engine(name, outputs[title]) for title in ("over pobj", "linked with it"))
-    width = max(len(each) for each in names())
     lines = f"{len(stated(name))} lines"
-    print(f"{name:<{width}}  {lines:<8}  {plain:<{width + 13}}  {shared[0]:<10}  {linked[0]}")
+    print_row(name, lines, plain, shared[0], linked[0])
     print_outputs(name, outputs)
-    return plain == "same", shared[1] and linked[1]
+    return plain.startswith("same"), shared[1] and linked[1]
 
 
 def all_programs(runtime):
     """Compares all programs, prints them in a table, and gives the status."""
-    width = max(len(name) for name in names())
     build_all(names(), runtime)
     check_is_over(SHARED / names()[0], runtime)
-    print(f"{'program':<{width}}  {'standard':<8}  {'plain GNAT':<{width + 13}}  {'over pobj':<10}  linked with it")
+    print_row("program", "standard", "plain GNAT", "over pobj", "linked with it")
     verdicts = [judged(name, runtime) for name in names()]
     faults = sum(not plain for plain, _ in verdicts)
     wrong = [name for name, (_, engine) in zip(names(), verdicts) if not engine]
-    print(f"{len(verdicts)} programs; plain GNAT differs in {faults}, which comparison/programs/NAME.why explains")
-    print(f"over pobj these differ: {', '.join(wrong)}" if wrong else "over pobj none differs that isn't explained")
+    print(f"{len(verdicts)} programs; plain GNAT differs in {faults}: comparison/programs/NAME.why says why")
+    print(f"over pobj these differ: {', '.join(wrong)}" if wrong else "over pobj each difference is explained")
     return 1 if wrong else 0
 
 

@@ -165,7 +165,7 @@ def named(work, threads, number):
 def measure_ada(runtime):
     """The numbers of the Ada program by plain GNAT and over the engine, taken in turns."""
     sides = {"GNAT": None, "over": ada_programs.over(runtime)}
-    numbers = {named(work, threads, number): {side: [] for side in sides} for work, threads, _, number in ADA_ROWS}
+    numbers = {named(row[0], row[1], row[3]): {side: [] for side in sides} for row in ADA_ROWS}
     for _ in range(ADA_ROUNDS):
         for work, threads, turns, number in ADA_ROWS:
             program = [*on_processors(number), str(programs.OUT / "speed")]
@@ -179,8 +179,8 @@ def over_engine(runtime):
     """Measures the Ada program by plain GNAT and over the engine, prints the table, and gives the status."""
     ada_programs.check_is_over(programs.OUT / "speed", runtime)
     numbers = with_others(measure_ada, runtime)
-    print("One Ada program, by plain GNAT and over the engine. Millions of calls a second: the median of nine rounds, with the")
-    print("lowest and the highest. The ratio is that of the medians, with that of the means in parentheses.")
+    print("One Ada program, by plain GNAT and over the engine. Millions of calls a second: the median of nine rounds, with")
+    print("the lowest and the highest. The ratio is that of the medians, with that of the means in parentheses.")
     print("| work/tasks | GNAT | GNAT over pobj | over pobj to GNAT |\n|---|---|---|---|")
     for name, row in numbers.items():
         print(f"| `{name}` | {millions(row['GNAT'])} | {millions(row['over'])} | {ratios(row['over'], row['GNAT'])} |")

@@ -62,7 +62,7 @@ procedure Asynchronous_Selects is
          while Gate.Waiting = 0 loop
             delay 0.001;
          end loop;
-         delay 0.02;
+         delay 0.1;
          Gate.Open;
       end loop;
    end Opener;
@@ -198,7 +198,7 @@ procedure Asynchronous_Selects is
    begin
       select
          delay 0.005;
-         Put_Line ("  expired" & (if Clock - From < Milliseconds (20) then " TOO EARLY" else " behind the call"));
+         Put_Line ("  expired" & (if Clock - From < Milliseconds (100) then " TOO EARLY" else " behind the call"));
       then abort
          Gate.Pass_Without_Abort;
          Put_Line ("  WRONG: part goes on");

@@ -1,5 +1,5 @@
---  Bodies that raise: of an entry whose call is served at once, of one whose call waited, of one to which a call was requeued,
---  of a procedure, and of a function.
+--  Bodies that raise: of an entry whose call is served at once, of one whose call waited, of one to which a call was
+--  requeued, of a procedure, and of a function.
 --
 --  9.5.2 and 9.5.3: an exception that a body doesn't handle is raised by the call that it serves, and by no other; the
 --  servicing goes on. 9.5.1: a protected action ends by an exception of its procedure too, and the queues are serviced then:

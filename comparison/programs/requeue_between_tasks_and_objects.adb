@@ -89,14 +89,15 @@ procedure Requeue_Between_Tasks_And_Objects is
       end loop;
    end Server;
 
-   task type Opener;
+   --  Opens the gate some time after a call waits at it.
+   task type Opener (Milliseconds : Natural);
 
    task body Opener is
    begin
       while Gate.Waiting = 0 loop
          delay 0.001;
       end loop;
-      delay 0.01;
+      delay Milliseconds * 0.001;
       Gate.Open;
    end Opener;
 
@@ -115,7 +116,7 @@ begin
 
    Item := 1;
    declare
-      The_Opener : Opener;
+      The_Opener : Opener (1);
    begin
       Server.Add_And_Pass (Item);
    end;
@@ -128,7 +129,7 @@ begin
 
    Item := 1;
    declare
-      The_Opener : Opener;
+      The_Opener : Opener (1);
    begin
       Gate.There_And_Back (Item);
    end;
@@ -137,12 +138,12 @@ begin
    --  A call that a task requeued without abort waits beyond its time.
    Item := 1;
    declare
-      The_Opener : Opener;
+      The_Opener : Opener (300);
    begin
       select
          Server.Add_And_Pass (Item);
       or
-         delay 0.005;
+         delay 0.1;
          Put_Line ("WRONG: cancelled");
       end select;
    end;
@@ -163,7 +164,7 @@ begin
 
       task body Nurse is
       begin
-         Server.Sleep (0.1);
+         Server.Sleep (0.4);
       end Nurse;
    begin
       delay 0.02;
