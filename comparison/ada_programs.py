@@ -137,8 +137,6 @@ def of_engine(name, ended):
     """What there is to say of a program over the engine, and whether it is good."""
     if ended.lines == stated(name):
         return "same", True
-    if ended.lines == stated(name, ".both"):
-        return "as plain GNAT", True
     return "HANGS" if ended.hangs else "DIFFERS", False
 
 
