@@ -3,18 +3,19 @@
 ghost use Rattle.std.specs.Prelude.{◌≡◌, ◌≢◌, ◌<◌, ◌≤◌, ◌+◌, ◌++◌, ◌∷◌, [], ℕ, None, Some, true, false, length, All, IfOk, IsOk, IfErr, OnOk, OnErr, Option, IsSome, IfSome, find, count_by, slice_set};
 ghost use Rattle.std.specs.List.{slice_get};
 ghost use Rattle.po_calls.specs.declared.call.Call.{Call};
+ghost use Rattle.po_calls.specs.declared.end.End.TheVariants.{Completed as IsCompleted};
 ghost use Rattle.po_accepted.specs.Tickets.{uncollected, waiting_among};
 ghost use Rattle.po_accepted.specs.WaitingCalls.{is_on};
 ghost use Rattle.po_engine.specs.Step.{end_call};
 ghost use Rattle.po_engine.specs.declared.arriving.Arriving.{Arriving};
 ghost use Rattle.po_driven.specs.AtRest.{ToldBelow, told};
 ghost use Rattle.po_driven.specs.DrivenView.{DrivenView, IsDriven, Tells, Fresh, KeepsAll, MayIssue, at_opening, closed_after};
-ghost use Rattle.po_driven.specs.TracedView.{opening_calls};
+ghost use Rattle.po_driven.specs.TracedView.{IsReady, opening_calls};
 ghost use Rattle.po_driven.specs.Answering.{AnswersCall, FollowsBarrier, LooksOn, Breaks, Moves, WaitsForNext};
 ghost use Rattle.po_driven.specs.Noted.{Notes, serviced, issued, landed, attempted, Names, NamesCaller, NamesTicket, HasTicket, EndsWhereFull, IsNoRequeue, Cancels, KeepsCalls, longest_on};
 ghost use Rattle.po_driven.specs.declared.action.Action.TheVariants.{Run, ProgramError, NoMemory, Refused};
-ghost use Rattle.po_driven.specs.declared.happening.Happening.TheVariants.{Ended, Finalized};
-ghost use Rattle.po_driven.specs.declared.words.BodyEnd.TheVariants.{Completed, Failed, Requeued};
+ghost use Rattle.po_driven.specs.declared.happening.Happening.TheVariants.{Ended, Finalized, RequeuedElsewhere as HasRequeuedElsewhere};
+ghost use Rattle.po_driven.specs.declared.words.BodyEnd.TheVariants.{Completed, Failed, Requeued, RequeuedElsewhere};
 ghost use Rattle.po_driven.specs.declared.phase.Phase.TheVariants.{Resting, Asked, Settling, Breaking};
 ghost use Rattle.po_driven.specs.declared.words.Barrier.TheVariants.{Closed, Open, Raised};
 ghost use Rattle.po_driven.specs.declared.words.Requeue.{Requeue};
@@ -212,12 +213,7 @@ impl DrivenObject {
     /// A call whose barrier is open is accepted: its body is to be run.
     #[inline(always)]
     fn accept_open(&mut self, arriving: Arriving<u64>, step: &mut Step) -> Action
-        requires idle { self.old.calls.object.hand ≡ None }
-        requires room { uncollected self.old.calls.object.tickets < self.old.calls.object.most }
-        requires begun { self.old.calls.object.before ≡ length self.old.calls.object.state.ended }
-        requires entry { arriving.entry < self.old.calls.object.state.unit }
-        requires number { self.old.calls.object.state.next < u64.MAX }
-        requires place { self.old.calls.place < u128.MAX }
+        requires { IsReady self.old.calls arriving.entry }
         ensures tells { Tells result self.new }
         ensures fresh { self.new.closed ≡ [] }
         ensures answers { result ≢ Refused }
@@ -239,12 +235,7 @@ impl DrivenObject {
     /// A call whose barrier is closed is accepted: it is queued, or ends where the queue is full.
     #[inline(always)]
     fn accept_closed(&mut self, arriving: Arriving<u64>, step: &mut Step) -> Action
-        requires idle { self.old.calls.object.hand ≡ None }
-        requires room { uncollected self.old.calls.object.tickets < self.old.calls.object.most }
-        requires begun { self.old.calls.object.before ≡ length self.old.calls.object.state.ended }
-        requires entry { arriving.entry < self.old.calls.object.state.unit }
-        requires number { self.old.calls.object.state.next < u64.MAX }
-        requires place { self.old.calls.place < u128.MAX }
+        requires { IsReady self.old.calls arriving.entry }
         ensures tells { Tells result self.new }
         ensures fresh { self.new.closed ≡ [] }
         ensures answers { result ≢ Refused }
@@ -265,12 +256,7 @@ impl DrivenObject {
 
     /// A call whose barrier propagated an exception is accepted: it ends by Program_Error, behind all queued calls (9.5.3).
     fn accept_raised(&mut self, arriving: Arriving<u64>, step: &mut Step) -> Action
-        requires idle { self.old.calls.object.hand ≡ None }
-        requires room { uncollected self.old.calls.object.tickets < self.old.calls.object.most }
-        requires begun { self.old.calls.object.before ≡ length self.old.calls.object.state.ended }
-        requires entry { arriving.entry < self.old.calls.object.state.unit }
-        requires number { self.old.calls.object.state.next < u64.MAX }
-        requires place { self.old.calls.place < u128.MAX }
+        requires { IsReady self.old.calls arriving.entry }
         ensures tells { Tells result self.new }
         ensures fresh { self.new.closed ≡ [] }
         ensures answers { result ≢ Refused }
@@ -386,6 +372,7 @@ impl DrivenObject {
         ensures full { (requeue : Requeue) → end ≡ Requeued requeue → EndsWhereFull result requeue.target self.old }
         ensures refused { self.old.calls.object.hand ≡ None → result ≡ Refused }
         ensures looks_on { IsSome self.old.calls.object.hand → end ≡ Completed → LooksOn result self.old.calls.object.state.waiting self.new.closed }
+        ensures leaves { IsSome self.old.calls.object.hand → end ≡ RequeuedElsewhere → LooksOn result self.old.calls.object.state.waiting self.new.closed }
         ensures breaks { IsSome self.old.calls.object.hand → end ≡ Failed → Breaks result self.old self.new }
         ensures names { IsNoRequeue end → Names result step.new self.old self.new }
         ensures moves { (requeue : Requeue) (x : Call ℕ) → end ≡ Requeued requeue → self.old.calls.object.hand ≡ Some x → Moves result requeue x step.new self.old }
@@ -403,6 +390,10 @@ impl DrivenObject {
                 self.break_one(step)
             }
             BodyEnd::Requeued(requeue) => self.requeue(call, requeue, step),
+            BodyEnd::RequeuedElsewhere => {
+                self.requeue_elsewhere(call);
+                self.ask(0, step)
+            }
         }
     }
 
@@ -417,6 +408,21 @@ impl DrivenObject {
         ensures noted { Notes (Ended end ∷ []) self.old self.new }
     {
         self.calls.end(call, end);
+        self.phase = Phase::Settling;
+        self.closed = Trace::new();
+    }
+
+    /// The call in hand leaves the object: its body requeued it to another one or a task.
+    #[inline(always)]
+    fn requeue_elsewhere(&mut self, call: Call<u64>)
+        requires { self.old.calls.object.hand ≡ Some call }
+        ensures idle { self.new.calls.object.hand ≡ None }
+        ensures fresh { self.new.closed ≡ [] }
+        ensures settles { self.new.phase ≡ Settling }
+        ensures state { self.new.calls.object.state ≡ end_call self.old.calls.object.state call (IsCompleted call.value) }
+        ensures noted { Notes (HasRequeuedElsewhere ∷ []) self.old self.new }
+    {
+        self.calls.requeue_elsewhere(call);
         self.phase = Phase::Settling;
         self.closed = Trace::new();
     }
@@ -593,6 +599,7 @@ impl DrivenObject {
         ensures fresh { Fresh result self.new }
         ensures kept { KeepsAll result self.old self.new }
         ensures noted { result ≢ Refused → Notes (Finalized ∷ serviced result self.old) self.old self.new }
+        ensures names { Names result step.new self.old self.new }
         ensures accepted { self.old.phase ≡ Resting → result ≢ Refused }
         ensures refused { self.old.phase ≢ Resting → result ≡ Refused }
         ensures breaks { self.old.phase ≡ Resting → Breaks result self.old self.new }

@@ -9,10 +9,11 @@ ghost use Rattle.po_engine.specs.Driving.{admitted, counted, new_call};
 ghost use Rattle.po_engine.specs.StateView.{NamesEntry};
 ghost use Rattle.po_engine.specs.Step.{end_call, take_out, land, cancel, abort, is_full};
 ghost use Rattle.po_unit.specs.declared.outcome.Outcome.TheVariants.{Requeue as RequeueTo};
+ghost use Rattle.po_calls.specs.declared.end.End.TheVariants.{Completed};
 ghost use Rattle.po_driven.specs.AtRest.{IsAtRest};
 ghost use Rattle.po_driven.specs.Happening.{cancellation_of, end_oldest, make_due as due};
-ghost use Rattle.po_driven.specs.TracedView.{IsTraced, opening_calls};
-ghost use Rattle.po_driven.specs.declared.happening.Happening.TheVariants.{Served, Arrived, Selected, Ended, Due, Requeued, Broken, Cancelled, Marked, Finalized};
+ghost use Rattle.po_driven.specs.TracedView.{IsReady, IsTraced, opening_calls};
+ghost use Rattle.po_driven.specs.declared.happening.Happening.TheVariants.{Served, Arrived, Selected, Ended, RequeuedElsewhere, Due, Requeued, Broken, Cancelled, Marked, Finalized};
 
 use crate::client_unit::ClientUnit;
 use crate::happening::Happening;
@@ -129,12 +130,7 @@ impl TracedState {
     /// A call with an open barrier is accepted: it is in hand, and its body runs (9.5.3).
     #[inline(always)]
     pub fn accept_open(&mut self, arriving: Arriving<u64>)
-        requires hand { self.old.object.hand ≡ None }
-        requires room { uncollected self.old.object.tickets < self.old.object.most }
-        requires begun { self.old.object.before ≡ length self.old.object.state.ended }
-        requires entry { arriving.entry < self.old.object.state.unit }
-        requires number { self.old.object.state.next < u64.MAX }
-        requires place { self.old.place < u128.MAX }
+        requires { IsReady self.old arriving.entry }
         ensures state { self.new.object.state ≡ counted self.old.object.state }
         ensures unit { self.new.object.state.unit ≡ self.old.object.state.unit }
         ensures hand { self.new.object.hand ≡ Some (new_call self.old.object.state.next arriving) }
@@ -153,12 +149,7 @@ impl TracedState {
     /// this length already (9.5.3, D.7).
     #[inline(always)]
     pub fn accept_closed(&mut self, arriving: Arriving<u64>, longest: Option<u64>) -> Option<Ticket>
-        requires hand { self.old.object.hand ≡ None }
-        requires room { uncollected self.old.object.tickets < self.old.object.most }
-        requires begun { self.old.object.before ≡ length self.old.object.state.ended }
-        requires entry { arriving.entry < self.old.object.state.unit }
-        requires number { self.old.object.state.next < u64.MAX }
-        requires place { self.old.place < u128.MAX }
+        requires { IsReady self.old arriving.entry }
         ensures state { self.new.object.state ≡ admitted longest (counted self.old.object.state) (new_call self.old.object.state.next arriving) false }
         ensures unit { self.new.object.state.unit ≡ self.old.object.state.unit }
         ensures hand { self.new.object.hand ≡ None }
@@ -209,6 +200,19 @@ impl TracedState {
     {
         finish(&mut self.state, call, end);
         self.happened = self.happened.then(&Happening::Ended(end));
+    }
+
+    /// The call in hand, which its body requeued to another object or a task, leaves this one, and its ticket is given up (9.5.4).
+    #[inline(always)]
+    pub fn requeue_elsewhere(&mut self, call: Call<u64>)
+        requires { self.old.object.hand ≡ Some call }
+        ensures state { self.new.object.state ≡ end_call self.old.object.state call (Completed call.value) }
+        ensures unit { self.new.object.state.unit ≡ self.old.object.state.unit }
+        ensures hand { self.new.object.hand ≡ None }
+        ensures happened { self.new.happened ≡ self.old.happened ++ RequeuedElsewhere ∷ [] }
+    {
+        finish(&mut self.state, call, End::Completed(call.value));
+        self.happened = self.happened.then(&Happening::RequeuedElsewhere);
     }
 
     /// The call in hand is due from now on.
