@@ -1,3 +1,2 @@
 pub mod Held
 pub mod Told
-pub mod Steps

@@ -3,7 +3,7 @@
 
 ghost use Rattle.std.specs.Prelude.{◌≡◌, ◌<◌, None, Some, IsSome, MatchBool, count_by, slice_set, true, false, ◌≤◌};
 ghost use Rattle.po_c.specs.Told.{FromTo, Cancelling, is_not_zero, Answers, entry_named, arriving_named, barrier_named, body_end_named};
-ghost use Rattle.po_c.specs.Steps.{EndsBody, Evaluates, Finalizes, GoesOn, Issues};
+ghost use Rattle.po_driven.specs.Steps.{EndsBody, Evaluates, Finalizes, GoesOn, Issues};
 ghost use Rattle.po_accepted.specs.WaitingCalls.{is_on};
 ghost use Rattle.po_driven.specs.DrivenView.{DrivenView, at_opening};
 ghost use Rattle.po_driven.specs.TracedView.{opening_calls};
@@ -104,7 +104,7 @@ pub extern "C" fn pobj_issue(
     requires { IsSome handle.old.object }
     ensures made { IsSome handle.new.object }
     ensures answer { FromTo handle.old.object handle.new.object (λ old new.
-        Answers result old new (Issues (arriving_named caller entry marks) (barrier_named barrier) step.new old new)) }
+        Answers result (Issues (arriving_named caller entry marks) (barrier_named barrier) step.new old new)) }
 {
     let mut object = handle.take(alloc);
     let arriving = arriving_of(caller, entry, marks);
@@ -123,7 +123,7 @@ pub extern "C" fn pobj_answer(
 ) -> u64
     requires { IsSome handle.old.object }
     ensures made { IsSome handle.new.object }
-    ensures answer { FromTo handle.old.object handle.new.object (λ old new. Answers result old new (Evaluates (barrier_named barrier) step.new old new)) }
+    ensures answer { FromTo handle.old.object handle.new.object (λ old new. Answers result (Evaluates (barrier_named barrier) step.new old new)) }
 {
     let mut object = handle.take(alloc);
     let action = object.answer(barrier_of(barrier), step);
@@ -143,7 +143,7 @@ pub extern "C" fn pobj_body_ended(
 ) -> u64
     requires { IsSome handle.old.object }
     ensures made { IsSome handle.new.object }
-    ensures answer { FromTo handle.old.object handle.new.object (λ old new. Answers result old new (EndsBody (body_end_named how entry marks) step.new old new)) }
+    ensures answer { FromTo handle.old.object handle.new.object (λ old new. Answers result (EndsBody (body_end_named how entry marks) step.new old new)) }
 {
     let mut object = handle.take(alloc);
     let action = object.body_ended(body_end_of(how, entry, marks), step);
@@ -156,7 +156,7 @@ pub extern "C" fn pobj_body_ended(
 pub extern "C" fn pobj_next(alloc: Global, handle: &mut Handle, step: &mut Step) -> u64
     requires { IsSome handle.old.object }
     ensures made { IsSome handle.new.object }
-    ensures answer { FromTo handle.old.object handle.new.object (λ old new. Answers result old new (GoesOn step.new old new)) }
+    ensures answer { FromTo handle.old.object handle.new.object (λ old new. Answers result (GoesOn step.new old new)) }
 {
     let mut object = handle.take(alloc);
     let action = object.next(step);
@@ -189,7 +189,7 @@ pub extern "C" fn pobj_cancel(
 pub extern "C" fn pobj_finalize(alloc: Global, handle: &mut Handle, step: &mut Step) -> u64
     requires { IsSome handle.old.object }
     ensures made { IsSome handle.new.object }
-    ensures answer { FromTo handle.old.object handle.new.object (λ old new. Answers result old new (Finalizes step.new old new)) }
+    ensures answer { FromTo handle.old.object handle.new.object (λ old new. Answers result (Finalizes step.new old new)) }
 {
     let mut object = handle.take(alloc);
     let action = object.finalize(step);

@@ -15,7 +15,7 @@ use Rattle.po_driven.specs.Happening.{cancellation_of}
 use Rattle.po_driven.specs.declared.action.Action.{Action}
 use Rattle.po_driven.specs.declared.action.Action.TheVariants.{Run, Queued, Cancelled, ProgramError, NoMemory, Refused}
 use Rattle.po_driven.specs.declared.happening.Happening.{Happening}
-use Rattle.po_driven.specs.declared.happening.Happening.TheVariants.{Served, Arrived, Selected, Ended, RequeuedElsewhere, Due, Requeued, Broken, Cancelled as WasCancelled, Marked}
+use Rattle.po_driven.specs.declared.happening.Happening.TheVariants.{Served, Arrived, Selected, Ended, RequeuedElsewhere, Due, Requeued, Broken, Cancelled as WasCancelled, Marked, Finalized}
 use Rattle.po_driven.specs.declared.words.Barrier.{Barrier}
 use Rattle.po_driven.specs.declared.words.Barrier.TheVariants.{Raised as HasRaised}
 use Rattle.po_driven.specs.declared.words.BodyEnd.{BodyEnd}
@@ -81,6 +81,11 @@ landed IsRequeuedElsewhere x action d = RequeuedElsewhere ∷ serviced action d
 landed (IsRequeued r) x Refused d = []
 landed (IsRequeued r) x Cancelled d = Ended IsCancelled ∷ []
 landed (IsRequeued r) x action d = (if r.due then Due ∷ [] else []) ++ Requeued (RequeueTo r.target r.with_abort x.value) (longest_on d r.target) ∷ []
+
+-- what has happened when an object is finalized with this answer
+abbrev pub finalized : Action → DrivenView → List Happening
+finalized Refused d = []
+finalized action d = Finalized ∷ serviced action d
 
 -- what has happened when an attempt to cancel the call with this number ends so
 abbrev pub attempted : Cancellation → ℕ → Bool → List Happening

@@ -1,5 +1,5 @@
 -- What contracts see of the calls of a driven object with their history, and what is kept of them (this project's own).
-use Rattle.std.specs.Prelude.{ℕ, ◌≡◌, ◌<◌, List, [], length, Bool, None, All}
+use Rattle.std.specs.Prelude.{ℕ, ◌≡◌, ◌<◌, List, [], length, Bool, true, None, All}
 use Rattle.po_accepted.specs.Tickets.{uncollected}
 use Rattle.po_engine.specs.Arrival.{Increases}
 use Rattle.po_engine.specs.ObjectState.{opening_state}
@@ -59,3 +59,8 @@ pub record IsReady (t : TracedView) (e : ℕ) : Type 0 where
   pub entry : e < t.object.state.unit
   pub number : t.object.state.next < 18_446_744_073_709_551_615
   pub place : t.place < 340_282_366_920_938_463_463_374_607_431_768_211_455
+
+-- Whether the memory is fixed stays so, and where it is, for how many calls it is.
+pub record KeepsRoom (old new : StateView ℕ ℕ) : Type 0 where
+  pub fixed : new.is_fixed ≡ old.is_fixed
+  pub most : old.is_fixed ≡ true → new.most ≡ old.most

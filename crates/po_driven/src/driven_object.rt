@@ -9,7 +9,7 @@ ghost use Rattle.po_accepted.specs.WaitingCalls.{is_on};
 ghost use Rattle.po_engine.specs.Step.{end_call};
 ghost use Rattle.po_engine.specs.declared.arriving.Arriving.{Arriving};
 ghost use Rattle.po_driven.specs.AtRest.{ToldBelow, told};
-ghost use Rattle.po_driven.specs.DrivenView.{DrivenView, IsDriven, Tells, Fresh, KeepsAll, MayIssue, at_opening, closed_after};
+ghost use Rattle.po_driven.specs.DrivenView.{DrivenView, IsDriven, KeepsMaking, Tells, Fresh, KeepsAll, MayIssue, at_opening, closed_after};
 ghost use Rattle.po_driven.specs.TracedView.{IsReady, opening_calls};
 ghost use Rattle.po_driven.specs.Answering.{AnswersCall, FollowsBarrier, LooksOn, Breaks, Moves, WaitsForNext};
 ghost use Rattle.po_driven.specs.Noted.{Notes, serviced, issued, landed, attempted, Names, NamesCaller, NamesTicket, HasTicket, EndsWhereFull, IsNoRequeue, Cancels, KeepsCalls, longest_on};
@@ -164,6 +164,7 @@ impl DrivenObject {
         ensures refused { (MayIssue self.old arriving.entry → ⊥) → result ≡ Refused }
         ensures follows { AnswersCall result arriving barrier self.new }
         ensures room { uncollected self.old.calls.object.tickets < self.old.calls.object.most → result ≢ NoMemory }
+        ensures making { KeepsMaking self.old self.new }
     {
         if !self.may_issue(arriving.entry) {
             return Action::Refused;
@@ -200,6 +201,7 @@ impl DrivenObject {
         ensures full { IfOk result (λ action. (barrier ≡ Raised → ⊥) → EndsWhereFull action arriving.entry self.old) }
         ensures follows { IfOk result (λ action. FollowsBarrier action arriving barrier self.new) }
         ensures room { uncollected self.old.calls.object.tickets < self.old.calls.object.most → IsOk result }
+        ensures making { IfOk result (λ _. KeepsMaking self.old self.new) }
     {
         self.calls.make_room()?;
         let action = match barrier {
@@ -224,6 +226,7 @@ impl DrivenObject {
         ensures ticket { NamesTicket result step.new self.new }
         ensures full { EndsWhereFull result arriving.entry self.old }
         ensures follows { FollowsBarrier result arriving Open self.new }
+        ensures making { KeepsMaking self.old self.new }
     {
         self.calls.accept_open(arriving);
         self.phase = Phase::Running;
@@ -245,6 +248,7 @@ impl DrivenObject {
         ensures ticket { NamesTicket result step.new self.new }
         ensures full { EndsWhereFull result arriving.entry self.old }
         ensures follows { FollowsBarrier result arriving Closed self.new }
+        ensures making { KeepsMaking self.old self.new }
     {
         let longest = self.longest(arriving.entry);
         let queued = self.calls.accept_closed(arriving, longest);
@@ -265,6 +269,7 @@ impl DrivenObject {
         ensures names { NamesCaller result arriving Raised step.new self.old }
         ensures ticket { NamesTicket result step.new self.new }
         ensures follows { FollowsBarrier result arriving Raised self.new }
+        ensures making { KeepsMaking self.old self.new }
     {
         self.calls.accept_closed(arriving, None);
         self.closed = Trace::new();
@@ -287,6 +292,7 @@ impl DrivenObject {
         ensures full { queued ≡ None → result ≡ ProgramError }
         ensures ticket { IfSome queued (λ ticket. HasTicket result ticket step.new) }
         ensures follows { (arriving : Arriving ℕ) → FollowsBarrier result arriving Closed self.new }
+        ensures making { KeepsMaking self.old self.new }
     {
         let Some(ticket) = queued else {
             return Action::ProgramError;
@@ -312,6 +318,7 @@ impl DrivenObject {
         ensures refused { ((e : ℕ) → self.old.phase ≡ Asked e → ⊥) → result ≡ Refused }
         ensures looks_on { (e : ℕ) → self.old.phase ≡ Asked e → barrier ≡ Closed → LooksOn result self.old.calls.object.state.waiting self.new.closed }
         ensures breaks { (e : ℕ) → self.old.phase ≡ Asked e → barrier ≡ Raised → Breaks result self.old self.new }
+        ensures making { KeepsMaking self.old self.new }
     {
         let Phase::Asked(e) = self.phase else {
             return Action::Refused;
@@ -350,6 +357,7 @@ impl DrivenObject {
         ensures runs { result ≡ Run e }
         ensures noted { Notes (serviced result self.old) self.old self.new }
         ensures names { Names result step.new self.old self.new }
+        ensures making { KeepsMaking self.old self.new }
     {
         self.closed = Trace::new();
         self.phase = Phase::Running;
@@ -376,6 +384,7 @@ impl DrivenObject {
         ensures breaks { IsSome self.old.calls.object.hand → end ≡ Failed → Breaks result self.old self.new }
         ensures names { IsNoRequeue end → Names result step.new self.old self.new }
         ensures moves { (requeue : Requeue) (x : Call ℕ) → end ≡ Requeued requeue → self.old.calls.object.hand ≡ Some x → Moves result requeue x step.new self.old }
+        ensures making { KeepsMaking self.old self.new }
     {
         let Some(call) = self.calls.state().in_hand() else {
             return Action::Refused;
@@ -406,6 +415,7 @@ impl DrivenObject {
         ensures settles { self.new.phase ≡ Settling }
         ensures state { self.new.calls.object.state ≡ end_call self.old.calls.object.state call end }
         ensures noted { Notes (Ended end ∷ []) self.old self.new }
+        ensures making { KeepsMaking self.old self.new }
     {
         self.calls.end(call, end);
         self.phase = Phase::Settling;
@@ -421,6 +431,7 @@ impl DrivenObject {
         ensures settles { self.new.phase ≡ Settling }
         ensures state { self.new.calls.object.state ≡ end_call self.old.calls.object.state call (IsCompleted call.value) }
         ensures noted { Notes (HasRequeuedElsewhere ∷ []) self.old self.new }
+        ensures making { KeepsMaking self.old self.new }
     {
         self.calls.requeue_elsewhere(call);
         self.phase = Phase::Settling;
@@ -437,6 +448,7 @@ impl DrivenObject {
         ensures ticket { NamesTicket result step.new self.new }
         ensures full { EndsWhereFull result requeue.target self.old }
         ensures moves { Moves result requeue call step.new self.old }
+        ensures making { KeepsMaking self.old self.new }
     {
         if requeue.target >= self.entries() || !self.calls.has_place() {
             return Action::Refused;
@@ -465,6 +477,7 @@ impl DrivenObject {
         ensures looks_on { self.old.phase ≢ Breaking → result ≢ Refused → LooksOn result self.old.calls.object.state.waiting self.new.closed }
         ensures breaks { self.old.phase ≡ Breaking → Breaks result self.old self.new }
         ensures accepted { WaitsForNext self.old.phase → result ≢ Refused }
+        ensures making { KeepsMaking self.old self.new }
     {
         match self.phase {
             Phase::Resting | Phase::Settling => {
@@ -491,6 +504,7 @@ impl DrivenObject {
         ensures names { Names result step.new self.old self.new }
         ensures unqueued { (told : Step) (d : DrivenView) → NamesTicket result told d }
         ensures looks_on { LooksOn result self.old.calls.object.state.waiting self.old.closed }
+        ensures making { KeepsMaking self.old self.new }
     {
         if self.calls.state().is_idle() {
             self.phase = Phase::Resting;
@@ -511,6 +525,7 @@ impl DrivenObject {
         ensures names { Names result step.new self.old self.new }
         ensures unqueued { (told : Step) (d : DrivenView) → NamesTicket result told d }
         ensures looks_on { LooksOn result self.old.calls.object.state.waiting self.old.closed }
+        ensures making { KeepsMaking self.old self.new }
     {
         if let Some(e) = self.calls.state().next_busy(from) {
             self.phase = Phase::Asked(e);
@@ -531,6 +546,7 @@ impl DrivenObject {
         ensures names { Names result step.new self.old self.new }
         ensures unqueued { (told : Step) (d : DrivenView) → NamesTicket result told d }
         ensures looks_on { LooksOn result self.old.calls.object.state.waiting self.old.closed }
+        ensures making { KeepsMaking self.old self.new }
     {
         let Some(call) = self.calls.cancel_due() else {
             self.phase = Phase::Resting;
@@ -553,6 +569,7 @@ impl DrivenObject {
         ensures unqueued { (told : Step) (d : DrivenView) → NamesTicket result told d }
         ensures breaks { Breaks result self.old self.new }
         ensures first { IsSome (slice_get self.old.calls.object.state.waiting 0) → result ≡ ProgramError }
+        ensures making { KeepsMaking self.old self.new }
     {
         self.closed = Trace::new();
         let Some(call) = self.calls.break_oldest() else {
@@ -574,6 +591,7 @@ impl DrivenObject {
         ensures same { KeepsCalls result self.old self.new }
         ensures accepted { self.old.phase ≡ Resting → result ≢ IsRefused }
         ensures refused { self.old.phase ≢ Resting → result ≡ IsRefused }
+        ensures making { KeepsMaking self.old self.new }
     {
         let Phase::Resting = self.phase else {
             return Cancellation::Refused;
@@ -603,6 +621,7 @@ impl DrivenObject {
         ensures accepted { self.old.phase ≡ Resting → result ≢ Refused }
         ensures refused { self.old.phase ≢ Resting → result ≡ Refused }
         ensures breaks { self.old.phase ≡ Resting → Breaks result self.old self.new }
+        ensures making { KeepsMaking self.old self.new }
     {
         let Phase::Resting = self.phase else {
             return Action::Refused;

@@ -12,6 +12,7 @@ ghost use Rattle.po_engine.specs.Step.{end_call, take_out, land as landed, cance
 ghost use Rattle.po_driven.specs.AtRest.{IsAtRest};
 ghost use Rattle.po_driven.specs.Happening.{end_oldest, make_due as due};
 ghost use Rattle.po_driven.specs.OnePlace.{HasTickets, IsThereOnce};
+ghost use Rattle.po_driven.specs.TracedView.{KeepsRoom};
 
 use crate::client_unit::ClientUnit;
 use po_calls::{Call, Deadline, End, Ticket};
@@ -27,6 +28,7 @@ pub(crate) fn forget(state: &mut State<ClientUnit>, ticket: Ticket)
     ensures state { state.new ≡ record state.old { tickets = state.new.tickets; most = state.new.most } }
     ensures placed { IsThereOnce state.old → IsThereOnce state.new }
     ensures count { uncollected state.new.tickets + 1 ≡ uncollected state.old.tickets }
+    ensures room { KeepsRoom state.old state.new }
 {
     state.collect(ticket);
 }
@@ -43,6 +45,7 @@ pub(crate) fn finish(state: &mut State<ClientUnit>, call: Call<u64>, end: End<u6
     } }
     ensures placed { IsThereOnce state.old → IsThereOnce state.new }
     ensures tickets { HasTickets state.old → HasTickets state.new }
+    ensures room { KeepsRoom state.old state.new }
 {
     let ticket = state.ticket_in_hand(call);
     state.end_call(call, end);
@@ -149,6 +152,7 @@ pub(crate) fn break_oldest(state: &mut State<ClientUnit>) -> Option<Call<u64>>
     ensures rises { Increases state.old.places → Increases state.new.places }
     ensures placed { IsThereOnce state.old → IsThereOnce state.new }
     ensures tickets { HasTickets state.old → HasTickets state.new }
+    ensures room { KeepsRoom state.old state.new }
 {
     let call = take_oldest(state)?;
     finish(state, call, End::ProgramError);
@@ -205,6 +209,7 @@ pub(crate) fn withdraw(state: &mut State<ClientUnit>, ticket: Ticket)
     ensures rises { Increases state.old.places → Increases state.new.places }
     ensures placed { IsThereOnce state.old → IsThereOnce state.new }
     ensures tickets { HasTickets state.old → HasTickets state.new }
+    ensures room { KeepsRoom state.old state.new }
 {
     cancel(state, ticket);
     forget(state, ticket);

@@ -1,11 +1,11 @@
--- What each step's action says of the object, as a driven object has it (9.4, 9.5.1 to 9.5.4, 9.7.2, D.7).
+-- All that the contract of a step says of the object before and after it, by what the step answers (9.4, 9.5.1 to 9.5.4, 9.7.2, D.7).
 use Rattle.std.specs.Prelude.{ℕ, ◌≡◌, ◌≢◌, ◌<◌, None, Some, IsSome}
 use Rattle.po_calls.specs.declared.call.Call.{Call}
 use Rattle.po_accepted.specs.Tickets.{uncollected}
 use Rattle.po_engine.specs.declared.arriving.Arriving.{Arriving}
 use Rattle.po_driven.specs.Answering.{AnswersCall, Breaks, LooksOn, Moves, WaitsForNext}
-use Rattle.po_driven.specs.DrivenView.{DrivenView, Fresh, MayIssue, closed_after}
-use Rattle.po_driven.specs.Noted.{EndsWhereFull, IsNoRequeue, Names, NamesCaller, NamesTicket, Notes, issued, landed, serviced}
+use Rattle.po_driven.specs.DrivenView.{DrivenView, Fresh, KeepsAll, KeepsMaking, MayIssue, Tells, closed_after}
+use Rattle.po_driven.specs.Noted.{EndsWhereFull, IsNoRequeue, Names, NamesCaller, NamesTicket, Notes, finalized, issued, landed, serviced}
 use Rattle.po_driven.specs.declared.action.Action.{Action}
 use Rattle.po_driven.specs.declared.action.Action.TheVariants.{NoMemory, Refused, Run}
 use Rattle.po_driven.specs.declared.phase.Phase.TheVariants.{Asked, Breaking, Resting}
@@ -15,10 +15,12 @@ use Rattle.po_driven.specs.declared.words.BodyEnd.{BodyEnd}
 use Rattle.po_driven.specs.declared.words.BodyEnd.TheVariants.{Completed, Failed, Requeued, RequeuedElsewhere}
 use Rattle.po_driven.specs.declared.words.Requeue.{Requeue}
 use Rattle.po_driven.specs.declared.words.Step.{Step}
-use Rattle.po_c.specs.Told.{finalized}
 
 -- A call is issued, whose barrier says so (9.5.3).
 pub record Issues (a : Arriving ℕ) (barrier : Barrier) (step : Step) (old new : DrivenView) (action : Action) : Type 0 where
+  pub tells : Tells action new
+  pub kept : KeepsAll action old new
+  pub making : KeepsMaking old new
   pub accepted : MayIssue old a.entry → action ≢ Refused
   pub refused : (MayIssue old a.entry → ⊥) → action ≡ Refused
   pub room : uncollected old.calls.object.tickets < old.calls.object.most → action ≢ NoMemory
@@ -31,6 +33,9 @@ pub record Issues (a : Arriving ℕ) (barrier : Barrier) (step : Step) (old new 
 
 -- The barrier that the client was asked for says so (9.5.2, 9.5.3).
 pub record Evaluates (barrier : Barrier) (step : Step) (old new : DrivenView) (action : Action) : Type 0 where
+  pub tells : Tells action new
+  pub kept : KeepsAll action old new
+  pub making : KeepsMaking old new
   pub accepted : (e : ℕ) → old.phase ≡ Asked e → action ≢ Refused
   pub refused : ((e : ℕ) → old.phase ≡ Asked e → ⊥) → action ≡ Refused
   pub closed : (e : ℕ) → old.phase ≡ Asked e → new.closed ≡ closed_after old.closed e barrier
@@ -42,6 +47,9 @@ pub record Evaluates (barrier : Barrier) (step : Step) (old new : DrivenView) (a
 
 -- The body of the call in hand has ended so (9.5.2, 9.5.4).
 pub record EndsBody (end : BodyEnd) (step : Step) (old new : DrivenView) (action : Action) : Type 0 where
+  pub tells : Tells action new
+  pub kept : KeepsAll action old new
+  pub making : KeepsMaking old new
   pub accepted : IsSome old.calls.object.hand → IsNoRequeue end → action ≢ Refused
   pub refused : old.calls.object.hand ≡ None → action ≡ Refused
   pub fresh : Fresh action new
@@ -56,6 +64,9 @@ pub record EndsBody (end : BodyEnd) (step : Step) (old new : DrivenView) (action
 
 -- The client asks for what is next (9.5.1, 9.5.3).
 pub record GoesOn (step : Step) (old new : DrivenView) (action : Action) : Type 0 where
+  pub tells : Tells action new
+  pub kept : KeepsAll action old new
+  pub making : KeepsMaking old new
   pub accepted : WaitsForNext old.phase → action ≢ Refused
   pub refused : (WaitsForNext old.phase → ⊥) → action ≡ Refused
   pub fresh : Fresh action new
@@ -66,6 +77,9 @@ pub record GoesOn (step : Step) (old new : DrivenView) (action : Action) : Type 
 
 -- The object is finalized (9.4).
 pub record Finalizes (step : Step) (old new : DrivenView) (action : Action) : Type 0 where
+  pub tells : Tells action new
+  pub kept : KeepsAll action old new
+  pub making : KeepsMaking old new
   pub accepted : old.phase ≡ Resting → action ≢ Refused
   pub refused : old.phase ≢ Resting → action ≡ Refused
   pub fresh : Fresh action new
