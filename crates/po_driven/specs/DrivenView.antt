@@ -3,7 +3,7 @@ use Rattle.std.specs.Prelude.{ℕ, replicate, ◌≡◌, ◌≢◌, ◌<◌, Lis
 use Rattle.po_accepted.specs.WaitingCalls.{is_on}
 use Rattle.po_engine.specs.StateView.{StateView}
 use Rattle.po_driven.specs.AtRest.{IsAtRest, ToldBelow}
-use Rattle.po_driven.specs.TracedView.{TracedView, IsTraced}
+use Rattle.po_driven.specs.TracedView.{KeepsRoom, TracedView, IsTraced}
 use Rattle.po_driven.specs.declared.phase.Phase.{Phase}
 use Rattle.po_driven.specs.declared.phase.Phase.TheVariants.{Resting, Asked, Running, Settling, Breaking}
 use Rattle.po_driven.specs.declared.action.Action.{Action}
@@ -75,6 +75,13 @@ abbrev pub KeepsAll : Action → DrivenView → DrivenView → Type 0
 KeepsAll NoMemory old new = new ≡ old
 KeepsAll Refused old new = new ≡ old
 KeepsAll other old new = Unit {0}
+
+-- What an object was made with stays: how many entries it has, the limits of their queues, whether its memory is fixed, and then
+-- for how many calls it is.
+pub record KeepsMaking (old new : DrivenView) : Type 0 where
+  pub entries : new.calls.object.state.unit ≡ old.calls.object.state.unit
+  pub limits : new.limits ≡ old.limits
+  pub room : KeepsRoom old.calls.object new.calls.object
 
 -- which entries count as answered to be closed once the client has answered for this one
 abbrev pub closed_after : List ℕ → ℕ → Barrier → List ℕ
