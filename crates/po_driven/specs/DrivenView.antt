@@ -2,7 +2,7 @@
 use Rattle.std.specs.Prelude.{ℕ, replicate, ◌≡◌, ◌≢◌, ◌<◌, List, [], ◌∷◌, ◌++◌, length, false, None, find, IsSome}
 use Rattle.po_accepted.specs.WaitingCalls.{is_on}
 use Rattle.po_engine.specs.StateView.{StateView}
-use Rattle.po_driven.specs.AtRest.{IsAtRest, ToldBelow}
+use Rattle.po_driven.specs.AtRest.{AskedBelow, IsAtRest, ToldBelow}
 use Rattle.po_driven.specs.TracedView.{KeepsRoom, TracedView, IsTraced}
 use Rattle.po_driven.specs.declared.phase.Phase.{Phase}
 use Rattle.po_driven.specs.declared.phase.Phase.TheVariants.{Resting, Asked, Running, Settling, Breaking}
@@ -27,10 +27,11 @@ abbrev pub at_opening : TracedView → ℕ → DrivenView
 at_opening calls entries = record { calls = calls; limits = replicate entries 0; phase = Resting; closed = [] }
 
 -- What is so while an object waits for this: where it rests, it is at rest; where the client is asked for the barrier of an
--- entry, a call is queued on it, and the client has answered for the entries below; and a call is in hand while its body runs.
+-- entry, a call is queued on it, and the client has answered for the entries below, and for no other, so that none is asked for
+-- twice; and a call is in hand while its body runs.
 abbrev pub Awaits : Phase → StateView ℕ ℕ → List ℕ → Type 0
 Awaits Resting o closed = IsAtRest o closed
-Awaits (Asked e) o closed = (o.hand ≡ None) × (e < o.state.unit) × IsSome (find (is_on e) o.state.waiting) × ToldBelow closed e o.state.waiting
+Awaits (Asked e) o closed = (o.hand ≡ None) × (e < o.state.unit) × IsSome (find (is_on e) o.state.waiting) × ToldBelow closed e o.state.waiting × AskedBelow closed e
 Awaits Running o closed = IsSome o.hand
 Awaits Settling o closed = o.hand ≡ None
 Awaits Breaking o closed = o.hand ≡ None

@@ -8,7 +8,7 @@ ghost use Rattle.po_accepted.specs.Tickets.{uncollected, waiting_among};
 ghost use Rattle.po_accepted.specs.WaitingCalls.{is_on};
 ghost use Rattle.po_engine.specs.Step.{end_call};
 ghost use Rattle.po_engine.specs.declared.arriving.Arriving.{Arriving};
-ghost use Rattle.po_driven.specs.AtRest.{ToldBelow, told};
+ghost use Rattle.po_driven.specs.AtRest.{AskedBelow, ToldBelow, told};
 ghost use Rattle.po_driven.specs.DrivenView.{DrivenView, IsDriven, KeepsMaking, Tells, Fresh, KeepsAll, MayIssue, at_opening, closed_after};
 ghost use Rattle.po_driven.specs.TracedView.{IsReady, opening_calls};
 ghost use Rattle.po_driven.specs.Answering.{AnswersCall, FollowsBarrier, LooksOn, Breaks, Moves, WaitsForNext};
@@ -333,13 +333,17 @@ impl DrivenObject {
         }
     }
 
-    /// The entry was answered to be closed.
+    /// The entry was answered to be closed: gives the next one.
+    #[tactic(auto, using(crate::proofs::Rests::asked_through))]
     fn note_closed(&mut self, e: u16) -> u16
         requires { self.old.phase ≡ Asked e }
         ensures same { self.new ≡ record self.old { phase = Settling; closed = self.old.closed ++ e ∷ [] } }
         ensures below { ToldBelow self.new.closed result self.new.calls.object.state.waiting }
+        ensures once { AskedBelow self.new.closed result }
         ensures idle { self.new.calls.object.hand ≡ None }
     {
+        // An entry's number is below theirs, so there is a next one.
+        let _ = self.entries();
         self.phase = Phase::Settling;
         self.closed = self.closed.then(&e);
         e.saturating_add(1)
@@ -496,6 +500,7 @@ impl DrivenObject {
     fn ask(&mut self, from: u16, step: &mut Step) -> Action
         requires idle { self.old.calls.object.hand ≡ None }
         requires below { ToldBelow self.old.closed from self.old.calls.object.state.waiting }
+        requires once { AskedBelow self.old.closed from }
         ensures tells { Tells result self.new }
         ensures same { self.new.closed ≡ self.old.closed }
         ensures answers { result ≢ Refused }
@@ -517,6 +522,7 @@ impl DrivenObject {
     fn ask_busy(&mut self, from: u16, step: &mut Step) -> Action
         requires idle { self.old.calls.object.hand ≡ None }
         requires below { ToldBelow self.old.closed from self.old.calls.object.state.waiting }
+        requires once { AskedBelow self.old.closed from }
         ensures tells { Tells result self.new }
         ensures same { self.new.closed ≡ self.old.closed }
         ensures answers { result ≢ Refused }
