@@ -39,10 +39,12 @@ is_there() {
   command -v "$1" > /dev/null
 }
 
-# test_of NAME PROGRAM COMPILER FLAGS..: tests/NAME.c is compiled to this program, which ends by the line 'NAME: passed'.
+# test_of NAME PROGRAM COMPILER FLAGS..: tests/NAME.c, or all of tests/NAME, is compiled to this program, which ends by the line
+# 'NAME: passed'.
 test_of() {
-  local name=$1 program=$2 words=("${@:3}")
-  "${words[@]}" "tests/$name.c" -o "$program" "${link[@]}" || return
+  local name=$1 program=$2 words=("${@:3}") sources=("tests/$1.c")
+  [ -d "tests/$name" ] && sources=("tests/$name"/*.c)
+  "${words[@]}" "${sources[@]}" -o "$program" "${link[@]}" || return
   timeout 60 "$program" "$seconds" > "$program.out" 2>&1
   local status=$?
   cat "$program.out"
@@ -75,7 +77,7 @@ all_of() {
   for name in buffer readers_writers; do
     row "$compiler, $word: examples/$name.c" example_of "$name" "$at-$name" "$compiler" "${flags[@]}"
   done
-  row "$compiler, $word: tests/threads.c" test_of threads "$at-threads" "$compiler" "${flags[@]}"
+  row "$compiler, $word: tests/threads" test_of threads "$at-threads" "$compiler" "${flags[@]}"
   [ "$word" = races ] && return
   row "$compiler, $word: tests/engine.c" test_of engine "$at-engine" "$compiler" "${flags[@]}"
   row "$compiler, $word: tests/refused.c" test_of refused "$at-refused" "$compiler" "${flags[@]}" "$refusing"

@@ -1,18 +1,17 @@
 -- What the functions of include/pobj.h answer, and what an answer says of the object (this project's own).
-use Rattle.std.specs.Prelude.{ℕ, ◌≡◌, ◌==◌, ◌+◌, ◌*◌, ◌/◌, ◌%◌, Bool, not, Option, Some, List, [], ◌∷◌, nat_lt, if◌then◌else◌}
+use Rattle.std.specs.Prelude.{ℕ, ◌≡◌, ◌≢◌, ◌==◌, ◌+◌, ◌*◌, ◌/◌, ◌%◌, Bool, not, Option, Some, nat_lt, if◌then◌else◌}
 use Rattle.po_calls.specs.declared.call.Deadline.TheVariants.{Never, At}
 use Rattle.po_accepted.specs.Tickets.{waiting_among}
 use Rattle.po_engine.specs.declared.arriving.Arriving.{Arriving}
-use Rattle.po_driven.specs.DrivenView.{DrivenView, Tells, KeepsAll}
-use Rattle.po_driven.specs.Noted.{Notes, serviced, attempted, Cancels}
+use Rattle.po_driven.specs.DrivenView.{DrivenView, KeepsMaking}
+use Rattle.po_driven.specs.Noted.{Notes, attempted, Cancels, KeepsCalls}
 use Rattle.po_driven.specs.declared.action.Action.{Action}
 use Rattle.po_driven.specs.declared.action.Action.TheVariants.{Rest, Evaluate, Run, Queued, Cancelled, ProgramError, NoMemory, Refused}
-use Rattle.po_driven.specs.declared.happening.Happening.{Happening}
-use Rattle.po_driven.specs.declared.happening.Happening.TheVariants.{Finalized}
+use Rattle.po_driven.specs.declared.phase.Phase.TheVariants.{Resting, Settling}
 use Rattle.po_driven.specs.declared.words.Barrier.{Barrier}
 use Rattle.po_driven.specs.declared.words.Barrier.TheVariants.{Closed, Open, Raised}
 use Rattle.po_driven.specs.declared.words.BodyEnd.{BodyEnd}
-use Rattle.po_driven.specs.declared.words.BodyEnd.TheVariants.{Completed, Failed, Requeued}
+use Rattle.po_driven.specs.declared.words.BodyEnd.TheVariants.{Completed, Failed, Requeued, RequeuedElsewhere}
 use Rattle.po_driven.specs.declared.words.Cancellation.{Cancellation}
 use Rattle.po_driven.specs.declared.words.Cancellation.TheVariants.{Made, Kept, Unknown, Refused as IsRefused}
 
@@ -31,13 +30,10 @@ number_of_action ProgramError = 5
 number_of_action NoMemory = 6
 number_of_action Refused = 7
 
--- The number is that of an action: what the object waits for is what the action says, a refused step changes nothing, and this
--- is so of the action.
-pub record Answers (number : ℕ) (old new : DrivenView) (says : Action → Type 0) : Type 0 where
+-- The number is that of an action, of which this is so.
+pub record Answers (number : ℕ) (says : Action → Type 0) : Type 0 where
   pub action : Action
   pub told : number ≡ number_of_action action
-  pub tells : Tells action new
-  pub kept : KeepsAll action old new
   pub said : says action
 
 -- what the number says of a barrier
@@ -69,23 +65,24 @@ arriving_named caller entry marks = record {
   deadline = if has_mark marks 1 then At 0 else Never;
 }
 
--- how a body ended: 0 and 4 completed, 1 failed, 2 and 3 requeued without and with abort; any other number names no entry
+-- how a body ended: 0 completed, 1 failed, 2 and 3 requeued without and with abort, 4 requeued elsewhere; any other number names no
+-- entry
 abbrev pub body_end_named : ℕ → ℕ → ℕ → BodyEnd
 body_end_named how entry marks =
-    if how == 0 then Completed else (if how == 4 then Completed else (if how == 1 then Failed else
+    if how == 0 then Completed else (if how == 4 then RequeuedElsewhere else (if how == 1 then Failed else
     Requeued (record { target = if nat_lt how 4 then entry_named entry else 65535; with_abort = how == 3; aborted = has_mark marks 4; due = has_mark marks 1 })))
-
--- what has happened when an object is finalized with this answer
-abbrev pub finalized : Action → DrivenView → List Happening
-finalized Refused d = []
-finalized action d = Finalized ∷ serviced action d
 
 abbrev pub is_not_zero : ℕ → Bool
 is_not_zero n = not (n == 0)
 
--- The number is that of what came of an attempt to cancel the call of the ticket, and so much has happened.
+-- The number is that of what came of an attempt to cancel the call of the ticket, and so much has happened (9.5.3, 9.5.4, 9.7.2).
 pub record Cancelling (answer key number : ℕ) (expired : Bool) (old new : DrivenView) : Type 0 where
   pub what : Cancellation
   pub told : answer ≡ number_of_cancellation what
+  pub accepted : old.phase ≡ Resting → what ≢ IsRefused
+  pub refused : old.phase ≢ Resting → what ≡ IsRefused
+  pub made : what ≡ Made → new.phase ≡ Settling
+  pub making : KeepsMaking old new
+  pub same : KeepsCalls what old new
   pub noted : Notes (attempted what number expired) old new
   pub call : Cancels what (waiting_among old.calls.object.state.waiting old.calls.object.tickets (record { key = key; number = number }))

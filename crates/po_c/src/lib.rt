@@ -1,11 +1,9 @@
 //! The C interface of a driven object (include/pobj.h).
 #![tactic(auto)]
 
-ghost use Rattle.std.specs.Prelude.{◌≡◌, ◌<◌, None, Some, IsSome, MatchBool, count_by, slice_set, true, false, ◌≤◌, ℕ};
-ghost use Rattle.po_calls.specs.declared.call.Call.{Call};
-ghost use Rattle.po_c.specs.Told.{FromTo, Cancelling, is_not_zero, Answers, entry_named, arriving_named, barrier_named, body_end_named, finalized};
-ghost use Rattle.po_driven.specs.Noted.{Notes, Names, NamesCaller, NamesTicket, IsNoRequeue, serviced, issued, landed};
-ghost use Rattle.po_driven.specs.Answering.{AnswersCall};
+ghost use Rattle.std.specs.Prelude.{◌≡◌, ◌<◌, None, Some, IsSome, MatchBool, count_by, slice_set, true, false, ◌≤◌};
+ghost use Rattle.po_c.specs.Told.{FromTo, Cancelling, is_not_zero, Answers, entry_named, arriving_named, barrier_named, body_end_named};
+ghost use Rattle.po_driven.specs.Steps.{EndsBody, Evaluates, Finalizes, GoesOn, Issues};
 ghost use Rattle.po_accepted.specs.WaitingCalls.{is_on};
 ghost use Rattle.po_driven.specs.DrivenView.{DrivenView, at_opening};
 ghost use Rattle.po_driven.specs.TracedView.{opening_calls};
@@ -105,11 +103,8 @@ pub extern "C" fn pobj_issue(
 ) -> u64
     requires { IsSome handle.old.object }
     ensures made { IsSome handle.new.object }
-    ensures answer { FromTo handle.old.object handle.new.object (λ old new. Answers result old new (λ action.
-        Notes (issued action (arriving_named caller entry marks) (barrier_named barrier) old) old new
-        × NamesCaller action (arriving_named caller entry marks) (barrier_named barrier) step.new old
-        × NamesTicket action step.new new
-        × AnswersCall action (arriving_named caller entry marks) (barrier_named barrier) new)) }
+    ensures answer { FromTo handle.old.object handle.new.object (λ old new.
+        Answers result (Issues (arriving_named caller entry marks) (barrier_named barrier) step.new old new)) }
 {
     let mut object = handle.take(alloc);
     let arriving = arriving_of(caller, entry, marks);
@@ -128,7 +123,7 @@ pub extern "C" fn pobj_answer(
 ) -> u64
     requires { IsSome handle.old.object }
     ensures made { IsSome handle.new.object }
-    ensures answer { FromTo handle.old.object handle.new.object (λ old new. Answers result old new (λ action. Notes (serviced action old) old new × Names action step.new old new)) }
+    ensures answer { FromTo handle.old.object handle.new.object (λ old new. Answers result (Evaluates (barrier_named barrier) step.new old new)) }
 {
     let mut object = handle.take(alloc);
     let action = object.answer(barrier_of(barrier), step);
@@ -148,10 +143,7 @@ pub extern "C" fn pobj_body_ended(
 ) -> u64
     requires { IsSome handle.old.object }
     ensures made { IsSome handle.new.object }
-    ensures answer { FromTo handle.old.object handle.new.object (λ old new. Answers result old new (λ action. NamesTicket action step.new new
-        × (IsNoRequeue (body_end_named how entry marks) → Names action step.new old new))) }
-    ensures noted { FromTo handle.old.object handle.new.object (λ old new. (x : Call ℕ) → old.calls.object.hand ≡ Some x
-        → Answers result old new (λ action. Notes (landed (body_end_named how entry marks) x action old) old new)) }
+    ensures answer { FromTo handle.old.object handle.new.object (λ old new. Answers result (EndsBody (body_end_named how entry marks) step.new old new)) }
 {
     let mut object = handle.take(alloc);
     let action = object.body_ended(body_end_of(how, entry, marks), step);
@@ -164,7 +156,7 @@ pub extern "C" fn pobj_body_ended(
 pub extern "C" fn pobj_next(alloc: Global, handle: &mut Handle, step: &mut Step) -> u64
     requires { IsSome handle.old.object }
     ensures made { IsSome handle.new.object }
-    ensures answer { FromTo handle.old.object handle.new.object (λ old new. Answers result old new (λ action. Notes (serviced action old) old new × Names action step.new old new)) }
+    ensures answer { FromTo handle.old.object handle.new.object (λ old new. Answers result (GoesOn step.new old new)) }
 {
     let mut object = handle.take(alloc);
     let action = object.next(step);
@@ -197,7 +189,7 @@ pub extern "C" fn pobj_cancel(
 pub extern "C" fn pobj_finalize(alloc: Global, handle: &mut Handle, step: &mut Step) -> u64
     requires { IsSome handle.old.object }
     ensures made { IsSome handle.new.object }
-    ensures answer { FromTo handle.old.object handle.new.object (λ old new. Answers result old new (λ action. Notes (finalized action old) old new)) }
+    ensures answer { FromTo handle.old.object handle.new.object (λ old new. Answers result (Finalizes step.new old new)) }
 {
     let mut object = handle.take(alloc);
     let action = object.finalize(step);

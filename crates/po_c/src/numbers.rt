@@ -76,14 +76,15 @@ pub fn arriving_of(caller: u64, entry: u64, marks: u64) -> Arriving<u64>
     }
 }
 
-/// How C says that a body ended: 0 and 4 completed, 1 failed, 2 and 3 requeued to the entry, without and with abort; any other
-/// number names no entry, and so is refused.
+/// How C says that a body ended: 0 completed, 1 failed, 2 and 3 requeued to the entry, without and with abort, 4 requeued
+/// elsewhere; any other number names no entry, and so is refused.
 pub fn body_end_of(how: u64, entry: u64, marks: u64) -> BodyEnd
     ensures { result ≡ body_end_named how entry marks }
 {
     match how {
-        0 | 4 => BodyEnd::Completed,
+        0 => BodyEnd::Completed,
         1 => BodyEnd::Failed,
+        4 => BodyEnd::RequeuedElsewhere,
         _ => BodyEnd::Requeued(Requeue {
             target: if how < 4 { entry_of(entry) } else { 65535 },
             with_abort: how == 3,

@@ -1,4 +1,5 @@
 mod Held
+mod Leads
 mod Left
 mod Lengths
 mod Numbers

@@ -11,15 +11,15 @@ use Rattle.po_engine.specs.StateView.{StateView}
 use Rattle.po_accepted.proofs.Lists.{found_passes}
 use Rattle.po_engine.proofs.Absent.{eq_self}
 use Rattle.po_engine.proofs.Alone.{found_alone}
-use Rattle.po_driven.specs.OnePlace.{IsInOnePlace, places_with}
+use Rattle.po_driven.specs.OnePlace.{IsThereOnce, times_in}
 
 at_most : (b : Bool) (n : ℕ) → n ≡ (if b then 1 else 0) → n ≤ 1
 at_most true n h = omega arith
 at_most false n h = omega arith
 
 -- a number is at most once among the queued calls
-pub once : (o : StateView ℕ ℕ) (n : ℕ) → IsInOnePlace o → count_by (has_number n) o.state.waiting ≤ 1
-once o n placed = omega (arith, at_most (nat_le 1 n && nat_lt n o.state.next) (places_with n o.state o.hand) (placed.each n))
+pub once : (o : StateView ℕ ℕ) (n : ℕ) → IsThereOnce o → count_by (has_number n) o.state.waiting ≤ 1
+once o n placed = omega (arith, at_most (nat_le 1 n && nat_lt n o.state.next) (times_in n o.state o.hand) (placed.each n))
 
 one_number : (x y : Call ℕ) → Some x.number ≡ Some y.number → x.number ≡ y.number
 one_number x y e = cc
@@ -31,7 +31,7 @@ due_by t n xs (Some x) found number le =
     found_alone (is_due t) (has_number n) xs x found (subst (λ k. has_number k x ≡ true) (sym same) (eq_self x.number)) le
 
 -- the queued call of the ticket of the first due call is the first due call
-pub due_call : (o : StateView ℕ ℕ) (ticket : Ticket) (t : Option Ticket) → t ≡ Some ticket → IsInOnePlace o
+pub due_call : (o : StateView ℕ ℕ) (ticket : Ticket) (t : Option Ticket) → t ≡ Some ticket → IsThereOnce o
     → option_map (λ k. k.number) t ≡ option_map (λ x. x.number) (find (is_due o.state.clock) o.state.waiting) → is_live o.tickets ticket ≡ true
     → waiting_among o.state.waiting o.tickets ticket ≡ find (is_due o.state.clock) o.state.waiting
 due_call o ticket t is placed found live =

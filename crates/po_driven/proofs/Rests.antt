@@ -1,14 +1,14 @@
 -- When an object is at rest.
-use Rattle.std.proofs.Common.{◌≡◌, ◌∙◌, ℕ, ◌<◌, List, [], ◌∷◌, map, Bool, true, false, Option, Some, None, cond, sym, refl, subst, arith}
+use Rattle.std.proofs.Common.{◌≡◌, ◌∙◌, ◌++◌, ℕ, ◌<◌, List, [], ◌∷◌, map, Bool, true, false, Option, Some, None, cond, sym, refl, subst, arith}
 use Rattle.std.specs.Prelude.{if◌then◌else◌, IsSome}
 use Rattle.std.specs.List.{All, find}
-use Rattle.std.proofs.lemmas.List.Elements.{All-head, All-nil, All-map, All-weaker}
+use Rattle.std.proofs.lemmas.List.Elements.{All-head, All-nil, All-map, All-push, All-weaker}
 use Rattle.po_calls.specs.declared.call.Call.{Call}
 use Rattle.po_accepted.specs.WaitingCalls.{has_number, is_due, mark}
 use Rattle.po_engine.specs.ObjectState.{ObjectState}
 use Rattle.po_engine.specs.StateView.{StateView}
 use Rattle.po_engine.specs.Step.{abort}
-use Rattle.po_driven.specs.AtRest.{IsAtRest, told}
+use Rattle.po_driven.specs.AtRest.{AskedBelow, IsAtRest, told}
 
 marked_entry : (b : Bool) (x : Call ℕ) → (if b then record x { aborted = true } else x).entry ≡ x.entry
 marked_entry true x = refl
@@ -66,3 +66,8 @@ rests_idle o closed idle none = record {
 -- nothing is found where no call is queued
 pub none_found : (p : Call ℕ → Bool) (xs : List (Call ℕ)) → xs ≡ [] → IsSome (find p xs) → ⊥
 none_found p xs none found = let bad : false ≡ true = subst (λ l. IsSome (find p l)) none found in absurd (cc)
+
+-- Once the entry that was asked for is answered to be closed, only entries below the next one were.
+pub asked_through : (closed : List ℕ) (e next : ℕ) → AskedBelow closed e → e < next → AskedBelow (closed ++ e ∷ []) next
+asked_through closed e next below lt =
+    All-push (λ n. n < next) closed e (All-weaker (λ n. n < e) (λ n. n < next) (λ n k. omega (arith, k, lt)) closed below) lt

@@ -11,7 +11,7 @@ use Rattle.po_accepted.specs.Ending.{ended_as, has_ended}
 use Rattle.po_accepted.proofs.Lists.{without_none}
 use Rattle.po_engine.specs.Step.{end_call, take_out, cancel, abort}
 use Rattle.po_engine.proofs.Sums.{sum_by-push, sum_by-without, sum_by-mapped}
-use Rattle.po_driven.specs.OnePlace.{in_hands, places_with, IsInOnePlace}
+use Rattle.po_driven.specs.OnePlace.{in_hands, times_in, IsThereOnce}
 
 abbrev one_if : ℕ → Call ℕ → ℕ
 one_if n x = cond (has_number n x) 1 0
@@ -45,14 +45,14 @@ module _ (n : ℕ) where
   places-abort p k None h = refl
   places-abort p k (Some x) h = places-aborted p k x.sealed x h
 
-  spots-take : (p : S) (hand : Option (Call ℕ)) (test : Call ℕ → Bool) (o : Option (Call ℕ)) → hand ≡ None → find test p.waiting ≡ o → places_with n (take_out p test) o ≡ places_with n p hand
+  spots-take : (p : S) (hand : Option (Call ℕ)) (test : Call ℕ → Bool) (o : Option (Call ℕ)) → hand ≡ None → find test p.waiting ≡ o → times_in n (take_out p test) o ≡ times_in n p hand
   spots-take p hand test None h f = omega (arith, ap (λ xs. count_by (has_number n) xs) (without_none test p.waiting f), ap (in_hands n) h)
   spots-take p hand test (Some x) h f = omega (arith, places-take p test x f, ap (in_hands n) h)
 
-  spots-cancel : (p : S) (hand : Option (Call ℕ)) (k : ℕ) → hand ≡ None → places_with n (cancel p k (find (has_number k) p.waiting)) None ≡ places_with n p hand
+  spots-cancel : (p : S) (hand : Option (Call ℕ)) (k : ℕ) → hand ≡ None → times_in n (cancel p k (find (has_number k) p.waiting)) None ≡ times_in n p hand
   spots-cancel p hand k h = omega (arith, places-cancel p k (find (has_number k) p.waiting) refl, ap (in_hands n) h)
 
-  spots-abort : (p : S) (hand : Option (Call ℕ)) (k : ℕ) → hand ≡ None → places_with n (abort p k (find (has_number k) p.waiting)) None ≡ places_with n p hand
+  spots-abort : (p : S) (hand : Option (Call ℕ)) (k : ℕ) → hand ≡ None → times_in n (abort p k (find (has_number k) p.waiting)) None ≡ times_in n p hand
   spots-abort p hand k h = omega (arith, places-abort p k (find (has_number k) p.waiting) refl, ap (in_hands n) h)
 
 next-cancel : (p : S) (k : ℕ) (o : Option (Call ℕ)) → (cancel p k o).next ≡ p.next
@@ -68,18 +68,18 @@ next-abort p k None = refl
 next-abort p k (Some x) = next-aborted p k x.sealed x
 
 -- where the state and the hand are so, and the numbers are in as many places as before, each call is in one place
-moved : (a b : StateView ℕ ℕ) (s : S) (hand : Option (Call ℕ)) → b.state ≡ s → b.hand ≡ hand → s.next ≡ a.state.next → ((n : ℕ) → places_with n s hand ≡ places_with n a.state a.hand) → IsInOnePlace a → IsInOnePlace b
+moved : (a b : StateView ℕ ℕ) (s : S) (hand : Option (Call ℕ)) → b.state ≡ s → b.hand ≡ hand → s.next ≡ a.state.next → ((n : ℕ) → times_in n s hand ≡ times_in n a.state a.hand) → IsThereOnce a → IsThereOnce b
 moved a b s hand st ha nx k p =
     let next : b.state.next ≡ a.state.next = ap (λ t. t.next) st ∙ nx in record {
       low = subst (λ j. 1 ≤ j) (sym next) p.low;
-      each = λ n. subst (λ j. places_with n b.state b.hand ≡ (if nat_le 1 n && nat_lt n j then 1 else 0)) (sym next) (ap₂ (places_with n) st ha ∙ (k n ∙ p.each n));
+      each = λ n. subst (λ j. times_in n b.state b.hand ≡ (if nat_le 1 n && nat_lt n j then 1 else 0)) (sym next) (ap₂ (times_in n) st ha ∙ (k n ∙ p.each n));
     }
 
-pub took : (a b : StateView ℕ ℕ) (test : Call ℕ → Bool) (o : Option (Call ℕ)) → a.hand ≡ None → find test a.state.waiting ≡ o → b.state ≡ take_out a.state test → b.hand ≡ o → IsInOnePlace a → IsInOnePlace b
+pub took : (a b : StateView ℕ ℕ) (test : Call ℕ → Bool) (o : Option (Call ℕ)) → a.hand ≡ None → find test a.state.waiting ≡ o → b.state ≡ take_out a.state test → b.hand ≡ o → IsThereOnce a → IsThereOnce b
 took a b test o h f st ha p = moved a b (take_out a.state test) o st ha refl (λ n. spots-take n a.state a.hand test o h f) p
 
-pub cancelled : (a b : StateView ℕ ℕ) (k : ℕ) → a.hand ≡ None → b.state ≡ cancel a.state k (find (has_number k) a.state.waiting) → b.hand ≡ None → IsInOnePlace a → IsInOnePlace b
+pub cancelled : (a b : StateView ℕ ℕ) (k : ℕ) → a.hand ≡ None → b.state ≡ cancel a.state k (find (has_number k) a.state.waiting) → b.hand ≡ None → IsThereOnce a → IsThereOnce b
 cancelled a b k h st ha p = moved a b (cancel a.state k (find (has_number k) a.state.waiting)) None st ha (next-cancel a.state k (find (has_number k) a.state.waiting)) (λ n. spots-cancel n a.state a.hand k h) p
 
-pub attempted : (a b : StateView ℕ ℕ) (k : ℕ) → a.hand ≡ None → b.state ≡ abort a.state k (find (has_number k) a.state.waiting) → b.hand ≡ None → IsInOnePlace a → IsInOnePlace b
+pub attempted : (a b : StateView ℕ ℕ) (k : ℕ) → a.hand ≡ None → b.state ≡ abort a.state k (find (has_number k) a.state.waiting) → b.hand ≡ None → IsThereOnce a → IsThereOnce b
 attempted a b k h st ha p = moved a b (abort a.state k (find (has_number k) a.state.waiting)) None st ha (next-abort a.state k (find (has_number k) a.state.waiting)) (λ n. spots-abort n a.state a.hand k h) p

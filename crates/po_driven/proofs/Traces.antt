@@ -1,44 +1,61 @@
 -- What happens leads on from what has happened.
-use Rattle.std.proofs.Common.{ℕ, ◌+◌, ◌<◌, ◌≤◌, ◌≡◌, ◌∙◌, List, [], ◌∷◌, ◌++◌, ◌==◌, Bool, true, false, not, ◌&&◌, if◌then◌else◌, Option, None, Some, IsSome, count_by, nat_eq, inl, inr, ap, refl, sym, subst, arith}
+use Rattle.std.proofs.Common.{ℕ, ◌+◌, ◌<◌, ◌≤◌, ◌≡◌, ◌∙◌, List, [], ◌∷◌, ◌++◌, ◌==◌, Bool, true, false, not, ◌&&◌, if◌then◌else◌, Option, None, Some, IsSome, count_by, nat_eq, nat_le, nat_lt, inl, inr, ap, ap₂, refl, sym, subst, arith}
 use Rattle.std.specs.List.{All, find}
 use Rattle.std.specs.Option.{option_eq}
 use Rattle.std.proofs.lemmas.Bool.{cases_Bool}
 use Rattle.std.proofs.lemmas.Bool.Decides.{nat_tests}
 use Rattle.std.proofs.lemmas.List.Elements.{All-weaker}
-use Rattle.po_unit.specs.declared.outcome.Outcome.{Outcome}
 use Rattle.po_unit.specs.declared.outcome.Outcome.TheVariants.{Requeue}
 use Rattle.po_calls.specs.declared.call.Call.{Call}
-use Rattle.po_calls.specs.declared.end.End.{End}
 use Rattle.po_calls.specs.declared.end.End.TheVariants.{Cancelled}
-use Rattle.po_accepted.specs.WaitingCalls.{is_on}
+use Rattle.po_accepted.specs.Ending.{has_ended}
+use Rattle.po_accepted.specs.WaitingCalls.{has_number, is_on}
 use Rattle.po_engine.specs.Arrival.{Increases}
 use Rattle.po_engine.specs.ObjectState.{ObjectState}
+use Rattle.po_engine.specs.StateView.{StateView}
 use Rattle.po_engine.specs.Step.{enter, end_call, is_full, land}
 use Rattle.po_engine.proofs.Absent.{eq_self}
-use Rattle.po_driven.specs.Happening.{Driving, driving_of, opening, happen, replay, after_end, after_requeue, make_due}
-use Rattle.po_driven.specs.OnePlace.{HasTickets, IsInOnePlace}
-use Rattle.po_driven.specs.TracedView.{TracedView, IsTraced}
+use Rattle.po_driven.specs.Happening.{Driving, happen, opening, replay}
+use Rattle.po_driven.specs.OnePlace.{HasTickets, IsInOnePlace, IsLedTo, IsThereOnce, in_hands, places_with, times_in}
+use Rattle.po_driven.specs.TracedView.{TracedView, IsTraced, led_by}
 use Rattle.po_driven.specs.declared.happening.Happening.{Happening}
-use Rattle.po_driven.specs.declared.happening.Happening.TheVariants.{Due}
 
 replay_on : (d : Driving) (hs : List Happening) (h : Happening) → replay d (hs ++ h ∷ []) ≡ happen h (replay d hs)
 replay_on d [] h = refl
 replay_on d (g ∷ hs) h = replay_on (happen g d) hs h
 
-leads_on : (entries : ℕ) (hs now : List Happening) (h : Happening) (before after : Driving) → now ≡ hs ++ h ∷ [] → replay (opening entries) hs ≡ before → happen h before ≡ after → replay (opening entries) now ≡ after
-leads_on entries hs now h before after is led goes = ap (replay (opening entries)) is ∙ replay_on (opening entries) hs h ∙ ap (happen h) led ∙ goes
+-- each call is there once where each is in one place of those to which what has happened leads, and the other way round
+pub there : (d : Driving) (o : StateView ℕ ℕ) → IsLedTo d o → IsInOnePlace d → IsThereOnce o
+there d o l p =
+    let waiting = ap (λ s. s.waiting) l.state in let next = ap (λ s. s.next) l.state in record {
+      low = subst (λ k. 1 ≤ k) (sym next) p.low;
+      each = λ n. subst (λ k. times_in n o.state o.hand ≡ (if nat_le 1 n && nat_lt n k then 1 else 0)) (sym next)
+          (omega (arith, ap (λ (xs : List (Call ℕ)). count_by (has_number n) xs) waiting, ap (in_hands n) l.hand, l.left (has_ended n), p.each n));
+    }
+
+in_place : (d : Driving) (o : StateView ℕ ℕ) → IsLedTo d o → IsThereOnce o → IsInOnePlace d
+in_place d o l p =
+    let waiting = ap (λ s. s.waiting) l.state in let next = ap (λ s. s.next) l.state in record {
+      low = subst (λ k. 1 ≤ k) next p.low;
+      each = λ n. subst (λ k. places_with n d ≡ (if nat_le 1 n && nat_lt n k then 1 else 0)) next
+          (omega (arith, ap (λ (xs : List (Call ℕ)). count_by (has_number n) xs) waiting, ap (in_hands n) l.hand, l.left (has_ended n), p.each n));
+    }
+
+leads_on : (old new : TracedView) (h : Happening) → new.object.state.unit ≡ old.object.state.unit → new.happened ≡ old.happened ++ h ∷ [] → led_by new ≡ happen h (led_by old)
+leads_on old new h unit noted = ap₂ (λ n hs. replay (opening n) hs) unit noted ∙ replay_on (opening old.object.state.unit) old.happened h
 
 -- one more thing has happened
 pub traced_on : (old new : TracedView) (h : Happening) → IsTraced old → new.object.state.unit ≡ old.object.state.unit → new.happened ≡ old.happened ++ h ∷ []
-    → happen h (driving_of old.object) ≡ driving_of new.object → (IsInOnePlace old.object → IsInOnePlace new.object)
+    → ((d : Driving) → IsLedTo d old.object → IsLedTo (happen h d) new.object) → (IsThereOnce old.object → IsThereOnce new.object)
     → HasTickets new.object → (Increases old.object.places → Increases new.object.places) → All (λ k. k < new.place) new.object.places → IsTraced new
-traced_on old new h t unit noted goes placed tickets rises later = record {
-  leads = subst (λ n. replay (opening n) new.happened ≡ driving_of new.object) (sym unit) (leads_on old.object.state.unit old.happened new.happened h (driving_of old.object) (driving_of new.object) noted t.leads goes);
-  placed = placed t.placed;
-  tickets = tickets;
-  rises = rises t.rises;
-  later = later;
-}
+traced_on old new h t unit noted goes once tickets rises later =
+    let leads = subst (λ d. IsLedTo d new.object) (sym (leads_on old new h unit noted)) (goes (led_by old) t.leads) in record {
+      leads = leads;
+      placed = in_place (led_by new) new.object leads (once (there (led_by old) old.object t.leads t.placed));
+      tickets = tickets;
+      rises = rises t.rises;
+      later = later;
+    }
 
 -- those that aren't above a place are below the next one
 pub below_next : (k : ℕ) (places : List ℕ) → All (λ j. j ≤ k) places → All (λ j. j < k + 1) places
@@ -81,12 +98,3 @@ moved_on limit s x target true n b test count off kept =
     let y = record x { entry = target; sealed = not true } in
     queued_if (is_on target) (true && x.aborted) (end_call s x Cancelled) (enter limit s y) (kept refl) (queued_on limit s y n b test count off)
 moved_on limit s x target false n b test count off kept = queued_on limit s (record x { entry = target; sealed = not false }) n b test count off
-
-pub requeued : (s : ObjectState ℕ ℕ) (hand : Option (Call ℕ)) (x : Call ℕ) (o : Outcome ℕ) (limit : Option ℕ) → hand ≡ Some x → after_requeue s hand o limit ≡ record { state = land limit s x o; hand = None }
-requeued s hand x o limit is = rw is refl
-
-pub ended_in_hand : (s : ObjectState ℕ ℕ) (hand : Option (Call ℕ)) (x : Call ℕ) (end : End ℕ) → hand ≡ Some x → after_end s hand end ≡ record { state = end_call s x end; hand = None }
-ended_in_hand s hand x end is = rw is refl
-
-pub due_in_hand : (s : ObjectState ℕ ℕ) (hand : Option (Call ℕ)) (x y : Call ℕ) → hand ≡ Some x → y ≡ make_due x → happen Due (record { state = s; hand = hand }) ≡ record { state = s; hand = Some y }
-due_in_hand s hand x y is due = rw (is, due) refl

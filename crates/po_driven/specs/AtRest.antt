@@ -13,6 +13,10 @@ told closed e = list_any (λ k. k == e) closed
 abbrev pub ToldBelow : List ℕ → ℕ → List (Call ℕ) → Type 0
 ToldBelow closed from waiting = All (λ x. x.entry < from → told closed x.entry ≡ true) waiting
 
+-- Only entries below this one were answered to be closed: so from here on no entry is asked for twice.
+abbrev pub AskedBelow : List ℕ → ℕ → Type 0
+AskedBelow closed from = All (λ e. e < from) closed
+
 -- The object is at rest: no body runs, each queued call is on an entry that the client has answered to be closed since
 -- anything last changed, and none is due.
 pub record IsAtRest (o : StateView ℕ ℕ) (answered : List ℕ) : Type 0 where

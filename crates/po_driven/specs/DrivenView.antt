@@ -2,8 +2,8 @@
 use Rattle.std.specs.Prelude.{ℕ, replicate, ◌≡◌, ◌≢◌, ◌<◌, List, [], ◌∷◌, ◌++◌, length, false, None, find, IsSome}
 use Rattle.po_accepted.specs.WaitingCalls.{is_on}
 use Rattle.po_engine.specs.StateView.{StateView}
-use Rattle.po_driven.specs.AtRest.{IsAtRest, ToldBelow}
-use Rattle.po_driven.specs.TracedView.{TracedView, IsTraced}
+use Rattle.po_driven.specs.AtRest.{AskedBelow, IsAtRest, ToldBelow}
+use Rattle.po_driven.specs.TracedView.{KeepsRoom, TracedView, IsTraced}
 use Rattle.po_driven.specs.declared.phase.Phase.{Phase}
 use Rattle.po_driven.specs.declared.phase.Phase.TheVariants.{Resting, Asked, Running, Settling, Breaking}
 use Rattle.po_driven.specs.declared.action.Action.{Action}
@@ -27,10 +27,11 @@ abbrev pub at_opening : TracedView → ℕ → DrivenView
 at_opening calls entries = record { calls = calls; limits = replicate entries 0; phase = Resting; closed = [] }
 
 -- What is so while an object waits for this: where it rests, it is at rest; where the client is asked for the barrier of an
--- entry, a call is queued on it, and the client has answered for the entries below; and a call is in hand while its body runs.
+-- entry, a call is queued on it, and the client has answered for the entries below, and for no other, so that none is asked for
+-- twice; and a call is in hand while its body runs.
 abbrev pub Awaits : Phase → StateView ℕ ℕ → List ℕ → Type 0
 Awaits Resting o closed = IsAtRest o closed
-Awaits (Asked e) o closed = (o.hand ≡ None) × (e < o.state.unit) × IsSome (find (is_on e) o.state.waiting) × ToldBelow closed e o.state.waiting
+Awaits (Asked e) o closed = (o.hand ≡ None) × (e < o.state.unit) × IsSome (find (is_on e) o.state.waiting) × ToldBelow closed e o.state.waiting × AskedBelow closed e
 Awaits Running o closed = IsSome o.hand
 Awaits Settling o closed = o.hand ≡ None
 Awaits Breaking o closed = o.hand ≡ None
@@ -75,6 +76,13 @@ abbrev pub KeepsAll : Action → DrivenView → DrivenView → Type 0
 KeepsAll NoMemory old new = new ≡ old
 KeepsAll Refused old new = new ≡ old
 KeepsAll other old new = Unit {0}
+
+-- What an object was made with stays: how many entries it has, the limits of their queues, whether its memory is fixed, and then
+-- for how many calls it is.
+pub record KeepsMaking (old new : DrivenView) : Type 0 where
+  pub entries : new.calls.object.state.unit ≡ old.calls.object.state.unit
+  pub limits : new.limits ≡ old.limits
+  pub room : KeepsRoom old.calls.object new.calls.object
 
 -- which entries count as answered to be closed once the client has answered for this one
 abbrev pub closed_after : List ℕ → ℕ → Barrier → List ℕ

@@ -6,3 +6,4 @@ pub mod AtRest
 pub mod DrivenView
 pub mod Noted
 pub mod Answering
+pub mod Steps

@@ -15,11 +15,11 @@ use Rattle.po_driven.specs.Happening.{cancellation_of}
 use Rattle.po_driven.specs.declared.action.Action.{Action}
 use Rattle.po_driven.specs.declared.action.Action.TheVariants.{Run, Queued, Cancelled, ProgramError, NoMemory, Refused}
 use Rattle.po_driven.specs.declared.happening.Happening.{Happening}
-use Rattle.po_driven.specs.declared.happening.Happening.TheVariants.{Served, Arrived, Selected, Ended, Due, Requeued, Broken, Cancelled as WasCancelled, Marked}
+use Rattle.po_driven.specs.declared.happening.Happening.TheVariants.{Served, Arrived, Selected, Ended, RequeuedElsewhere, Due, Requeued, Broken, Cancelled as WasCancelled, Marked, Finalized}
 use Rattle.po_driven.specs.declared.words.Barrier.{Barrier}
 use Rattle.po_driven.specs.declared.words.Barrier.TheVariants.{Raised as HasRaised}
 use Rattle.po_driven.specs.declared.words.BodyEnd.{BodyEnd}
-use Rattle.po_driven.specs.declared.words.BodyEnd.TheVariants.{Completed as IsComplete, Failed, Requeued as IsRequeued}
+use Rattle.po_driven.specs.declared.words.BodyEnd.TheVariants.{Completed as IsComplete, Failed, Requeued as IsRequeued, RequeuedElsewhere as IsRequeuedElsewhere}
 use Rattle.po_driven.specs.declared.words.Cancellation.{Cancellation}
 use Rattle.po_driven.specs.declared.words.Cancellation.TheVariants.{Made, Kept, Unknown, Refused as IsRefused}
 use Rattle.po_driven.specs.declared.words.Step.{Step}
@@ -77,9 +77,15 @@ HasTicket other ticket step = ⊥
 abbrev pub landed : BodyEnd → Call ℕ → Action → DrivenView → List Happening
 landed IsComplete x action d = Ended (Completed x.value) ∷ serviced action d
 landed Failed x action d = Ended (Raised 0) ∷ serviced action d
+landed IsRequeuedElsewhere x action d = RequeuedElsewhere ∷ serviced action d
 landed (IsRequeued r) x Refused d = []
 landed (IsRequeued r) x Cancelled d = Ended IsCancelled ∷ []
 landed (IsRequeued r) x action d = (if r.due then Due ∷ [] else []) ++ Requeued (RequeueTo r.target r.with_abort x.value) (longest_on d r.target) ∷ []
+
+-- what has happened when an object is finalized with this answer
+abbrev pub finalized : Action → DrivenView → List Happening
+finalized Refused d = []
+finalized action d = Finalized ∷ serviced action d
 
 -- what has happened when an attempt to cancel the call with this number ends so
 abbrev pub attempted : Cancellation → ℕ → Bool → List Happening
@@ -92,7 +98,7 @@ abbrev pub NamesTicket : Action → Step → DrivenView → Type 0
 NamesTicket (Queued e) step new = is_live new.calls.object.tickets (record { key = step.key; number = step.number }) ≡ true
 NamesTicket other step new = Unit {0}
 
--- The body didn't requeue its call.
+-- The body didn't requeue its call to an entry of its object.
 abbrev pub IsNoRequeue : BodyEnd → Type 0
 IsNoRequeue (IsRequeued r) = ⊥
 IsNoRequeue other = Unit {0}

@@ -1,10 +1,11 @@
 -- What contracts see of the calls of a driven object with their history, and what is kept of them (this project's own).
-use Rattle.std.specs.Prelude.{ℕ, ◌≡◌, ◌<◌, List, [], Bool, None, All}
+use Rattle.std.specs.Prelude.{ℕ, ◌≡◌, ◌<◌, List, [], length, Bool, true, None, All}
+use Rattle.po_accepted.specs.Tickets.{uncollected}
 use Rattle.po_engine.specs.Arrival.{Increases}
 use Rattle.po_engine.specs.ObjectState.{opening_state}
 use Rattle.po_engine.specs.StateView.{StateView}
-use Rattle.po_driven.specs.Happening.{driving_of, opening, replay}
-use Rattle.po_driven.specs.OnePlace.{HasTickets, IsInOnePlace}
+use Rattle.po_driven.specs.Happening.{Driving, opening, replay}
+use Rattle.po_driven.specs.OnePlace.{HasTickets, IsInOnePlace, IsLedTo}
 use Rattle.po_driven.specs.declared.happening.Happening.{Happening}
 
 pub record TracedView : Type 0 where
@@ -33,14 +34,33 @@ opening_calls entries most is_fixed = record {
   happened = [];
 }
 
+-- the calls to which what has happened leads
+abbrev pub led_by : TracedView → Driving
+led_by t = replay (opening t.object.state.unit) t.happened
+
 -- What is kept of the calls of a driven object.
 pub record IsTraced (t : TracedView) : Type 0 where
   -- what has happened leads to them
-  pub leads : replay (opening t.object.state.unit) t.happened ≡ driving_of t.object
-  -- each accepted call is in one place
-  pub placed : IsInOnePlace t.object
+  pub leads : IsLedTo (led_by t) t.object
+  -- each accepted call is in one place: queued, in hand, ended, or requeued elsewhere
+  pub placed : IsInOnePlace (led_by t)
   -- those that are queued or in hand have a ticket, and no other has one
   pub tickets : HasTickets t.object
   -- the queued calls stand in order of arrival, and all arrived before the present (9.5.3, D.4)
   pub rises : Increases t.object.places
   pub later : All (λ k. k < t.place) t.object.places
+
+-- One more call of this entry may be accepted: no body runs, there is memory for it, its command has begun, there is such an entry,
+-- and a number and a place are left.
+pub record IsReady (t : TracedView) (e : ℕ) : Type 0 where
+  pub idle : t.object.hand ≡ None
+  pub room : uncollected t.object.tickets < t.object.most
+  pub begun : t.object.before ≡ length t.object.state.ended
+  pub entry : e < t.object.state.unit
+  pub number : t.object.state.next < 18_446_744_073_709_551_615
+  pub place : t.place < 340_282_366_920_938_463_463_374_607_431_768_211_455
+
+-- Whether the memory is fixed stays so, and where it is, for how many calls it is.
+pub record KeepsRoom (old new : StateView ℕ ℕ) : Type 0 where
+  pub fixed : new.is_fixed ≡ old.is_fixed
+  pub most : old.is_fixed ≡ true → new.most ≡ old.most

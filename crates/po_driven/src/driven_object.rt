@@ -3,18 +3,19 @@
 ghost use Rattle.std.specs.Prelude.{◌≡◌, ◌≢◌, ◌<◌, ◌≤◌, ◌+◌, ◌++◌, ◌∷◌, [], ℕ, None, Some, true, false, length, All, IfOk, IsOk, IfErr, OnOk, OnErr, Option, IsSome, IfSome, find, count_by, slice_set};
 ghost use Rattle.std.specs.List.{slice_get};
 ghost use Rattle.po_calls.specs.declared.call.Call.{Call};
+ghost use Rattle.po_calls.specs.declared.end.End.TheVariants.{Completed as IsCompleted};
 ghost use Rattle.po_accepted.specs.Tickets.{uncollected, waiting_among};
 ghost use Rattle.po_accepted.specs.WaitingCalls.{is_on};
 ghost use Rattle.po_engine.specs.Step.{end_call};
 ghost use Rattle.po_engine.specs.declared.arriving.Arriving.{Arriving};
-ghost use Rattle.po_driven.specs.AtRest.{ToldBelow, told};
-ghost use Rattle.po_driven.specs.DrivenView.{DrivenView, IsDriven, Tells, Fresh, KeepsAll, MayIssue, at_opening, closed_after};
-ghost use Rattle.po_driven.specs.TracedView.{opening_calls};
+ghost use Rattle.po_driven.specs.AtRest.{AskedBelow, ToldBelow, told};
+ghost use Rattle.po_driven.specs.DrivenView.{DrivenView, IsDriven, KeepsMaking, Tells, Fresh, KeepsAll, MayIssue, at_opening, closed_after};
+ghost use Rattle.po_driven.specs.TracedView.{IsReady, opening_calls};
 ghost use Rattle.po_driven.specs.Answering.{AnswersCall, FollowsBarrier, LooksOn, Breaks, Moves, WaitsForNext};
 ghost use Rattle.po_driven.specs.Noted.{Notes, serviced, issued, landed, attempted, Names, NamesCaller, NamesTicket, HasTicket, EndsWhereFull, IsNoRequeue, Cancels, KeepsCalls, longest_on};
 ghost use Rattle.po_driven.specs.declared.action.Action.TheVariants.{Run, ProgramError, NoMemory, Refused};
-ghost use Rattle.po_driven.specs.declared.happening.Happening.TheVariants.{Ended, Finalized};
-ghost use Rattle.po_driven.specs.declared.words.BodyEnd.TheVariants.{Completed, Failed, Requeued};
+ghost use Rattle.po_driven.specs.declared.happening.Happening.TheVariants.{Ended, Finalized, RequeuedElsewhere as HasRequeuedElsewhere};
+ghost use Rattle.po_driven.specs.declared.words.BodyEnd.TheVariants.{Completed, Failed, Requeued, RequeuedElsewhere};
 ghost use Rattle.po_driven.specs.declared.phase.Phase.TheVariants.{Resting, Asked, Settling, Breaking};
 ghost use Rattle.po_driven.specs.declared.words.Barrier.TheVariants.{Closed, Open, Raised};
 ghost use Rattle.po_driven.specs.declared.words.Requeue.{Requeue};
@@ -163,6 +164,7 @@ impl DrivenObject {
         ensures refused { (MayIssue self.old arriving.entry → ⊥) → result ≡ Refused }
         ensures follows { AnswersCall result arriving barrier self.new }
         ensures room { uncollected self.old.calls.object.tickets < self.old.calls.object.most → result ≢ NoMemory }
+        ensures making { KeepsMaking self.old self.new }
     {
         if !self.may_issue(arriving.entry) {
             return Action::Refused;
@@ -199,6 +201,7 @@ impl DrivenObject {
         ensures full { IfOk result (λ action. (barrier ≡ Raised → ⊥) → EndsWhereFull action arriving.entry self.old) }
         ensures follows { IfOk result (λ action. FollowsBarrier action arriving barrier self.new) }
         ensures room { uncollected self.old.calls.object.tickets < self.old.calls.object.most → IsOk result }
+        ensures making { IfOk result (λ _. KeepsMaking self.old self.new) }
     {
         self.calls.make_room()?;
         let action = match barrier {
@@ -212,12 +215,7 @@ impl DrivenObject {
     /// A call whose barrier is open is accepted: its body is to be run.
     #[inline(always)]
     fn accept_open(&mut self, arriving: Arriving<u64>, step: &mut Step) -> Action
-        requires idle { self.old.calls.object.hand ≡ None }
-        requires room { uncollected self.old.calls.object.tickets < self.old.calls.object.most }
-        requires begun { self.old.calls.object.before ≡ length self.old.calls.object.state.ended }
-        requires entry { arriving.entry < self.old.calls.object.state.unit }
-        requires number { self.old.calls.object.state.next < u64.MAX }
-        requires place { self.old.calls.place < u128.MAX }
+        requires { IsReady self.old.calls arriving.entry }
         ensures tells { Tells result self.new }
         ensures fresh { self.new.closed ≡ [] }
         ensures answers { result ≢ Refused }
@@ -228,6 +226,7 @@ impl DrivenObject {
         ensures ticket { NamesTicket result step.new self.new }
         ensures full { EndsWhereFull result arriving.entry self.old }
         ensures follows { FollowsBarrier result arriving Open self.new }
+        ensures making { KeepsMaking self.old self.new }
     {
         self.calls.accept_open(arriving);
         self.phase = Phase::Running;
@@ -239,12 +238,7 @@ impl DrivenObject {
     /// A call whose barrier is closed is accepted: it is queued, or ends where the queue is full.
     #[inline(always)]
     fn accept_closed(&mut self, arriving: Arriving<u64>, step: &mut Step) -> Action
-        requires idle { self.old.calls.object.hand ≡ None }
-        requires room { uncollected self.old.calls.object.tickets < self.old.calls.object.most }
-        requires begun { self.old.calls.object.before ≡ length self.old.calls.object.state.ended }
-        requires entry { arriving.entry < self.old.calls.object.state.unit }
-        requires number { self.old.calls.object.state.next < u64.MAX }
-        requires place { self.old.calls.place < u128.MAX }
+        requires { IsReady self.old.calls arriving.entry }
         ensures tells { Tells result self.new }
         ensures fresh { self.new.closed ≡ [] }
         ensures answers { result ≢ Refused }
@@ -254,6 +248,7 @@ impl DrivenObject {
         ensures ticket { NamesTicket result step.new self.new }
         ensures full { EndsWhereFull result arriving.entry self.old }
         ensures follows { FollowsBarrier result arriving Closed self.new }
+        ensures making { KeepsMaking self.old self.new }
     {
         let longest = self.longest(arriving.entry);
         let queued = self.calls.accept_closed(arriving, longest);
@@ -265,12 +260,7 @@ impl DrivenObject {
 
     /// A call whose barrier propagated an exception is accepted: it ends by Program_Error, behind all queued calls (9.5.3).
     fn accept_raised(&mut self, arriving: Arriving<u64>, step: &mut Step) -> Action
-        requires idle { self.old.calls.object.hand ≡ None }
-        requires room { uncollected self.old.calls.object.tickets < self.old.calls.object.most }
-        requires begun { self.old.calls.object.before ≡ length self.old.calls.object.state.ended }
-        requires entry { arriving.entry < self.old.calls.object.state.unit }
-        requires number { self.old.calls.object.state.next < u64.MAX }
-        requires place { self.old.calls.place < u128.MAX }
+        requires { IsReady self.old.calls arriving.entry }
         ensures tells { Tells result self.new }
         ensures fresh { self.new.closed ≡ [] }
         ensures answers { result ≢ Refused }
@@ -279,6 +269,7 @@ impl DrivenObject {
         ensures names { NamesCaller result arriving Raised step.new self.old }
         ensures ticket { NamesTicket result step.new self.new }
         ensures follows { FollowsBarrier result arriving Raised self.new }
+        ensures making { KeepsMaking self.old self.new }
     {
         self.calls.accept_closed(arriving, None);
         self.closed = Trace::new();
@@ -301,6 +292,7 @@ impl DrivenObject {
         ensures full { queued ≡ None → result ≡ ProgramError }
         ensures ticket { IfSome queued (λ ticket. HasTicket result ticket step.new) }
         ensures follows { (arriving : Arriving ℕ) → FollowsBarrier result arriving Closed self.new }
+        ensures making { KeepsMaking self.old self.new }
     {
         let Some(ticket) = queued else {
             return Action::ProgramError;
@@ -326,6 +318,7 @@ impl DrivenObject {
         ensures refused { ((e : ℕ) → self.old.phase ≡ Asked e → ⊥) → result ≡ Refused }
         ensures looks_on { (e : ℕ) → self.old.phase ≡ Asked e → barrier ≡ Closed → LooksOn result self.old.calls.object.state.waiting self.new.closed }
         ensures breaks { (e : ℕ) → self.old.phase ≡ Asked e → barrier ≡ Raised → Breaks result self.old self.new }
+        ensures making { KeepsMaking self.old self.new }
     {
         let Phase::Asked(e) = self.phase else {
             return Action::Refused;
@@ -340,13 +333,17 @@ impl DrivenObject {
         }
     }
 
-    /// The entry was answered to be closed.
+    /// The entry was answered to be closed: gives the next one.
+    #[tactic(auto, using(crate::proofs::Rests::asked_through))]
     fn note_closed(&mut self, e: u16) -> u16
         requires { self.old.phase ≡ Asked e }
         ensures same { self.new ≡ record self.old { phase = Settling; closed = self.old.closed ++ e ∷ [] } }
         ensures below { ToldBelow self.new.closed result self.new.calls.object.state.waiting }
+        ensures once { AskedBelow self.new.closed result }
         ensures idle { self.new.calls.object.hand ≡ None }
     {
+        // An entry's number is below theirs, so there is a next one.
+        let _ = self.entries();
         self.phase = Phase::Settling;
         self.closed = self.closed.then(&e);
         e.saturating_add(1)
@@ -364,6 +361,7 @@ impl DrivenObject {
         ensures runs { result ≡ Run e }
         ensures noted { Notes (serviced result self.old) self.old self.new }
         ensures names { Names result step.new self.old self.new }
+        ensures making { KeepsMaking self.old self.new }
     {
         self.closed = Trace::new();
         self.phase = Phase::Running;
@@ -386,9 +384,11 @@ impl DrivenObject {
         ensures full { (requeue : Requeue) → end ≡ Requeued requeue → EndsWhereFull result requeue.target self.old }
         ensures refused { self.old.calls.object.hand ≡ None → result ≡ Refused }
         ensures looks_on { IsSome self.old.calls.object.hand → end ≡ Completed → LooksOn result self.old.calls.object.state.waiting self.new.closed }
+        ensures leaves { IsSome self.old.calls.object.hand → end ≡ RequeuedElsewhere → LooksOn result self.old.calls.object.state.waiting self.new.closed }
         ensures breaks { IsSome self.old.calls.object.hand → end ≡ Failed → Breaks result self.old self.new }
         ensures names { IsNoRequeue end → Names result step.new self.old self.new }
         ensures moves { (requeue : Requeue) (x : Call ℕ) → end ≡ Requeued requeue → self.old.calls.object.hand ≡ Some x → Moves result requeue x step.new self.old }
+        ensures making { KeepsMaking self.old self.new }
     {
         let Some(call) = self.calls.state().in_hand() else {
             return Action::Refused;
@@ -403,6 +403,10 @@ impl DrivenObject {
                 self.break_one(step)
             }
             BodyEnd::Requeued(requeue) => self.requeue(call, requeue, step),
+            BodyEnd::RequeuedElsewhere => {
+                self.requeue_elsewhere(call);
+                self.ask(0, step)
+            }
         }
     }
 
@@ -415,8 +419,25 @@ impl DrivenObject {
         ensures settles { self.new.phase ≡ Settling }
         ensures state { self.new.calls.object.state ≡ end_call self.old.calls.object.state call end }
         ensures noted { Notes (Ended end ∷ []) self.old self.new }
+        ensures making { KeepsMaking self.old self.new }
     {
         self.calls.end(call, end);
+        self.phase = Phase::Settling;
+        self.closed = Trace::new();
+    }
+
+    /// The call in hand leaves the object: its body requeued it to another one or a task.
+    #[inline(always)]
+    fn requeue_elsewhere(&mut self, call: Call<u64>)
+        requires { self.old.calls.object.hand ≡ Some call }
+        ensures idle { self.new.calls.object.hand ≡ None }
+        ensures fresh { self.new.closed ≡ [] }
+        ensures settles { self.new.phase ≡ Settling }
+        ensures state { self.new.calls.object.state ≡ end_call self.old.calls.object.state call (IsCompleted call.value) }
+        ensures noted { Notes (HasRequeuedElsewhere ∷ []) self.old self.new }
+        ensures making { KeepsMaking self.old self.new }
+    {
+        self.calls.requeue_elsewhere(call);
         self.phase = Phase::Settling;
         self.closed = Trace::new();
     }
@@ -431,6 +452,7 @@ impl DrivenObject {
         ensures ticket { NamesTicket result step.new self.new }
         ensures full { EndsWhereFull result requeue.target self.old }
         ensures moves { Moves result requeue call step.new self.old }
+        ensures making { KeepsMaking self.old self.new }
     {
         if requeue.target >= self.entries() || !self.calls.has_place() {
             return Action::Refused;
@@ -459,6 +481,7 @@ impl DrivenObject {
         ensures looks_on { self.old.phase ≢ Breaking → result ≢ Refused → LooksOn result self.old.calls.object.state.waiting self.new.closed }
         ensures breaks { self.old.phase ≡ Breaking → Breaks result self.old self.new }
         ensures accepted { WaitsForNext self.old.phase → result ≢ Refused }
+        ensures making { KeepsMaking self.old self.new }
     {
         match self.phase {
             Phase::Resting | Phase::Settling => {
@@ -477,6 +500,7 @@ impl DrivenObject {
     fn ask(&mut self, from: u16, step: &mut Step) -> Action
         requires idle { self.old.calls.object.hand ≡ None }
         requires below { ToldBelow self.old.closed from self.old.calls.object.state.waiting }
+        requires once { AskedBelow self.old.closed from }
         ensures tells { Tells result self.new }
         ensures same { self.new.closed ≡ self.old.closed }
         ensures answers { result ≢ Refused }
@@ -485,6 +509,7 @@ impl DrivenObject {
         ensures names { Names result step.new self.old self.new }
         ensures unqueued { (told : Step) (d : DrivenView) → NamesTicket result told d }
         ensures looks_on { LooksOn result self.old.calls.object.state.waiting self.old.closed }
+        ensures making { KeepsMaking self.old self.new }
     {
         if self.calls.state().is_idle() {
             self.phase = Phase::Resting;
@@ -497,6 +522,7 @@ impl DrivenObject {
     fn ask_busy(&mut self, from: u16, step: &mut Step) -> Action
         requires idle { self.old.calls.object.hand ≡ None }
         requires below { ToldBelow self.old.closed from self.old.calls.object.state.waiting }
+        requires once { AskedBelow self.old.closed from }
         ensures tells { Tells result self.new }
         ensures same { self.new.closed ≡ self.old.closed }
         ensures answers { result ≢ Refused }
@@ -505,6 +531,7 @@ impl DrivenObject {
         ensures names { Names result step.new self.old self.new }
         ensures unqueued { (told : Step) (d : DrivenView) → NamesTicket result told d }
         ensures looks_on { LooksOn result self.old.calls.object.state.waiting self.old.closed }
+        ensures making { KeepsMaking self.old self.new }
     {
         if let Some(e) = self.calls.state().next_busy(from) {
             self.phase = Phase::Asked(e);
@@ -525,6 +552,7 @@ impl DrivenObject {
         ensures names { Names result step.new self.old self.new }
         ensures unqueued { (told : Step) (d : DrivenView) → NamesTicket result told d }
         ensures looks_on { LooksOn result self.old.calls.object.state.waiting self.old.closed }
+        ensures making { KeepsMaking self.old self.new }
     {
         let Some(call) = self.calls.cancel_due() else {
             self.phase = Phase::Resting;
@@ -547,6 +575,7 @@ impl DrivenObject {
         ensures unqueued { (told : Step) (d : DrivenView) → NamesTicket result told d }
         ensures breaks { Breaks result self.old self.new }
         ensures first { IsSome (slice_get self.old.calls.object.state.waiting 0) → result ≡ ProgramError }
+        ensures making { KeepsMaking self.old self.new }
     {
         self.closed = Trace::new();
         let Some(call) = self.calls.break_oldest() else {
@@ -568,6 +597,7 @@ impl DrivenObject {
         ensures same { KeepsCalls result self.old self.new }
         ensures accepted { self.old.phase ≡ Resting → result ≢ IsRefused }
         ensures refused { self.old.phase ≢ Resting → result ≡ IsRefused }
+        ensures making { KeepsMaking self.old self.new }
     {
         let Phase::Resting = self.phase else {
             return Cancellation::Refused;
@@ -593,9 +623,11 @@ impl DrivenObject {
         ensures fresh { Fresh result self.new }
         ensures kept { KeepsAll result self.old self.new }
         ensures noted { result ≢ Refused → Notes (Finalized ∷ serviced result self.old) self.old self.new }
+        ensures names { Names result step.new self.old self.new }
         ensures accepted { self.old.phase ≡ Resting → result ≢ Refused }
         ensures refused { self.old.phase ≢ Resting → result ≡ Refused }
         ensures breaks { self.old.phase ≡ Resting → Breaks result self.old self.new }
+        ensures making { KeepsMaking self.old self.new }
     {
         let Phase::Resting = self.phase else {
             return Action::Refused;

@@ -15,6 +15,8 @@ pub enum Happening {
     Selected(u16),
     /// The call whose body has run ends.
     Ended(End<u64>),
+    /// The call whose body has run is requeued to another object or a task, and has left this one.
+    RequeuedElsewhere,
     /// The call whose body has run is due from now on.
     Due,
     /// The call whose body has run is requeued, or ends where this length of the queue is reached.

@@ -11,7 +11,8 @@ ghost use Rattle.po_engine.specs.StateView.{NamesEntry};
 ghost use Rattle.po_engine.specs.Step.{end_call, take_out, land as landed, cancel as cancelled, abort};
 ghost use Rattle.po_driven.specs.AtRest.{IsAtRest};
 ghost use Rattle.po_driven.specs.Happening.{end_oldest, make_due as due};
-ghost use Rattle.po_driven.specs.OnePlace.{HasTickets, IsInOnePlace};
+ghost use Rattle.po_driven.specs.OnePlace.{HasTickets, IsThereOnce};
+ghost use Rattle.po_driven.specs.TracedView.{KeepsRoom};
 
 use crate::client_unit::ClientUnit;
 use po_calls::{Call, Deadline, End, Ticket};
@@ -25,8 +26,9 @@ pub(crate) fn forget(state: &mut State<ClientUnit>, ticket: Ticket)
     requires live { is_live state.old.tickets ticket ≡ true }
     requires ended { IsSome (find (has_ended ticket.number) state.old.state.ended) }
     ensures state { state.new ≡ record state.old { tickets = state.new.tickets; most = state.new.most } }
-    ensures placed { IsInOnePlace state.old → IsInOnePlace state.new }
+    ensures placed { IsThereOnce state.old → IsThereOnce state.new }
     ensures count { uncollected state.new.tickets + 1 ≡ uncollected state.old.tickets }
+    ensures room { KeepsRoom state.old state.new }
 {
     state.collect(ticket);
 }
@@ -41,8 +43,9 @@ pub(crate) fn finish(state: &mut State<ClientUnit>, call: Call<u64>, end: End<u6
       tickets = state.new.tickets;
       most = state.new.most;
     } }
-    ensures placed { IsInOnePlace state.old → IsInOnePlace state.new }
+    ensures placed { IsThereOnce state.old → IsThereOnce state.new }
     ensures tickets { HasTickets state.old → HasTickets state.new }
+    ensures room { KeepsRoom state.old state.new }
 {
     let ticket = state.ticket_in_hand(call);
     state.end_call(call, end);
@@ -54,7 +57,7 @@ pub(crate) fn make_due(state: &mut State<ClientUnit>, call: Call<u64>) -> Call<u
     requires { state.old.hand ≡ Some call }
     ensures call { result ≡ due call }
     ensures state { state.new ≡ record state.old { hand = Some result } }
-    ensures placed { IsInOnePlace state.old → IsInOnePlace state.new }
+    ensures placed { IsThereOnce state.old → IsThereOnce state.new }
     ensures tickets { HasTickets state.old → HasTickets state.new }
 {
     state.set_deadline(call, Deadline::At(0))
@@ -84,7 +87,7 @@ pub(crate) fn admit(
     ensures unit { state.new.state.unit ≡ state.old.state.unit }
     ensures within { All (λ k. k ≤ queueing.place) state.new.places }
     ensures rises { Increases state.old.places → Increases state.new.places }
-    ensures placed { IsInOnePlace state.old → IsInOnePlace state.new }
+    ensures placed { IsThereOnce state.old → IsThereOnce state.new }
     ensures number { result.number ≡ state.old.state.next }
     ensures live { is_live state.new.tickets result ≡ true }
     ensures count { uncollected state.new.tickets ≡ uncollected state.old.tickets + 1 }
@@ -110,7 +113,7 @@ pub(crate) fn land(
     ensures unit { state.new.state.unit ≡ state.old.state.unit }
     ensures within { All (λ k. k ≤ queueing.place) state.new.places }
     ensures rises { Increases state.old.places → Increases state.new.places }
-    ensures placed { IsInOnePlace state.old → IsInOnePlace state.new }
+    ensures placed { IsThereOnce state.old → IsThereOnce state.new }
 {
     state.land(queueing, call, outcome);
 }
@@ -127,7 +130,7 @@ pub(crate) fn take(state: &mut State<ClientUnit>, e: u16) -> Option<Call<u64>>
     } }
     ensures kept { (k : ℕ) → All (λ j. j < k) state.old.places → All (λ j. j < k) state.new.places }
     ensures rises { Increases state.old.places → Increases state.new.places }
-    ensures placed { IsInOnePlace state.old → IsInOnePlace state.new }
+    ensures placed { IsThereOnce state.old → IsThereOnce state.new }
     ensures tickets { HasTickets state.old → HasTickets state.new }
 {
     state.take_on(e)
@@ -147,8 +150,9 @@ pub(crate) fn break_oldest(state: &mut State<ClientUnit>) -> Option<Call<u64>>
     ensures none { IfNone result (state.new.state.waiting ≡ []) }
     ensures kept { (k : ℕ) → All (λ j. j < k) state.old.places → All (λ j. j < k) state.new.places }
     ensures rises { Increases state.old.places → Increases state.new.places }
-    ensures placed { IsInOnePlace state.old → IsInOnePlace state.new }
+    ensures placed { IsThereOnce state.old → IsThereOnce state.new }
     ensures tickets { HasTickets state.old → HasTickets state.new }
+    ensures room { KeepsRoom state.old state.new }
 {
     let call = take_oldest(state)?;
     finish(state, call, End::ProgramError);
@@ -167,7 +171,7 @@ fn take_oldest(state: &mut State<ClientUnit>) -> Option<Call<u64>>
     ensures none { IfNone result ((state.new.state ≡ state.old.state) × (state.new.state.waiting ≡ [])) }
     ensures kept { (k : ℕ) → All (λ j. j < k) state.old.places → All (λ j. j < k) state.new.places }
     ensures rises { Increases state.old.places → Increases state.new.places }
-    ensures placed { IsInOnePlace state.old → IsInOnePlace state.new }
+    ensures placed { IsThereOnce state.old → IsThereOnce state.new }
     ensures tickets { HasTickets state.old → HasTickets state.new }
 {
     state.take_oldest()
@@ -184,7 +188,7 @@ fn cancel(state: &mut State<ClientUnit>, ticket: Ticket)
     ensures unit { state.new.state.unit ≡ state.old.state.unit }
     ensures kept { (k : ℕ) → All (λ j. j < k) state.old.places → All (λ j. j < k) state.new.places }
     ensures rises { Increases state.old.places → Increases state.new.places }
-    ensures placed { IsInOnePlace state.old → IsInOnePlace state.new }
+    ensures placed { IsThereOnce state.old → IsThereOnce state.new }
 {
     state.cancel(ticket);
 }
@@ -203,8 +207,9 @@ pub(crate) fn withdraw(state: &mut State<ClientUnit>, ticket: Ticket)
     ensures unit { state.new.state.unit ≡ state.old.state.unit }
     ensures kept { (k : ℕ) → All (λ j. j < k) state.old.places → All (λ j. j < k) state.new.places }
     ensures rises { Increases state.old.places → Increases state.new.places }
-    ensures placed { IsInOnePlace state.old → IsInOnePlace state.new }
+    ensures placed { IsThereOnce state.old → IsThereOnce state.new }
     ensures tickets { HasTickets state.old → HasTickets state.new }
+    ensures room { KeepsRoom state.old state.new }
 {
     cancel(state, ticket);
     forget(state, ticket);
@@ -223,7 +228,7 @@ pub(crate) fn mark(state: &mut State<ClientUnit>, ticket: Ticket, call: Call<u64
     ensures unit { state.new.state.unit ≡ state.old.state.unit }
     ensures kept { (k : ℕ) → All (λ j. j < k) state.old.places → All (λ j. j < k) state.new.places }
     ensures rises { Increases state.old.places → Increases state.new.places }
-    ensures placed { IsInOnePlace state.old → IsInOnePlace state.new }
+    ensures placed { IsThereOnce state.old → IsThereOnce state.new }
     ensures rests { (closed : List ℕ) → IsAtRest state.old closed → IsAtRest state.new closed }
     ensures tickets { HasTickets state.old → HasTickets state.new }
 {

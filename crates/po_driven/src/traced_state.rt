@@ -9,10 +9,11 @@ ghost use Rattle.po_engine.specs.Driving.{admitted, counted, new_call};
 ghost use Rattle.po_engine.specs.StateView.{NamesEntry};
 ghost use Rattle.po_engine.specs.Step.{end_call, take_out, land, cancel, abort, is_full};
 ghost use Rattle.po_unit.specs.declared.outcome.Outcome.TheVariants.{Requeue as RequeueTo};
+ghost use Rattle.po_calls.specs.declared.end.End.TheVariants.{Completed};
 ghost use Rattle.po_driven.specs.AtRest.{IsAtRest};
 ghost use Rattle.po_driven.specs.Happening.{cancellation_of, end_oldest, make_due as due};
-ghost use Rattle.po_driven.specs.TracedView.{IsTraced, opening_calls};
-ghost use Rattle.po_driven.specs.declared.happening.Happening.TheVariants.{Served, Arrived, Selected, Ended, Due, Requeued, Broken, Cancelled, Marked, Finalized};
+ghost use Rattle.po_driven.specs.TracedView.{IsReady, IsTraced, KeepsRoom, opening_calls};
+ghost use Rattle.po_driven.specs.declared.happening.Happening.TheVariants.{Served, Arrived, Selected, Ended, RequeuedElsewhere, Due, Requeued, Broken, Cancelled, Marked, Finalized};
 
 use crate::client_unit::ClientUnit;
 use crate::happening::Happening;
@@ -115,6 +116,7 @@ impl TracedState {
         ensures begun { OnOk result (self.new.object.before ≡ length self.new.object.state.ended) }
         ensures err { OnErr result (self.new ≡ self.old) }
         ensures had_room { uncollected self.old.object.tickets < self.old.object.most → IsOk result }
+        ensures room_kept { KeepsRoom self.old.object self.new.object }
     {
         if !self.state.has_room() {
             if self.state.is_fixed() {
@@ -129,16 +131,12 @@ impl TracedState {
     /// A call with an open barrier is accepted: it is in hand, and its body runs (9.5.3).
     #[inline(always)]
     pub fn accept_open(&mut self, arriving: Arriving<u64>)
-        requires hand { self.old.object.hand ≡ None }
-        requires room { uncollected self.old.object.tickets < self.old.object.most }
-        requires begun { self.old.object.before ≡ length self.old.object.state.ended }
-        requires entry { arriving.entry < self.old.object.state.unit }
-        requires number { self.old.object.state.next < u64.MAX }
-        requires place { self.old.place < u128.MAX }
+        requires { IsReady self.old arriving.entry }
         ensures state { self.new.object.state ≡ counted self.old.object.state }
         ensures unit { self.new.object.state.unit ≡ self.old.object.state.unit }
         ensures hand { self.new.object.hand ≡ Some (new_call self.old.object.state.next arriving) }
         ensures happened { self.new.happened ≡ self.old.happened ++ Served arriving ∷ [] }
+        ensures room_kept { KeepsRoom self.old.object self.new.object }
     {
         let queueing = Queueing {
             max_length: None,
@@ -153,12 +151,7 @@ impl TracedState {
     /// this length already (9.5.3, D.7).
     #[inline(always)]
     pub fn accept_closed(&mut self, arriving: Arriving<u64>, longest: Option<u64>) -> Option<Ticket>
-        requires hand { self.old.object.hand ≡ None }
-        requires room { uncollected self.old.object.tickets < self.old.object.most }
-        requires begun { self.old.object.before ≡ length self.old.object.state.ended }
-        requires entry { arriving.entry < self.old.object.state.unit }
-        requires number { self.old.object.state.next < u64.MAX }
-        requires place { self.old.place < u128.MAX }
+        requires { IsReady self.old arriving.entry }
         ensures state { self.new.object.state ≡ admitted longest (counted self.old.object.state) (new_call self.old.object.state.next arriving) false }
         ensures unit { self.new.object.state.unit ≡ self.old.object.state.unit }
         ensures hand { self.new.object.hand ≡ None }
@@ -167,6 +160,7 @@ impl TracedState {
         ensures number { IfSome result (λ ticket. ticket.number ≡ self.old.object.state.next) }
         ensures live { IfSome result (λ ticket. is_live self.new.object.tickets ticket ≡ true) }
         ensures full { IfNone result (is_full longest (count_by (is_on arriving.entry) self.old.object.state.waiting) ≡ true) }
+        ensures room_kept { KeepsRoom self.old.object self.new.object }
     {
         let queueing = Queueing {
             max_length: longest,
@@ -192,6 +186,7 @@ impl TracedState {
         ensures unit { self.new.object.state.unit ≡ self.old.object.state.unit }
         ensures hand { self.new.object.hand ≡ result }
         ensures happened { self.new.happened ≡ self.old.happened ++ Selected e ∷ [] }
+        ensures room_kept { KeepsRoom self.old.object self.new.object }
     {
         let call = take(&mut self.state, e);
         self.happened = self.happened.then(&Happening::Selected(e));
@@ -206,9 +201,24 @@ impl TracedState {
         ensures unit { self.new.object.state.unit ≡ self.old.object.state.unit }
         ensures hand { self.new.object.hand ≡ None }
         ensures happened { self.new.happened ≡ self.old.happened ++ Ended end ∷ [] }
+        ensures room_kept { KeepsRoom self.old.object self.new.object }
     {
         finish(&mut self.state, call, end);
         self.happened = self.happened.then(&Happening::Ended(end));
+    }
+
+    /// The call in hand, which its body requeued to another object or a task, leaves this one, and its ticket is given up (9.5.4).
+    #[inline(always)]
+    pub fn requeue_elsewhere(&mut self, call: Call<u64>)
+        requires { self.old.object.hand ≡ Some call }
+        ensures state { self.new.object.state ≡ end_call self.old.object.state call (Completed call.value) }
+        ensures unit { self.new.object.state.unit ≡ self.old.object.state.unit }
+        ensures hand { self.new.object.hand ≡ None }
+        ensures happened { self.new.happened ≡ self.old.happened ++ RequeuedElsewhere ∷ [] }
+        ensures room_kept { KeepsRoom self.old.object self.new.object }
+    {
+        finish(&mut self.state, call, End::Completed(call.value));
+        self.happened = self.happened.then(&Happening::RequeuedElsewhere);
     }
 
     /// The call in hand is due from now on.
@@ -246,6 +256,7 @@ impl TracedState {
         ensures number { IfSome result (λ ticket. ticket.number ≡ call.number) }
         ensures live { IfSome result (λ ticket. is_live self.new.object.tickets ticket ≡ true) }
         ensures full { IfNone result (is_full longest (count_by (is_on target) self.old.object.state.waiting) ≡ true) }
+        ensures room_kept { KeepsRoom self.old.object self.new.object }
     {
         let queueing = Queueing {
             max_length: longest,
@@ -286,6 +297,7 @@ impl TracedState {
         ensures happened { self.new.happened ≡ self.old.happened ++ (if requeue.due then Due ∷ [] else []) ++ Requeued (RequeueTo requeue.target requeue.with_abort call.value) longest ∷ [] }
         ensures live { IfSome result (λ ticket. is_live self.new.object.tickets ticket ≡ true) }
         ensures full { IfNone result (is_full longest (count_by (is_on requeue.target) self.old.object.state.waiting) ≡ true) }
+        ensures room_kept { KeepsRoom self.old.object self.new.object }
     {
         let moved = if requeue.due {
             self.make_due(call)
@@ -303,6 +315,7 @@ impl TracedState {
         ensures unit { self.new.object.state.unit ≡ self.old.object.state.unit }
         ensures none { IfNone result (self.new ≡ self.old) }
         ensures happened { self.new.happened ≡ self.old.happened ++ cancellation_of result }
+        ensures room_kept { KeepsRoom self.old.object self.new.object }
     {
         let ticket = self.state.first_due()?;
         let call = self.state.waiting_call(ticket)?;
@@ -320,6 +333,7 @@ impl TracedState {
         ensures none { IfNone result (self.new.object.state.waiting ≡ []) }
         ensures happened { IfSome result (λ _. self.new.happened ≡ self.old.happened ++ Broken ∷ []) }
         ensures same { IfNone result (self.new.happened ≡ self.old.happened) }
+        ensures room_kept { KeepsRoom self.old.object self.new.object }
     {
         let call = break_oldest(&mut self.state)?;
         self.happened = self.happened.then(&Happening::Broken);
@@ -335,6 +349,7 @@ impl TracedState {
         ensures unit { self.new.object.state.unit ≡ self.old.object.state.unit }
         ensures hand { self.new.object.hand ≡ None }
         ensures happened { self.new.happened ≡ self.old.happened ++ Cancelled ticket.number ∷ [] }
+        ensures room_kept { KeepsRoom self.old.object self.new.object }
     {
         withdraw(&mut self.state, ticket);
         self.happened = self.happened.then(&Happening::Cancelled(ticket.number));
@@ -351,6 +366,7 @@ impl TracedState {
         ensures hand { self.new.object.hand ≡ None }
         ensures happened { self.new.happened ≡ self.old.happened ++ Marked ticket.number ∷ [] }
         ensures rests { (closed : List ℕ) → IsAtRest self.old.object closed → IsAtRest self.new.object closed }
+        ensures room_kept { KeepsRoom self.old.object self.new.object }
     {
         mark(&mut self.state, ticket, call);
         self.happened = self.happened.then(&Happening::Marked(ticket.number));

@@ -36,12 +36,14 @@ pub struct Requeue {
 /// How the body of the call in hand ended (9.5.2, 9.5.4).
 #[derive(Clone, Copy, Debug, PartialEq, Eq)]
 pub enum BodyEnd {
-    /// It completed, by an exception or not, or requeued its call to another object: the client sees to the caller.
+    /// It completed, by an exception or not: the client sees to the caller.
     Completed,
     /// The same, and all queued calls end by Program_Error.
     Failed,
     /// It requeued its call to an entry of this object.
     Requeued(Requeue),
+    /// It requeued its call to another object or a task: the client sees to the call.
+    RequeuedElsewhere,
 }
 
 /// What comes of an attempt to cancel a queued call (9.5.3, 9.5.4).

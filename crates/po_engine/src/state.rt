@@ -566,6 +566,7 @@ impl<U: Unit> State<U> {
     /// The first entry from here on that has a queued call.
     pub fn next_busy(&self, from: u16) -> Option<u16>
         ensures entry { IfSome result (λ e. e < U.meaning.entries self.now.state.unit) }
+        ensures from_here { IfSome result (λ e. from ≤ e) }
         ensures passed { IfSome result (λ e. All (λ x. x.entry < e → x.entry < from) self.now.state.waiting) }
         ensures below { IfNone result (All (λ x. x.entry < from) self.now.state.waiting) }
         ensures busy { IfSome result (λ e. IsSome (find (is_on e) self.now.state.waiting)) }

@@ -1,8 +1,8 @@
 use Rattle.std.proofs.Common.{◌≡◌, ◌∙◌, None, ap, sym, subst}
 use Rattle.po_driven.specs.Happening.{end_oldest}
+use Rattle.po_driven.proofs.Leads.{broken}
 use Rattle.po_driven.proofs.Traces.{traced_on}
 use Rattle.po_driven.specs.declared.happening.Happening.TheVariants.{Broken}
-use Rattle.po_driven.specs.Happening.{driving_of, happen}
 use Rattle.po_driven.specs.TracedView.{TracedView}
 use Rattle.po_driven.proofs.traced_state.TracedState.break_oldest.Goals as goal
 
@@ -13,5 +13,5 @@ invariant_of-self-2 c =
     let a = c.break_oldest.ensures in
     let hand = subst (λ v. v.object.hand ≡ None) (sym c.self.view_is) c.requires in
     let new : TracedView = record { object = c.break_oldest.new.state; place = i.place; happened = c.then-self-inside.result.items } in
-    let goes : happen Broken (driving_of i.state) ≡ driving_of c.break_oldest.new.state = ap (λ o. record { state = end_oldest i.state.state o; hand = None }) (sym a.found) ∙ sym (ap driving_of a.state ∙ ap (λ o. record { state = end_oldest i.state.state c.break_oldest.result; hand = o }) hand) in
+    let goes = broken i.state c.break_oldest.new.state (ap (λ v. v.state) a.state ∙ ap (end_oldest i.state.state) a.found) (ap (λ v. v.hand) a.state ∙ hand) in
     traced_on old new Broken c.self.invariant a.unit c.then-self-inside.ensures goes a.placed (a.tickets c.self.invariant.tickets) a.rises (a.kept i.place c.self.invariant.later)

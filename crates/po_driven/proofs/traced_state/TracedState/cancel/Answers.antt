@@ -1,10 +1,7 @@
 use Rattle.std.proofs.Common.{◌≡◌, ◌∙◌, None, ap, sym, subst}
-use Rattle.std.specs.List.{find}
-use Rattle.po_accepted.specs.WaitingCalls.{has_number}
-use Rattle.po_engine.specs.Step.{cancel}
+use Rattle.po_driven.proofs.Leads.{cancelled}
 use Rattle.po_driven.proofs.Traces.{traced_on}
 use Rattle.po_driven.specs.declared.happening.Happening.TheVariants.{Cancelled}
-use Rattle.po_driven.specs.Happening.{driving_of, happen}
 use Rattle.po_driven.specs.TracedView.{TracedView}
 use Rattle.po_driven.proofs.traced_state.TracedState.cancel.Goals as goal
 
@@ -16,5 +13,5 @@ invariant_of-self c =
     let hand = subst (λ v. v.object.hand ≡ None) (sym c.self.view_is) c.requires.hand in
     let n = c.args.ticket.number in
     let new : TracedView = record { object = c.withdraw.new.state; place = i.place; happened = c.then-self-inside.result.items } in
-    let goes : happen (Cancelled n) (driving_of i.state) ≡ driving_of c.withdraw.new.state = sym (ap driving_of a.state ∙ ap (λ o. record { state = cancel i.state.state n (find (has_number n) i.state.state.waiting); hand = o }) hand) in
+    let goes = cancelled i.state c.withdraw.new.state n (ap (λ v. v.state) a.state) (ap (λ v. v.hand) a.state ∙ hand) in
     traced_on old new (Cancelled n) c.self.invariant a.unit c.then-self-inside.ensures goes a.placed (a.tickets c.self.invariant.tickets) a.rises (a.kept i.place c.self.invariant.later)

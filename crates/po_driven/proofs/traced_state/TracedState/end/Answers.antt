@@ -1,9 +1,9 @@
-use Rattle.std.proofs.Common.{◌≡◌, ◌<◌, ◌∙◌, Some, ap, sym, subst}
+use Rattle.std.proofs.Common.{◌≡◌, ◌<◌, Some, ap, sym, subst}
 use Rattle.std.specs.List.{All}
 use Rattle.po_engine.specs.Arrival.{Increases}
-use Rattle.po_driven.proofs.Traces.{traced_on, ended_in_hand}
+use Rattle.po_driven.proofs.Leads.{ended}
+use Rattle.po_driven.proofs.Traces.{traced_on}
 use Rattle.po_driven.specs.declared.happening.Happening.TheVariants.{Ended}
-use Rattle.po_driven.specs.Happening.{driving_of, happen}
 use Rattle.po_driven.specs.TracedView.{TracedView}
 use Rattle.po_driven.proofs.traced_state.TracedState.end.Goals as goal
 
@@ -14,5 +14,5 @@ invariant_of-self c =
     let a = c.finish.ensures in
     let hand = subst (λ v. v.object.hand ≡ Some c.args.call) (sym c.self.view_is) c.requires in
     let new : TracedView = record { object = c.finish.new.state; place = i.place; happened = c.then-self-inside.result.items } in
-    let goes : happen (Ended c.args.end) (driving_of i.state) ≡ driving_of c.finish.new.state = ended_in_hand i.state.state i.state.hand c.args.call c.args.end hand ∙ sym (ap driving_of a.state) in
+    let goes = ended i.state c.finish.new.state c.args.call c.args.end hand (ap (λ v. v.state) a.state) (ap (λ v. v.hand) a.state) in
     traced_on old new (Ended c.args.end) c.self.invariant (ap (λ v. v.state.unit) a.state) c.then-self-inside.ensures goes a.placed (a.tickets c.self.invariant.tickets) (λ r. subst (λ v. Increases v.places) (sym a.state) r) (subst (λ v. All (λ k. k < i.place) v.places) (sym a.state) c.self.invariant.later)

@@ -1,9 +1,9 @@
 use Rattle.std.proofs.Common.{◌≡◌, ◌<◌, ◌∙◌, Some, ap, sym, subst}
 use Rattle.std.specs.List.{All}
 use Rattle.po_engine.specs.Arrival.{Increases}
-use Rattle.po_driven.proofs.Traces.{traced_on, due_in_hand}
+use Rattle.po_driven.proofs.Leads.{due}
+use Rattle.po_driven.proofs.Traces.{traced_on}
 use Rattle.po_driven.specs.declared.happening.Happening.TheVariants.{Due}
-use Rattle.po_driven.specs.Happening.{driving_of, happen}
 use Rattle.po_driven.specs.TracedView.{TracedView}
 use Rattle.po_driven.proofs.traced_state.TracedState.make_due.Goals as goal
 
@@ -14,5 +14,5 @@ invariant_of-self c =
     let a = c.make_due-moved.ensures in
     let hand = subst (λ v. v.object.hand ≡ Some c.args.call) (sym c.self.view_is) c.requires in
     let new : TracedView = record { object = c.make_due-moved.new.state; place = i.place; happened = c.then-self-inside.result.items } in
-    let goes : happen Due (driving_of i.state) ≡ driving_of c.make_due-moved.new.state = due_in_hand i.state.state i.state.hand c.args.call c.make_due-moved.result hand a.call ∙ sym (ap driving_of a.state) in
+    let goes = due i.state c.make_due-moved.new.state c.args.call hand (ap (λ v. v.state) a.state) (ap (λ v. v.hand) a.state ∙ ap Some a.call) in
     traced_on old new Due c.self.invariant (ap (λ v. v.state.unit) a.state) c.then-self-inside.ensures goes a.placed (a.tickets c.self.invariant.tickets) (λ r. subst (λ v. Increases v.places) (sym a.state) r) (subst (λ v. All (λ k. k < i.place) v.places) (sym a.state) c.self.invariant.later)

@@ -1,11 +1,8 @@
 use Rattle.std.proofs.Common.{◌≡◌, ◌∙◌, None, ap, sym, subst}
 use Rattle.po_driven.specs.AtRest.{IsAtRest}
-use Rattle.std.specs.List.{find}
-use Rattle.po_accepted.specs.WaitingCalls.{has_number}
-use Rattle.po_engine.specs.Step.{abort}
+use Rattle.po_driven.proofs.Leads.{marked}
 use Rattle.po_driven.proofs.Traces.{traced_on}
 use Rattle.po_driven.specs.declared.happening.Happening.TheVariants.{Marked}
-use Rattle.po_driven.specs.Happening.{driving_of, happen}
 use Rattle.po_driven.specs.TracedView.{TracedView}
 use Rattle.po_driven.proofs.traced_state.TracedState.mark.Goals as goal
 
@@ -17,7 +14,7 @@ invariant_of-self c =
     let hand = subst (λ v. v.object.hand ≡ None) (sym c.self.view_is) c.requires.hand in
     let n = c.args.ticket.number in
     let new : TracedView = record { object = c.mark.new.state; place = i.place; happened = c.then-self-inside.result.items } in
-    let goes : happen (Marked n) (driving_of i.state) ≡ driving_of c.mark.new.state = sym (ap driving_of a.state ∙ ap (λ o. record { state = abort i.state.state n (find (has_number n) i.state.state.waiting); hand = o }) hand) in
+    let goes = marked i.state c.mark.new.state n (ap (λ v. v.state) a.state) (ap (λ v. v.hand) a.state ∙ hand) in
     traced_on old new (Marked n) c.self.invariant a.unit c.then-self-inside.ensures goes a.placed (a.tickets c.self.invariant.tickets) a.rises (a.kept i.place c.self.invariant.later)
 
 pub returns-clause-rests : goal.returns-clause-rests

@@ -7,9 +7,9 @@ use Rattle.po_unit.specs.declared.outcome.Outcome.TheVariants.{Requeue}
 use Rattle.po_accepted.specs.WaitingCalls.{is_on}
 use Rattle.po_engine.specs.Step.{is_full}
 use Rattle.po_accepted.proofs.Lists.{count_at}
-use Rattle.po_driven.proofs.Traces.{traced_on, below_next, full_when, moved_on, requeued, room_when}
+use Rattle.po_driven.proofs.Leads.{requeued}
+use Rattle.po_driven.proofs.Traces.{traced_on, below_next, full_when, moved_on, room_when}
 use Rattle.po_driven.specs.declared.happening.Happening.TheVariants.{Requeued}
-use Rattle.po_driven.specs.Happening.{driving_of, happen}
 use Rattle.po_driven.specs.TracedView.{TracedView}
 use Rattle.po_driven.specs.OnePlace.{hands}
 use Rattle.po_driven.proofs.Held.{entered_len, full_len, full_ended, landed_is}
@@ -32,7 +32,7 @@ invariant_of-self c =
     let hand = subst (λ v. v.object.hand ≡ Some c.args.call) (sym c.self.view_is) c.requires.hand in
     let new : TracedView = record { object = c.forget.new.state; place = i.place + 1; happened = c.then-self-inside.result.items } in
     let o = Requeue c.args.target c.args.with_abort c.args.call.value in
-    let goes : happen (Requeued o c.args.longest) (driving_of i.state) ≡ driving_of c.forget.new.state = requeued i.state.state i.state.hand c.args.call o c.args.longest hand ∙ sym (ap driving_of f.state ∙ ap driving_of a.state) in
+    let goes = requeued i.state c.forget.new.state c.args.call o c.args.longest hand (ap (λ v. v.state) f.state ∙ ap (λ v. v.state) a.state) (ap (λ v. v.hand) f.state ∙ ap (λ v. v.hand) a.state) in
     traced_on old new (Requeued o c.args.longest) c.self.invariant (ap (λ v. v.state.unit) f.state ∙ a.unit) c.then-self-inside.ensures goes (λ p. f.placed (a.placed p))
     (omega (arith, c.self.invariant.tickets, f.count, ap (λ v. uncollected v.tickets) a.state, ap hands hand, ap (λ v. length v.state.waiting) f.state, ap (λ v. length v.state.waiting) a.state, ap (λ (p : ObjectState ℕ ℕ). length p.waiting) moved, full_len c.args.longest s y full, ap (λ v. hands v.hand) f.state, ap (λ v. hands v.hand) a.state)) (λ r. subst (λ v. Increases v.places) (sym f.state) (a.rises r)) (subst (λ v. All (λ k. k < i.place + 1) v.places) (sym f.state) (below_next i.place c.land.new.state.places a.within))
 
@@ -50,7 +50,7 @@ invariant_of-self-else-is_full c =
     let hand = subst (λ v. v.object.hand ≡ Some c.args.call) (sym c.self.view_is) c.requires.hand in
     let new : TracedView = record { object = c.land.new.state; place = i.place + 1; happened = c.then-self-inside.result.items } in
     let o = Requeue c.args.target c.args.with_abort c.args.call.value in
-    let goes : happen (Requeued o c.args.longest) (driving_of i.state) ≡ driving_of c.land.new.state = requeued i.state.state i.state.hand c.args.call o c.args.longest hand ∙ sym (ap driving_of a.state) in
+    let goes = requeued i.state c.land.new.state c.args.call o c.args.longest hand (ap (λ v. v.state) a.state) (ap (λ v. v.hand) a.state) in
     traced_on old new (Requeued o c.args.longest) c.self.invariant a.unit c.then-self-inside.ensures goes a.placed
     (omega (arith, c.self.invariant.tickets, ap (λ v. uncollected v.tickets) a.state, ap hands hand, ap (λ v. length v.state.waiting) a.state, ap (λ (p : ObjectState ℕ ℕ). length p.waiting) moved, entered_len c.args.longest s y room, ap (λ v. hands v.hand) a.state)) a.rises (below_next i.place c.land.new.state.places a.within)
 

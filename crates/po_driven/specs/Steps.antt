@@ -1,0 +1,88 @@
+-- All that the contract of a step says of the object before and after it, by what the step answers (9.4, 9.5.1 to 9.5.4, 9.7.2, D.7).
+use Rattle.std.specs.Prelude.{ℕ, ◌≡◌, ◌≢◌, ◌<◌, None, Some, IsSome}
+use Rattle.po_calls.specs.declared.call.Call.{Call}
+use Rattle.po_accepted.specs.Tickets.{uncollected}
+use Rattle.po_engine.specs.declared.arriving.Arriving.{Arriving}
+use Rattle.po_driven.specs.Answering.{AnswersCall, Breaks, LooksOn, Moves, WaitsForNext}
+use Rattle.po_driven.specs.DrivenView.{DrivenView, Fresh, KeepsAll, KeepsMaking, MayIssue, Tells, closed_after}
+use Rattle.po_driven.specs.Noted.{EndsWhereFull, IsNoRequeue, Names, NamesCaller, NamesTicket, Notes, finalized, issued, landed, serviced}
+use Rattle.po_driven.specs.declared.action.Action.{Action}
+use Rattle.po_driven.specs.declared.action.Action.TheVariants.{NoMemory, Refused, Run}
+use Rattle.po_driven.specs.declared.phase.Phase.TheVariants.{Asked, Breaking, Resting}
+use Rattle.po_driven.specs.declared.words.Barrier.{Barrier}
+use Rattle.po_driven.specs.declared.words.Barrier.TheVariants.{Closed, Open, Raised}
+use Rattle.po_driven.specs.declared.words.BodyEnd.{BodyEnd}
+use Rattle.po_driven.specs.declared.words.BodyEnd.TheVariants.{Completed, Failed, Requeued, RequeuedElsewhere}
+use Rattle.po_driven.specs.declared.words.Requeue.{Requeue}
+use Rattle.po_driven.specs.declared.words.Step.{Step}
+
+-- A call is issued, whose barrier says so (9.5.3).
+pub record Issues (a : Arriving ℕ) (barrier : Barrier) (step : Step) (old new : DrivenView) (action : Action) : Type 0 where
+  pub tells : Tells action new
+  pub kept : KeepsAll action old new
+  pub making : KeepsMaking old new
+  pub accepted : MayIssue old a.entry → action ≢ Refused
+  pub refused : (MayIssue old a.entry → ⊥) → action ≡ Refused
+  pub room : uncollected old.calls.object.tickets < old.calls.object.most → action ≢ NoMemory
+  pub fresh : Fresh action new
+  pub noted : Notes (issued action a barrier old) old new
+  pub names : NamesCaller action a barrier step old
+  pub ticket : NamesTicket action step new
+  pub follows : AnswersCall action a barrier new
+  pub full : (barrier ≡ Raised → ⊥) → EndsWhereFull action a.entry old
+
+-- The barrier that the client was asked for says so (9.5.2, 9.5.3).
+pub record Evaluates (barrier : Barrier) (step : Step) (old new : DrivenView) (action : Action) : Type 0 where
+  pub tells : Tells action new
+  pub kept : KeepsAll action old new
+  pub making : KeepsMaking old new
+  pub accepted : (e : ℕ) → old.phase ≡ Asked e → action ≢ Refused
+  pub refused : ((e : ℕ) → old.phase ≡ Asked e → ⊥) → action ≡ Refused
+  pub closed : (e : ℕ) → old.phase ≡ Asked e → new.closed ≡ closed_after old.closed e barrier
+  pub noted : Notes (serviced action old) old new
+  pub names : Names action step old new
+  pub serves : (e : ℕ) → old.phase ≡ Asked e → barrier ≡ Open → action ≡ Run e
+  pub looks_on : (e : ℕ) → old.phase ≡ Asked e → barrier ≡ Closed → LooksOn action old.calls.object.state.waiting new.closed
+  pub breaks : (e : ℕ) → old.phase ≡ Asked e → barrier ≡ Raised → Breaks action old new
+
+-- The body of the call in hand has ended so (9.5.2, 9.5.4).
+pub record EndsBody (end : BodyEnd) (step : Step) (old new : DrivenView) (action : Action) : Type 0 where
+  pub tells : Tells action new
+  pub kept : KeepsAll action old new
+  pub making : KeepsMaking old new
+  pub accepted : IsSome old.calls.object.hand → IsNoRequeue end → action ≢ Refused
+  pub refused : old.calls.object.hand ≡ None → action ≡ Refused
+  pub fresh : Fresh action new
+  pub noted : (x : Call ℕ) → old.calls.object.hand ≡ Some x → Notes (landed end x action old) old new
+  pub names : IsNoRequeue end → Names action step old new
+  pub moves : (requeue : Requeue) (x : Call ℕ) → end ≡ Requeued requeue → old.calls.object.hand ≡ Some x → Moves action requeue x step old
+  pub ticket : NamesTicket action step new
+  pub full : (requeue : Requeue) → end ≡ Requeued requeue → EndsWhereFull action requeue.target old
+  pub looks_on : IsSome old.calls.object.hand → end ≡ Completed → LooksOn action old.calls.object.state.waiting new.closed
+  pub leaves : IsSome old.calls.object.hand → end ≡ RequeuedElsewhere → LooksOn action old.calls.object.state.waiting new.closed
+  pub breaks : IsSome old.calls.object.hand → end ≡ Failed → Breaks action old new
+
+-- The client asks for what is next (9.5.1, 9.5.3).
+pub record GoesOn (step : Step) (old new : DrivenView) (action : Action) : Type 0 where
+  pub tells : Tells action new
+  pub kept : KeepsAll action old new
+  pub making : KeepsMaking old new
+  pub accepted : WaitsForNext old.phase → action ≢ Refused
+  pub refused : (WaitsForNext old.phase → ⊥) → action ≡ Refused
+  pub fresh : Fresh action new
+  pub noted : Notes (serviced action old) old new
+  pub names : Names action step old new
+  pub looks_on : old.phase ≢ Breaking → action ≢ Refused → LooksOn action old.calls.object.state.waiting new.closed
+  pub breaks : old.phase ≡ Breaking → Breaks action old new
+
+-- The object is finalized (9.4).
+pub record Finalizes (step : Step) (old new : DrivenView) (action : Action) : Type 0 where
+  pub tells : Tells action new
+  pub kept : KeepsAll action old new
+  pub making : KeepsMaking old new
+  pub accepted : old.phase ≡ Resting → action ≢ Refused
+  pub refused : old.phase ≢ Resting → action ≡ Refused
+  pub fresh : Fresh action new
+  pub noted : Notes (finalized action old) old new
+  pub names : Names action step old new
+  pub breaks : old.phase ≡ Resting → Breaks action old new

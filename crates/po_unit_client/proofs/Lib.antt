@@ -1,0 +1,6 @@
+mod Leading
+mod Moments
+mod Opening
+mod Runs
+mod Turns
+mod Words
