@@ -242,4 +242,4 @@ module _ {S : Type 0} (m : Meaning S ℕ) where
           let is = before.traced.leads.state in
           let entry : e < m.entries u = subst (λ k. e < k) (sym entries) may.entry in
           let number : now.next < 18_446_744_073_709_551_615 = subst (λ s. s.next < 18_446_744_073_709_551_615) is may.number in
-          (((begins phase are may.alive, entry, refl, number), tt), issued_on (gate_in m now e) i)
+          (((begins phase are may.alive, entry, refl, number), tt), (tt, tt), issued_on (gate_in m now e) i)
