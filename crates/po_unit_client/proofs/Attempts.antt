@@ -108,7 +108,7 @@ module _ {S : Type 0} (m : Meaning S ℕ) (s : ObjectState S ℕ) (u : S) (d n :
 
   cancelled_if : (b : Bool) (x : Call ℕ) → x.sealed ≡ b → b ≡ false → IsSame (if b then record there { waiting = map (mark k) there.waiting } else cancel there k (Some x)) (base u (record g { state = cancel g.state k (Some x); hand = None }))
   cancelled_if true x sealed off = absurd (cc)
-  cancelled_if false x sealed off = end_same s.ended (take_out now (has_number k)) x IsCancelled IsCancelled is.ended
+  cancelled_if false x sealed off = end_same s.ended (take_out now (has_number k)) x IsCancelled is.ended
 
   found_if : (x : Call ℕ) → find (has_number k) now.waiting ≡ Some x → (x.sealed && x.aborted) ≡ false → IsFound (λ y. (y.sealed && y.aborted) ≡ false) (find (has_number k) now.waiting)
   found_if x found free = subst (λ r. IsFound (λ y. (y.sealed && y.aborted) ≡ false) r) (sym found) free

@@ -170,7 +170,7 @@ module _ {S : Type 0} (m : Meaning S ℕ) (lawful : IsLawful m) (keeps : KeepsCa
             ((calm, subst (λ r. IsFound (λ y. is_due now.clock y ≡ true) r) (sym number) due), tt),
             (expires_next m now calm x found, tt),
             goes m u u d n refl f.entries f.limits f.driven k.making after (cancel there x.number (find (has_number x.number) now.waiting)) Settling h tells led
-                (subst (λ r. IsSame (cancel there x.number r) (base u (record g { state = cancel g.state x.number r; hand = None }))) (sym number) (end_same s.ended (take_out now (has_number x.number)) x IsCancelled IsCancelled is.ended)) tt,
+                (subst (λ r. IsSame (cancel there x.number r) (base u (record g { state = cancel g.state x.number r; hand = None }))) (sym number) (end_same s.ended (take_out now (has_number x.number)) x IsCancelled is.ended)) tt,
           )
 
       closed_on : (b : Action) → b ≡ a → LooksOn b d.calls.object.state.waiting n.closed → Leads m s (evaluation b (Asked e) now) u n

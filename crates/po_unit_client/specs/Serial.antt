@@ -2,6 +2,9 @@
 use Rattle.std.specs.Prelude.{ℕ, ◌≡◌, List, [], ◌∷◌, ◌++◌, Bool, false, map, find, if◌then◌else◌, Option, Some, None}
 use Rattle.po_unit.specs.Meaning.{Meaning}
 use Rattle.po_calls.specs.declared.call.Call.{Call}
+use Rattle.po_calls.specs.declared.end.End.{End}
+use Rattle.po_calls.specs.declared.end.End.TheVariants.{Cancelled as IsCancelled, Completed, ProgramError as HasProgramError, Raised}
+use Rattle.po_accepted.specs.declared.ended.Ended.{Ended}
 use Rattle.po_accepted.specs.WaitingCalls.{has_number, is_due}
 use Rattle.po_history.specs.declared.event.Event.{Event}
 use Rattle.po_history.specs.declared.event.Event.TheVariants.{Abort, Break, Expire, Final, Issue, Ran, Serve}
@@ -72,11 +75,21 @@ module _ {S : Type 0} (m : Meaning S ℕ) where
   AreNext s [] = Unit {0}
   AreNext s (event ∷ events) = IsNext s event × AreNext (step m None s event) events
 
--- The state is the other one: the same data, and the same calls are queued and have ended, in the same order. How a call ended the
--- client tells its caller itself.
+-- what a driven object knows of how a call ended: a result or an exception the client tells its caller itself
+abbrev pub as_known : End ℕ → End ℕ
+as_known (Completed v) = Completed 0
+as_known (Raised k) = Completed 0
+as_known IsCancelled = IsCancelled
+as_known HasProgramError = HasProgramError
+
+abbrev pub known : Ended ℕ → Ended ℕ
+known x = record x { end = as_known x.end }
+
+-- The state is the other one: the same data, and the same calls are queued, and have ended in the same order and alike, but for what
+-- their bodies brought back.
 pub record IsSame {S : Type 0} (s t : ObjectState S ℕ) : Type 0 where
   pub state : s ≡ record t { ended = s.ended }
-  pub ended : map (λ x. x.number) s.ended ≡ map (λ x. x.number) t.ended
+  pub ended : map known s.ended ≡ map known t.ended
 
 -- a driven object that was just made, and the data of the unit
 abbrev pub opening_moment : {S : Type 0} → Meaning S ℕ → S → ℕ → Bool → Moment S
