@@ -1,13 +1,10 @@
 -- What the functions of include/pobj.h answer, and what an answer says of the object (this project's own).
-use Rattle.std.specs.Prelude.{ℕ, ◌≡◌, ◌≢◌, ◌==◌, ◌+◌, ◌*◌, ◌/◌, ◌%◌, Bool, not, Option, Some, nat_lt, if◌then◌else◌}
+use Rattle.std.specs.Prelude.{ℕ, ◌≡◌, ◌==◌, ◌+◌, ◌*◌, ◌/◌, ◌%◌, Bool, not, Option, Some, nat_lt, if◌then◌else◌}
 use Rattle.po_calls.specs.declared.call.Deadline.TheVariants.{Never, At}
-use Rattle.po_accepted.specs.Tickets.{waiting_among}
 use Rattle.po_engine.specs.declared.arriving.Arriving.{Arriving}
-use Rattle.po_driven.specs.DrivenView.{DrivenView, KeepsMaking}
-use Rattle.po_driven.specs.Noted.{Notes, attempted, Cancels, KeepsCalls}
+use Rattle.po_driven.specs.DrivenView.{DrivenView}
 use Rattle.po_driven.specs.declared.action.Action.{Action}
 use Rattle.po_driven.specs.declared.action.Action.TheVariants.{Rest, Evaluate, Run, Queued, Cancelled, ProgramError, NoMemory, Refused}
-use Rattle.po_driven.specs.declared.phase.Phase.TheVariants.{Resting, Settling}
 use Rattle.po_driven.specs.declared.words.Barrier.{Barrier}
 use Rattle.po_driven.specs.declared.words.Barrier.TheVariants.{Closed, Open, Raised}
 use Rattle.po_driven.specs.declared.words.BodyEnd.{BodyEnd}
@@ -75,14 +72,8 @@ body_end_named how entry marks =
 abbrev pub is_not_zero : ℕ → Bool
 is_not_zero n = not (n == 0)
 
--- The number is that of what came of an attempt to cancel the call of the ticket, and so much has happened (9.5.3, 9.5.4, 9.7.2).
-pub record Cancelling (answer key number : ℕ) (expired : Bool) (old new : DrivenView) : Type 0 where
+-- The number is that of what came of an attempt to cancel, and so much is so of it.
+pub record Cancelling (answer : ℕ) (says : Cancellation → Type 0) : Type 0 where
   pub what : Cancellation
   pub told : answer ≡ number_of_cancellation what
-  pub accepted : old.phase ≡ Resting → what ≢ IsRefused
-  pub refused : old.phase ≢ Resting → what ≡ IsRefused
-  pub made : what ≡ Made → new.phase ≡ Settling
-  pub making : KeepsMaking old new
-  pub same : KeepsCalls what old new
-  pub noted : Notes (attempted what number expired) old new
-  pub call : Cancels what (waiting_among old.calls.object.state.waiting old.calls.object.tickets (record { key = key; number = number }))
+  pub said : says what

@@ -3,7 +3,7 @@
 
 ghost use Rattle.std.specs.Prelude.{◌≡◌, ◌<◌, None, Some, IsSome, MatchBool, count_by, slice_set, true, false, ◌≤◌};
 ghost use Rattle.po_c.specs.Told.{FromTo, Cancelling, is_not_zero, Answers, entry_named, arriving_named, barrier_named, body_end_named};
-ghost use Rattle.po_driven.specs.Steps.{EndsBody, Evaluates, Finalizes, GoesOn, Issues};
+ghost use Rattle.po_driven.specs.Steps.{Attempts, EndsBody, Evaluates, Finalizes, GoesOn, Issues};
 ghost use Rattle.po_accepted.specs.WaitingCalls.{is_on};
 ghost use Rattle.po_driven.specs.DrivenView.{DrivenView, at_opening};
 ghost use Rattle.po_driven.specs.TracedView.{opening_calls};
@@ -176,7 +176,7 @@ pub extern "C" fn pobj_cancel(
     requires { IsSome handle.old.object }
     ensures made { IsSome handle.new.object }
     ensures refused { FromTo handle.old.object handle.new.object (λ old new. 1 < result → new ≡ old) }
-    ensures noted { FromTo handle.old.object handle.new.object (λ old new. Cancelling result key number (is_not_zero expired) old new) }
+    ensures noted { FromTo handle.old.object handle.new.object (λ old new. Cancelling result (Attempts (record { key = key; number = number }) (is_not_zero expired) old new)) }
 {
     let mut object = handle.take(alloc);
     let what = object.cancel(Ticket { key, number }, expired != 0);

@@ -1,18 +1,21 @@
 -- All that the contract of a step says of the object before and after it, by what the step answers (9.4, 9.5.1 to 9.5.4, 9.7.2, D.7).
-use Rattle.std.specs.Prelude.{ℕ, ◌≡◌, ◌≢◌, ◌<◌, None, Some, IsSome}
+use Rattle.std.specs.Prelude.{ℕ, Bool, ◌≡◌, ◌≢◌, ◌<◌, None, Some, IsSome}
 use Rattle.po_calls.specs.declared.call.Call.{Call}
-use Rattle.po_accepted.specs.Tickets.{uncollected}
+use Rattle.po_calls.specs.declared.ticket.Ticket.{Ticket}
+use Rattle.po_accepted.specs.Tickets.{uncollected, waiting_among}
 use Rattle.po_engine.specs.declared.arriving.Arriving.{Arriving}
 use Rattle.po_driven.specs.Answering.{AnswersCall, Breaks, LooksOn, Moves, WaitsForNext}
 use Rattle.po_driven.specs.DrivenView.{DrivenView, Fresh, KeepsAll, KeepsMaking, MayIssue, Tells, closed_after}
-use Rattle.po_driven.specs.Noted.{EndsWhereFull, IsNoRequeue, Names, NamesCaller, NamesTicket, Notes, finalized, issued, landed, serviced}
+use Rattle.po_driven.specs.Noted.{Cancels, EndsWhereFull, IsNoRequeue, KeepsCalls, Names, NamesCaller, NamesTicket, Notes, attempted, finalized, issued, landed, serviced}
 use Rattle.po_driven.specs.declared.action.Action.{Action}
 use Rattle.po_driven.specs.declared.action.Action.TheVariants.{NoMemory, Refused, Run}
-use Rattle.po_driven.specs.declared.phase.Phase.TheVariants.{Asked, Breaking, Resting}
+use Rattle.po_driven.specs.declared.phase.Phase.TheVariants.{Asked, Breaking, Resting, Settling}
 use Rattle.po_driven.specs.declared.words.Barrier.{Barrier}
 use Rattle.po_driven.specs.declared.words.Barrier.TheVariants.{Closed, Open, Raised}
 use Rattle.po_driven.specs.declared.words.BodyEnd.{BodyEnd}
 use Rattle.po_driven.specs.declared.words.BodyEnd.TheVariants.{Completed, Failed, Requeued, RequeuedElsewhere}
+use Rattle.po_driven.specs.declared.words.Cancellation.{Cancellation}
+use Rattle.po_driven.specs.declared.words.Cancellation.TheVariants.{Made, Refused as IsRefused}
 use Rattle.po_driven.specs.declared.words.Requeue.{Requeue}
 use Rattle.po_driven.specs.declared.words.Step.{Step}
 
@@ -86,3 +89,14 @@ pub record Finalizes (step : Step) (old new : DrivenView) (action : Action) : Ty
   pub noted : Notes (finalized action old) old new
   pub names : Names action step old new
   pub breaks : old.phase ≡ Resting → Breaks action old new
+
+-- An attempt is made to cancel the queued call of the ticket, since its time has come or since its caller was aborted (9.5.3, 9.5.4,
+-- 9.7.2).
+pub record Attempts (ticket : Ticket) (expired : Bool) (old new : DrivenView) (what : Cancellation) : Type 0 where
+  pub accepted : old.phase ≡ Resting → what ≢ IsRefused
+  pub refused : old.phase ≢ Resting → what ≡ IsRefused
+  pub made : what ≡ Made → new.phase ≡ Settling
+  pub same : KeepsCalls what old new
+  pub making : KeepsMaking old new
+  pub noted : Notes (attempted what ticket.number expired) old new
+  pub call : Cancels what (waiting_among old.calls.object.state.waiting old.calls.object.tickets ticket)

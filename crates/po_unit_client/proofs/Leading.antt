@@ -1,7 +1,8 @@
 -- Each turn of a client leads the serial object on, by the events of the turn.
 use Rattle.std.proofs.Common.{ℕ, ◌≡◌, ◌∙◌, ◌<◌, [], ◌∷◌, map, Bool, true, false, Result, Ok, Err, Option, Some, None, ap, refl, sym, subst, inl, inr}
 use Rattle.std.specs.Prelude.{IsSome}
-use Rattle.std.specs.List.{find}
+use Rattle.std.proofs.lemmas.List.Elements.{All-weaker}
+use Rattle.std.specs.List.{All, find}
 use Rattle.po_unit.specs.Meaning.{IsLawful, Meaning}
 use Rattle.po_calls.specs.declared.call.Call.{Call}
 use Rattle.po_calls.specs.declared.call.Deadline.{Deadline}
@@ -31,6 +32,7 @@ use Rattle.po_unit_client.specs.Client.{IsCarriedOut, KeepsCallers, MayBegin, en
 use Rattle.po_unit_client.specs.Serial.{IsSame, evaluation, expiration_of}
 use Rattle.po_unit_client.proofs.Words.{appended, base, end_all_same, end_same, oldest_same, run_same, same, with_ended}
 use Rattle.po_unit_client.proofs.Moments.{AreClosed, Follows, IsToldSo, Leads, by_number, led_after, quiet, run_hand, serial_of, told_push}
+use Rattle.po_unit_client.proofs.Picks.{breaks_next, expires_next, serves_next}
 use Rattle.po_unit_client.proofs.Turns.{begins, broken, goes, issue_leads, landed_on, next_on, none_found}
 
 module _ {S : Type 0} (m : Meaning S ℕ) (lawful : IsLawful m) (keeps : KeepsCallers m) (s : ObjectState S ℕ) (u : S) (d n : DrivenView) (f : Follows m s u d) (after : IsDriven n) where
@@ -58,7 +60,7 @@ module _ {S : Type 0} (m : Meaning S ℕ) (lawful : IsLawful m) (keeps : KeepsCa
 
   -- the client asks for what is next
   pub goes_on_leads : (step : Step) (a : Action) → WaitsForNext d.phase → GoesOn step d n a → Leads m s [] u n
-  goes_on_leads step a waits k = (tt, next_on m u u d n refl f.entries f.limits f.driven k.making after s d.phase a step refl waits f.same k)
+  goes_on_leads step a waits k = (tt, tt, next_on m u u d n refl f.entries f.limits f.driven k.making after s d.phase a step refl waits f.same k)
 
   -- a procedure runs
   pub runs_leads : (op v : ℕ) (step : Step) (a : Action) → MayBegin d → op < m.procedures u → GoesOn step d n a
@@ -67,6 +69,7 @@ module _ {S : Type 0} (m : Meaning S ℕ) (lawful : IsLawful m) (keeps : KeepsCa
       let is = same_at Resting may.resting in let c = counts_in m now in let w = (m.procedure u op v c).0 in
       subst (λ r. Leads m r (Ran 0 op v (m.procedure u op v c).1 ∷ []) w n) (sym is.state) (
         ((begins m u d n f.entries f.limits f.driven k.making after s.ended is.ended may.resting (closed_at Resting may.resting) may.alive, there, refl), tt),
+        (tt, tt),
         next_on m u w d n (lawful.procedure_numbers u op v c).entries f.entries f.limits f.driven k.making after (with_ended s.ended (base w g)) Resting a step may.resting (subst WaitsForNext (sym may.resting) tt) (same s.ended (base w g) is.ended) k,
       )
 
@@ -83,6 +86,7 @@ module _ {S : Type 0} (m : Meaning S ℕ) (lawful : IsLawful m) (keeps : KeepsCa
     body_at Resting awaits is = absurd (idle awaits.idle)
     body_at (Asked e) awaits is = absurd (idle awaits.0)
     body_at Running awaits is = (
+      tt,
       tt,
       landed_on m u left_by d n (lawful.body_numbers u x.entry x.value (counts_in m now)).entries f.entries f.limits f.driven k.making after x hand s a step carried
           (m.body u x.entry x.value (counts_in m now)).1 (keeps u x.entry x.value (counts_in m now)) (subst (λ o. IsSame s (run_hand m now o)) (sym f.driven.traced.leads.hand ∙ hand) is) k,
@@ -111,6 +115,7 @@ module _ {S : Type 0} (m : Meaning S ℕ) (lawful : IsLawful m) (keeps : KeepsCa
       let over : IsSame (finalize (with_ended s.ended now)) (end_all (base u h) IsProgramError) = record { state = refl; ended = appended s.ended now.ended (map (ended_as IsProgramError) now.waiting) is.ended } in
       subst (λ r. Leads m r (Final ∷ []) u n) (sym is.state) (
         (begins m u d n f.entries f.limits f.driven k.making after s.ended is.ended may.resting (closed_at Resting may.resting) may.alive, tt),
+        (tt, tt),
         broken m u u d n refl f.entries f.limits f.driven k.making after (finalize (with_ended s.ended now)) h a (sym (ap (λ t. t.waiting) f.driven.traced.leads.state)) over
             (led_after d n (Finalized ∷ serviced a d) k.making (noted_final a breaks k.noted)) k.tells k.fresh breaks,
       )
@@ -126,6 +131,13 @@ module _ {S : Type 0} (m : Meaning S ℕ) (lawful : IsLawful m) (keeps : KeepsCa
     busy : IsSome (find (is_on e) now.waiting)
     busy = subst (λ t. IsSome (find (is_on e) t.waiting)) f.driven.traced.leads.state (awaits_at (Asked e) phase).2
 
+    here : e < m.entries u
+    here = subst (λ k. e < k) (sym f.entries) (awaits_at (Asked e) phase).1
+
+    lower : All (λ x. x.entry < e → gate_in m now x.entry ≡ Ok false) now.waiting
+    lower = subst (λ t. All (λ x. x.entry < e → gate_in m now x.entry ≡ Ok false) t.waiting) f.driven.traced.leads.state
+        (All-weaker (λ x. x.entry < e → told d.closed x.entry ≡ true) (λ x. x.entry < e → gate_in m now x.entry ≡ Ok false) (λ x h lt. closed_at (Asked e) phase x.entry (h lt)) d.calls.object.state.waiting (awaits_at (Asked e) phase).3)
+
     serve_same : (o : Option (Call ℕ)) → IsSome o → IsSame (serve m None there e o) (run_hand m (take_out now (is_on e)) o)
     serve_same None some = let bad : false ≡ true = some in absurd (cc)
     serve_same (Some x) some = run_same s.ended m (take_out now (is_on e)) x is.ended
@@ -136,6 +148,7 @@ module _ {S : Type 0} (m : Meaning S ℕ) (lawful : IsLawful m) (keeps : KeepsCa
         subst (λ b. Leads m s (evaluation b (Asked e) now) u n) (sym runs)
         (subst (λ r. Leads m r (Serve e ∷ []) u n) (sym is.state) (
           ((busy, gate), tt),
+          (serves_next m now e here lower busy gate, tt),
           goes m u u d n refl f.entries f.limits f.driven k.making after (serve m None there e (find (is_on e) now.waiting)) Running h (subst (λ b. Tells b n) runs k.tells)
               (led_after d n (Selected e ∷ []) k.making (subst (λ b. Notes (serviced b d) d n) runs k.noted)) (serve_same (find (is_on e) now.waiting) busy) tt,
         ))
@@ -145,7 +158,7 @@ module _ {S : Type 0} (m : Meaning S ℕ) (lawful : IsLawful m) (keeps : KeepsCa
       now_closed = λ j h. elim (told_push d.closed e j (subst (λ l. told l j ≡ true) (k.closed e phase) h)) [ inl before ↦ closed_at (Asked e) phase j before | inr this ↦ subst (λ i. gate_in m now i ≡ Ok false) this gate ]
 
       unchanged : (p : Phase) → n.phase ≡ p → led_by n.calls ≡ g → IsSame s (serial_of m p u g) → IsToldSo m p now n.closed → Leads m s [] u n
-      unchanged p tells led same_as closed = (tt, goes m u u d n refl f.entries f.limits f.driven k.making after s p g tells led same_as closed)
+      unchanged p tells led same_as closed = (tt, tt, goes m u u d n refl f.entries f.limits f.driven k.making after s p g tells led same_as closed)
 
       cancel_leads : (o : Option (Call ℕ)) → find (is_due now.clock) now.waiting ≡ o → IsQuiet m now → n.phase ≡ Settling → led_by n.calls ≡ led_to g (cancellation_of o) → Leads m s (expiration_of o) u n
       cancel_leads None found calm tells led = unchanged Settling tells led is tt
@@ -155,8 +168,9 @@ module _ {S : Type 0} (m : Meaning S ℕ) (lawful : IsLawful m) (keeps : KeepsCa
           let h = happen (WasCancelled x.number) g in
           subst (λ r. Leads m r (Expire x.number ∷ []) u n) (sym is.state) (
             ((calm, subst (λ r. IsFound (λ y. is_due now.clock y ≡ true) r) (sym number) due), tt),
+            (expires_next m now calm x found, tt),
             goes m u u d n refl f.entries f.limits f.driven k.making after (cancel there x.number (find (has_number x.number) now.waiting)) Settling h tells led
-                (subst (λ r. IsSame (cancel there x.number r) (base u (record g { state = cancel g.state x.number r; hand = None }))) (sym number) (end_same s.ended (take_out now (has_number x.number)) x IsCancelled IsCancelled is.ended)) tt,
+                (subst (λ r. IsSame (cancel there x.number r) (base u (record g { state = cancel g.state x.number r; hand = None }))) (sym number) (end_same s.ended (take_out now (has_number x.number)) x IsCancelled is.ended)) tt,
           )
 
       closed_on : (b : Action) → b ≡ a → LooksOn b d.calls.object.state.waiting n.closed → Leads m s (evaluation b (Asked e) now) u n
@@ -184,6 +198,7 @@ module _ {S : Type 0} (m : Meaning S ℕ) (lawful : IsLawful m) (keeps : KeepsCa
     raised_on j gate k ProgramError is_a breaks =
         subst (λ r. Leads m r (Break e ∷ []) u n) (sym is.state) (
           ((busy, (j, gate)), tt),
+          (breaks_next m now e here lower busy j gate, tt),
           goes m u u d n refl f.entries f.limits f.driven k.making after (end_all there IsProgramError) Breaking (happen Broken g) breaks
               (led_after d n (Broken ∷ []) k.making (subst (λ b. Notes (serviced b d) d n) (sym is_a) k.noted))
               (subst (λ t. IsSame (end_all there IsProgramError) t) (sym (oldest_same u g)) (end_all_same s.ended now is.ended)) tt,

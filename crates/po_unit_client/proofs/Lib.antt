@@ -1,6 +1,8 @@
+mod Attempts
 mod Leading
 mod Moments
 mod Opening
+mod Picks
 mod Runs
 mod Turns
 mod Words

@@ -22,7 +22,7 @@ use Rattle.po_driven.specs.declared.happening.Happening.{Happening}
 use Rattle.po_driven.specs.declared.phase.Phase.{Phase}
 use Rattle.po_driven.specs.declared.phase.Phase.TheVariants.{Asked, Breaking, Resting, Running, Settling}
 use Rattle.po_unit_client.specs.Client.{Moment, unit_object}
-use Rattle.po_unit_client.specs.Serial.{IsSame}
+use Rattle.po_unit_client.specs.Serial.{AreNext, IsSame}
 use Rattle.po_unit_client.proofs.Words.{base}
 
 led_all : (d : Driving) (hs more : List Happening) → led_to d (hs ++ more) ≡ led_to (led_to d hs) more
@@ -77,12 +77,13 @@ at_most : (b : Bool) (n : ℕ) → n ≡ (if b then 1 else 0) → n ≤ 1
 at_most true n h = omega arith
 at_most false n h = omega arith
 
+-- a number is at most once among the queued calls
+pub once : (d : Driving) (n : ℕ) → IsInOnePlace d → count_by (has_number n) d.state.waiting ≤ 1
+once d n placed = omega (arith, at_most (nat_le 1 n && nat_lt n d.state.next) (places_with n d) (placed.each n))
+
 -- a queued call that is found is the one with its number
 pub by_number : (d : Driving) (p : Call ℕ → Bool) (x : Call ℕ) → IsInOnePlace d → find p d.state.waiting ≡ Some x → find (has_number x.number) d.state.waiting ≡ Some x
-by_number d p x placed found =
-    let n = x.number in
-    let once : count_by (has_number n) d.state.waiting ≤ 1 = omega (arith, at_most (nat_le 1 n && nat_lt n d.state.next) (places_with n d) (placed.each n)) in
-    found_alone p (has_number n) d.state.waiting x found (eq_self n) once
+by_number d p x placed found = found_alone p (has_number x.number) d.state.waiting x found (eq_self x.number) (once d x.number placed)
 
 module _ {S : Type 0} (m : Meaning S ℕ) where
   abbrev pub run_hand : ObjectState S ℕ → Option (Call ℕ) → ObjectState S ℕ
@@ -129,7 +130,7 @@ module _ {S : Type 0} (m : Meaning S ℕ) where
 
   -- These events happen to the serial object, which then is in the state of the client's.
   abbrev pub Leads : ObjectState S ℕ → List (Event ℕ) → S → DrivenView → Type 0
-  Leads s events u d = IsLegal m None s events × Follows (replay m None s events) u d
+  Leads s events u d = IsLegal m None s events × AreNext m s events × Follows (replay m None s events) u d
 
   pub none_closed : (t : ObjectState S ℕ) (closed : List ℕ) → closed ≡ [] → AreClosed t closed
   none_closed t closed none = λ e h. let bad : false ≡ true = subst (λ l. told l e ≡ true) none h in absurd (cc)

@@ -33,8 +33,8 @@ use Rattle.po_driven.specs.declared.words.BodyEnd.TheVariants.{Completed, Requeu
 use Rattle.po_driven.specs.declared.words.Requeue.{Requeue}
 use Rattle.po_driven.specs.declared.words.Step.{Step}
 use Rattle.po_unit_client.specs.Client.{IsCarriedOut, KeepsValue, ended_with, entry_call, said}
-use Rattle.po_unit_client.specs.Serial.{IsSame}
-use Rattle.po_unit_client.proofs.Words.{base, last_same, numbers, oldest_same, other_end, queue_same, run_same, with_ended}
+use Rattle.po_unit_client.specs.Serial.{IsSame, as_known}
+use Rattle.po_unit_client.proofs.Words.{base, known_all, last_same, oldest_same, other_end, queue_same, run_same, with_ended}
 use Rattle.po_unit_client.proofs.Moments.{AreClosed, Follows, IsToldSo, Leads, NoLimits, follows, led_after, longest_none, none_closed, none_told, rests, serial_of}
 
 -- which answers there are to a call whose barrier is open, closed or raised
@@ -134,10 +134,10 @@ module _ {S : Type 0} (m : Meaning S ℕ) where
       over : (end : End ℕ) → Notes (HasEnded end ∷ serviced a d) d n → led_by n.calls ≡ led_to (record g { state = end_call g.state x end; hand = None }) (serviced a d)
       over end noted = led_after d n (HasEnded end ∷ serviced a d) making noted ∙ ap (λ o. led_to (after_end g o end) (serviced a d)) held
 
-      completed_on : (end : End ℕ) → IsSame s (end_call (base v g) x end) → EndsBody Completed step d n a → Follows m s v n
-      completed_on end is k =
+      completed_on : (end : End ℕ) → as_known end ≡ HasCompleted 0 → IsSame s (end_call (base v g) x end) → EndsBody Completed step d n a → Follows m s v n
+      completed_on end alike is k =
           let h : Driving = record g { state = end_call g.state x (HasCompleted x.value); hand = None } in
-          settled s h a (other_end s (base v g) x end (HasCompleted x.value) is) (over (HasCompleted x.value) (k.noted x hand)) k.tells k.fresh (k.looks_on (subst (λ o. IsSome o) (sym hand) refl) refl)
+          settled s h a (other_end s (base v g) x end (HasCompleted x.value) alike is) (over (HasCompleted x.value) (k.noted x hand)) k.tells k.fresh (k.looks_on (subst (λ o. IsSome o) (sym hand) refl) refl)
 
       module _ (target w : ℕ) (with_abort : Bool) (kept : w ≡ x.value) where
         abbrev asked : Requeue
@@ -187,14 +187,14 @@ module _ {S : Type 0} (m : Meaning S ℕ) where
         requeued_on Refused is_a moves is k = absurd (subst IsCarriedOut (sym is_a) carried)
 
       pub landed_on : (o : Outcome ℕ) → KeepsValue x.value o → IsSame s (land None (base v g) x o) → EndsBody (ended_with o) step d n a → Follows m s v n
-      landed_on (Complete w) kept is k = completed_on (HasCompleted w) is k
-      landed_on (Raise w) kept is k = completed_on (HasRaised w) is k
+      landed_on (Complete w) kept is k = completed_on (HasCompleted w) refl is k
+      landed_on (Raise w) kept is k = completed_on (HasRaised w) refl is k
       landed_on (RequeueTo target with_abort w) kept is k =
           requeued_on target w with_abort kept a refl (k.moves (record { target = target; with_abort = with_abort; aborted = false; due = false }) x refl hand) is k
 
   -- the same object in another state of those that have ended
   module _ (u : S) (d n : DrivenView) (entries : m.entries u ≡ d.calls.object.state.unit) (limits : NoLimits d) (before : IsDriven d) (making : KeepsMaking d n) (after : IsDriven n)
-      (left : List (Ended ℕ)) (h : numbers left ≡ numbers (led_by d.calls).state.ended) where
+      (left : List (Ended ℕ)) (h : known_all left ≡ known_all (led_by d.calls).state.ended) where
     abbrev now : ObjectState S ℕ
     now = base u (led_by d.calls)
 
@@ -242,4 +242,4 @@ module _ {S : Type 0} (m : Meaning S ℕ) where
           let is = before.traced.leads.state in
           let entry : e < m.entries u = subst (λ k. e < k) (sym entries) may.entry in
           let number : now.next < 18_446_744_073_709_551_615 = subst (λ s. s.next < 18_446_744_073_709_551_615) is may.number in
-          (((begins phase are may.alive, entry, refl, number), tt), issued_on (gate_in m now e) i)
+          (((begins phase are may.alive, entry, refl, number), tt), (tt, tt), issued_on (gate_in m now e) i)

@@ -5,11 +5,12 @@ use Rattle.po_unit.specs.declared.outcome.Outcome.{Outcome}
 use Rattle.po_unit.specs.declared.outcome.Outcome.TheVariants.{Complete, Raise, Requeue as RequeueTo}
 use Rattle.po_calls.specs.declared.call.Call.{Call}
 use Rattle.po_calls.specs.declared.call.Deadline.{Deadline}
+use Rattle.po_calls.specs.declared.ticket.Ticket.{Ticket}
 use Rattle.po_engine.specs.ObjectState.{ObjectState, counts_in, gate_in}
 use Rattle.po_engine.specs.declared.arriving.Arriving.{Arriving}
 use Rattle.po_driven.specs.DrivenView.{DrivenView, IsDriven, MayIssue}
 use Rattle.po_driven.specs.Answering.{WaitsForNext}
-use Rattle.po_driven.specs.Steps.{EndsBody, Evaluates, Finalizes, GoesOn, Issues}
+use Rattle.po_driven.specs.Steps.{Attempts, EndsBody, Evaluates, Finalizes, GoesOn, Issues}
 use Rattle.po_driven.specs.TracedView.{led_by}
 use Rattle.po_driven.specs.declared.action.Action.{Action}
 use Rattle.po_driven.specs.declared.action.Action.TheVariants.{NoMemory, Refused}
@@ -18,6 +19,7 @@ use Rattle.po_driven.specs.declared.words.Barrier.{Barrier}
 use Rattle.po_driven.specs.declared.words.Barrier.TheVariants.{Closed, Open, Raised}
 use Rattle.po_driven.specs.declared.words.BodyEnd.{BodyEnd}
 use Rattle.po_driven.specs.declared.words.BodyEnd.TheVariants.{Completed, Requeued}
+use Rattle.po_driven.specs.declared.words.Cancellation.{Cancellation}
 use Rattle.po_driven.specs.declared.words.Step.{Step}
 
 -- what the client says of a barrier (9.5.2, 9.5.3)
@@ -62,6 +64,9 @@ pub data Turn : Type 0 where
   ends_body : Turn
   -- the client asks for what is next
   goes_on : Turn
+  -- an attempt is made to cancel the queued call of the ticket, since its time has come or since its caller was aborted, and this
+  -- comes of it (9.5.3, 9.7.2, 9.8)
+  cancels : Ticket → Bool → Cancellation → Turn
   -- the object is finalized (9.4)
   finalizes : Turn
 
@@ -97,6 +102,8 @@ module _ {S : Type 0} (m : Meaning S ℕ) where
       × (new.unit ≡ (m.body old.unit x.entry x.value (counts_in m now)).0)
   Takes goes_on action step now old new =
       WaitsForNext old.object.phase × GoesOn step old.object new.object action × (new.unit ≡ old.unit)
+  Takes (cancels ticket expired what) action step now old new =
+      MayBegin old.object × Attempts ticket expired old.object new.object what × (new.unit ≡ old.unit)
   Takes finalizes action step now old new =
       MayBegin old.object × Finalizes step old.object new.object action × (new.unit ≡ old.unit)
 
