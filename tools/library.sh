@@ -65,7 +65,8 @@ put_all() {
   done
   cp "$top/tools/installed.sh" "$to/bin/pobj"
   put_library "$to"
-  cp -r "$top/bindings/ada" "$to/share/pobj/"
+  mkdir "$to/share/pobj/ada"
+  cp -r "$top"/bindings/ada/*.* "$top/bindings/ada/parts" "$to/share/pobj/ada/"
   sed -i 's,^prefix=.*,prefix=${pcfiledir}/../..,' "$to/lib/pkgconfig/pobj.pc"
   cp "$top/README.md" "$top"/docs/*.md "$to/doc/"
   cp -r "$top/examples" "$to/examples"
