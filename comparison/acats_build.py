@@ -49,14 +49,14 @@ def main_of(folder, name):
 
 
 class Linking:
-    """A way to link programs: as GNAT does, or with the runtime folder that is named."""
+    """A way to link programs: with GNAT's shared libraries, or with the static ones of a runtime folder."""
 
     def __init__(self, name, runtime=None):
         """A way of this name, which has a folder of its own."""
         self.folder = acats_source.OUT / name
         self.support = self.folder / "support"
         self.first = [] if runtime is None else [f"--RTS={runtime}"]
-        self.last = [] if runtime is None else ["-bargs", "-static"]
+        self.last = ["-bargs", "-shared" if runtime is None else "-static"]
 
     def gnatmake(self, folder, words, last=()):
         """Carries out gnatmake in the folder."""

@@ -42,8 +42,8 @@ def text_of(file):
 
 
 def quietly(words, folder, what, kind=programs.Missing):
-    """Carries out the words in the folder. Where that can't be done a fault of this kind says what is missing then, with
-    the last lines of what they wrote."""
+    """Carries out the words in the folder. Where that can't be done a fault of this kind says so, with the last lines
+    that they wrote."""
     try:
         ended = subprocess.run(words, cwd=folder, capture_output=True, text=True, errors="replace")
     except FileNotFoundError as fault:

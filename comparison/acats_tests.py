@@ -16,10 +16,11 @@ CHAPTERS = re.compile(r"c9|c38|cb2")
 # The files of a test have its name of seven letters, and these endings.
 ENDINGS = {".a", ".ada", ".am", ".dep", ".tst"}
 NAME = 7
-# What isn't code, the specification of a protected object or type, and what else makes tasks meet.
+# What isn't code; a protected object or type, and what its specification has; what else makes tasks meet.
 NO_CODE = re.compile(r"""--[^\n]*|"(?:[^"\n]|"")*"|'[^\n]'""")
-SPECIFICATION = re.compile(r"\bprotected\s+(?!body\b)(?:type\s+)?\w+[^;]*?\bis\b(.*?)\bend\b", re.DOTALL)
-WITHOUT_ENTRIES = re.compile(r"\bprotected\s+(?!body\b)(?:type\s+)?\w+")
+PROTECTED_UNIT = r"\bprotected\s+(?!body\b|procedure\b|function\b)(?:type\s+)?\w+"
+ANY_PROTECTED = re.compile(PROTECTED_UNIT)
+SPECIFICATION = re.compile(PROTECTED_UNIT + r"\s*(?:\(.*?\)\s*)?\bis\b(.*?)\bend\b", re.DOTALL)
 TASKING = re.compile(r"\b(?:protected|task|select|abort)\b")
 ENTRY = re.compile(r"\bentry\b")
 WITH = re.compile(r"\bwith\s+([\w\s.,]+);")
@@ -67,7 +68,7 @@ def group_of(name, code):
     if CHAPTERS.match(name):
         if any(ENTRY.search(specification) for specification in SPECIFICATION.findall(code)):
             return ENTRIES
-        if WITHOUT_ENTRIES.search(code):
+        if ANY_PROTECTED.search(code):
             return PROTECTED
     return TASKS if TASKING.search(code) else None
 
