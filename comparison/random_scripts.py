@@ -1,6 +1,6 @@
-"""Random scripts over all units, where nothing else is said without the constructs by which GNAT is known to differ: a conditional call that could
-open an entry by being counted, and on the relay conditional calls, and attempts to cancel a call that is protected from
-them by a requeue without abort."""
+"""Random scripts over all units: any, or those without the constructs by which GNAT is known to differ, which are a
+conditional call that could open an entry by being counted, and on the relay conditional calls, and attempts to cancel a call
+that is protected from them by a requeue without abort."""
 
 import random
 

@@ -93,7 +93,8 @@ def scripts():
         result, is_good = judge(file)
         good = good and is_good
         print(f"{name:<{width}} {result}", flush=True)
-    print("each difference is explained" if good else "a difference isn't explained: ./compare script FILE shows it")
+    well = "each difference is explained" if programs.over is None else "none differs"
+    print(well if good else "a difference isn't explained: ./compare script FILE shows it")
     return 0 if good else 1
 
 
