@@ -14,7 +14,6 @@ use Rattle.po_engine.specs.Arrival.{Increases}
 use Rattle.po_engine.specs.ObjectState.{ObjectState}
 use Rattle.po_engine.specs.StateView.{StateView}
 use Rattle.po_engine.specs.Step.{enter, end_call, is_full, land}
-use Rattle.po_engine.proofs.Absent.{eq_self}
 use Rattle.po_driven.specs.Happening.{Driving, happen, opening, replay}
 use Rattle.po_driven.specs.OnePlace.{HasTickets, IsInOnePlace, IsLedTo, IsThereOnce, in_hands, places_with, times_in}
 use Rattle.po_driven.specs.TracedView.{TracedView, IsTraced, led_by}
@@ -80,21 +79,22 @@ full_when limit n count b test is on = sym (ap (is_full limit) is) ∙ sym (full
 pub room_when : (limit : Option ℕ) (n count : ℕ) (b : Bool) → b ≡ option_eq nat_eq limit (Some n) → n ≡ count → b ≡ false → is_full limit count ≡ false
 room_when limit n count b test is off = sym (ap (is_full limit) is) ∙ sym (full_is limit n) ∙ sym test ∙ off
 
--- a call that finds a queue which isn't full is on it
-pub queued_on : (limit : Option ℕ) (s : ObjectState ℕ ℕ) (x : Call ℕ) (n : ℕ) (b : Bool) → b ≡ option_eq nat_eq limit (Some n) → n ≡ count_by (is_on x.entry) s.waiting → b ≡ false
-    → IsSome (find (is_on x.entry) (enter limit s x).waiting)
-queued_on limit s x n b test count off =
+-- a call that finds a queue which isn't full is found there, by what is so of it
+pub queued_on : (p : Call ℕ → Bool) (limit : Option ℕ) (s : ObjectState ℕ ℕ) (x : Call ℕ) (n : ℕ) (b : Bool) → p x ≡ true → b ≡ option_eq nat_eq limit (Some n) → n ≡ count_by (is_on x.entry) s.waiting → b ≡ false
+    → IsSome (find p (enter limit s x).waiting)
+queued_on p limit s x n b is test count off =
     let room : is_full limit (count_by (is_on x.entry) s.waiting) ≡ false = sym (ap (is_full limit) count) ∙ sym (full_is limit n) ∙ sym test ∙ off in
-    rw room (found_last (is_on x.entry) s.waiting x (eq_self x.entry))
+    rw room (found_last p s.waiting x is)
 
 queued_if : (p : Call ℕ → Bool) (b : Bool) (s t : ObjectState ℕ ℕ) → b ≡ false → IsSome (find p t.waiting) → IsSome (find p (if b then s else t).waiting)
 queued_if p true s t off h = absurd (cc)
 queued_if p false s t off h = h
 
 -- so is one that is requeued, unless it is cancelled
-pub moved_on : (limit : Option ℕ) (s : ObjectState ℕ ℕ) (x : Call ℕ) (target : ℕ) (with_abort : Bool) (n : ℕ) (b : Bool) → b ≡ option_eq nat_eq limit (Some n) → n ≡ count_by (is_on target) s.waiting → b ≡ false
-    → ((with_abort ≡ true) → (x.aborted ≡ false)) → IsSome (find (is_on target) (land limit s x (Requeue target with_abort x.value)).waiting)
-moved_on limit s x target true n b test count off kept =
+pub moved_on : (p : Call ℕ → Bool) (limit : Option ℕ) (s : ObjectState ℕ ℕ) (x : Call ℕ) (target : ℕ) (with_abort : Bool) (n : ℕ) (b : Bool) → ((sealed : Bool) → p (record x { entry = target; sealed = sealed }) ≡ true)
+    → b ≡ option_eq nat_eq limit (Some n) → n ≡ count_by (is_on target) s.waiting → b ≡ false
+    → ((with_abort ≡ true) → (x.aborted ≡ false)) → IsSome (find p (land limit s x (Requeue target with_abort x.value)).waiting)
+moved_on p limit s x target true n b is test count off kept =
     let y = record x { entry = target; sealed = not true } in
-    queued_if (is_on target) (true && x.aborted) (end_call s x Cancelled) (enter limit s y) (kept refl) (queued_on limit s y n b test count off)
-moved_on limit s x target false n b test count off kept = queued_on limit s (record x { entry = target; sealed = not false }) n b test count off
+    queued_if p (true && x.aborted) (end_call s x Cancelled) (enter limit s y) (kept refl) (queued_on p limit s y n b (is (not true)) test count off)
+moved_on p limit s x target false n b is test count off kept = queued_on p limit s (record x { entry = target; sealed = not false }) n b (is (not false)) test count off

@@ -1,5 +1,5 @@
 -- What an answer says has happened, and whom it names (9.5.2 to 9.5.4, 9.7.2, D.7).
-use Rattle.std.specs.Prelude.{ℕ, ◌≡◌, ◌==◌, List, [], ◌∷◌, ◌++◌, max, Bool, true, false, Option, Some, None, find, count_by, IfSome, IsSomeAnd, if◌then◌else◌}
+use Rattle.std.specs.Prelude.{ℕ, ◌≡◌, ◌==◌, List, [], ◌∷◌, ◌++◌, max, Bool, true, false, Option, Some, None, find, count_by, IfSome, IsSome, IsSomeAnd, if◌then◌else◌}
 use Rattle.std.specs.List.{slice_get, slice_index}
 use Rattle.po_unit.specs.declared.outcome.Outcome.TheVariants.{Requeue as RequeueTo}
 use Rattle.po_calls.specs.declared.call.Call.{Call}
@@ -93,9 +93,11 @@ attempted Made n expired = WasCancelled n ∷ []
 attempted Kept n false = Marked n ∷ []
 attempted other n expired = []
 
--- Where the answer says that a call is queued, the ticket that it names is that of an accepted call (9.5.3).
+-- Where the answer says that a call is queued, one is, and the ticket that it names is the ticket of that call (9.5.3).
 abbrev pub NamesTicket : Action → Step → DrivenView → Type 0
-NamesTicket (Queued e) step new = is_live new.calls.object.tickets (record { key = step.key; number = step.number }) ≡ true
+NamesTicket (Queued e) step new =
+    (is_live new.calls.object.tickets (record { key = step.key; number = step.number }) ≡ true)
+    × IsSome (find (has_number step.number) new.calls.object.state.waiting)
 NamesTicket other step new = Unit {0}
 
 -- The body didn't requeue its call to an entry of its object.

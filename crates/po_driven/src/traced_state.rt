@@ -157,6 +157,7 @@ impl TracedState {
         ensures hand { self.new.object.hand ≡ None }
         ensures happened { self.new.happened ≡ self.old.happened ++ Arrived arriving longest ∷ [] }
         ensures queued { IfSome result (λ _. IsSome (find (is_on arriving.entry) self.new.object.state.waiting)) }
+        ensures found { IfSome result (λ ticket. IsSome (find (has_number ticket.number) self.new.object.state.waiting)) }
         ensures number { IfSome result (λ ticket. ticket.number ≡ self.old.object.state.next) }
         ensures live { IfSome result (λ ticket. is_live self.new.object.tickets ticket ≡ true) }
         ensures full { IfNone result (is_full longest (count_by (is_on arriving.entry) self.old.object.state.waiting) ≡ true) }
@@ -253,6 +254,7 @@ impl TracedState {
         ensures hand { self.new.object.hand ≡ None }
         ensures happened { self.new.happened ≡ self.old.happened ++ Requeued (RequeueTo target with_abort call.value) longest ∷ [] }
         ensures queued { IfSome result (λ _. IsSome (find (is_on target) self.new.object.state.waiting)) }
+        ensures found { IfSome result (λ ticket. IsSome (find (has_number ticket.number) self.new.object.state.waiting)) }
         ensures number { IfSome result (λ ticket. ticket.number ≡ call.number) }
         ensures live { IfSome result (λ ticket. is_live self.new.object.tickets ticket ≡ true) }
         ensures full { IfNone result (is_full longest (count_by (is_on target) self.old.object.state.waiting) ≡ true) }
@@ -293,6 +295,7 @@ impl TracedState {
         ensures hand { self.new.object.hand ≡ None }
         ensures unit { self.new.object.state.unit ≡ self.old.object.state.unit }
         ensures queued { IfSome result (λ _. IsSome (find (is_on requeue.target) self.new.object.state.waiting)) }
+        ensures found { IfSome result (λ ticket. IsSome (find (has_number ticket.number) self.new.object.state.waiting)) }
         ensures number { IfSome result (λ ticket. ticket.number ≡ call.number) }
         ensures happened { self.new.happened ≡ self.old.happened ++ (if requeue.due then Due ∷ [] else []) ++ Requeued (RequeueTo requeue.target requeue.with_abort call.value) longest ∷ [] }
         ensures live { IfSome result (λ ticket. is_live self.new.object.tickets ticket ≡ true) }

@@ -86,6 +86,7 @@ pub by_number : (d : Driving) (p : Call ℕ → Bool) (x : Call ℕ) → IsInOne
 by_number d p x placed found = found_alone p (has_number x.number) d.state.waiting x found (eq_self x.number) (once d x.number placed)
 
 module _ {S : Type 0} (m : Meaning S ℕ) where
+  -- the body of the call in hand has run, if there is one
   abbrev pub run_hand : ObjectState S ℕ → Option (Call ℕ) → ObjectState S ℕ
   run_hand t None = t
   run_hand t (Some x) = run_body m None t x
@@ -103,6 +104,7 @@ module _ {S : Type 0} (m : Meaning S ℕ) where
   abbrev pub AreClosed : ObjectState S ℕ → List ℕ → Type 0
   AreClosed t closed = (e : ℕ) → told closed e ≡ true → gate_in m t e ≡ Ok false
 
+  -- The same, where an object waits for this that was looked at since anything changed.
   abbrev pub IsToldSo : Phase → ObjectState S ℕ → List ℕ → Type 0
   IsToldSo Resting t closed = AreClosed t closed
   IsToldSo (Asked e) t closed = AreClosed t closed

@@ -15,6 +15,7 @@ use Rattle.po_engine.specs.Step.{end_all, end_call, enter, land, queue, run_body
 use Rattle.po_driven.specs.Happening.{Driving, end_oldest}
 use Rattle.po_unit_client.specs.Serial.{IsSame, as_known, known}
 
+-- calls that have ended, as far as a driven object knows of them
 abbrev pub known_all : List (Ended ℕ) → List (Ended ℕ)
 known_all xs = map known xs
 
@@ -30,6 +31,7 @@ module _ {S : Type 0} where
   other_end s t x a b alike i = record { state = i.state; ended = i.ended ∙ push t.ended t.ended (ended_as a x) (ended_as b x) refl (ap (λ e. ended_as e x) alike) }
 
   module _ (left : List (Ended ℕ)) where
+    -- the state where these calls have ended
     abbrev pub with_ended : ObjectState S ℕ → ObjectState S ℕ
     with_ended t = record t { ended = left }
 

@@ -40,6 +40,7 @@ KeepsValue v (Complete w) = Unit {0}
 KeepsValue v (Raise k) = Unit {0}
 KeepsValue v (RequeueTo target with_abort w) = w ≡ v
 
+-- It is so of each body of the unit.
 abbrev pub KeepsCallers : {S : Type 0} → Meaning S ℕ → Type 0
 KeepsCallers {S} m = (u : S) (e v : ℕ) (counts : List ℕ) → KeepsValue v (m.body u e v counts).1
 

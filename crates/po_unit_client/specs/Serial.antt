@@ -71,6 +71,7 @@ module _ {S : Type 0} (m : Meaning S ℕ) where
   IsNext s (Expire n) = pick m Textual None s ≡ Some (Expire n)
   IsNext s other = Unit {0}
 
+  -- It is so of each of the events.
   abbrev pub AreNext : ObjectState S ℕ → List (Event ℕ) → Type 0
   AreNext s [] = Unit {0}
   AreNext s (event ∷ events) = IsNext s event × AreNext (step m None s event) events
@@ -82,6 +83,7 @@ as_known (Raised k) = Completed 0
 as_known IsCancelled = IsCancelled
 as_known HasProgramError = HasProgramError
 
+-- a call that has ended, as far as a driven object knows of it
 abbrev pub known : Ended ℕ → Ended ℕ
 known x = record x { end = as_known x.end }
 

@@ -3,7 +3,8 @@ use Rattle.std.specs.List.{All}
 use Rattle.po_engine.specs.Arrival.{Increases}
 use Rattle.std.specs.Prelude.{IsSome}
 use Rattle.std.specs.List.{find}
-use Rattle.po_accepted.specs.WaitingCalls.{is_on}
+use Rattle.po_accepted.specs.WaitingCalls.{has_number, is_on}
+use Rattle.po_engine.proofs.Absent.{eq_self}
 use Rattle.po_engine.specs.Step.{is_full}
 use Rattle.po_accepted.proofs.Lists.{count_at}
 use Rattle.po_engine.specs.Driving.{counted, new_call}
@@ -48,11 +49,20 @@ invariant_of-self-else-is_full c =
 
 pub returns-clause-queued : goal.returns-clause-queued
 returns-clause-queued c =
-    let s = c.self.inside.state.state in
+    let s = c.self.inside.state.state in let e = c.args.arriving.entry in
     let x = new_call s.next c.args.arriving in
-    let entry = subst (λ v. c.args.arriving.entry < v.object.state.unit) (sym c.self.view_is) c.requires.entry in
-    subst (λ v. IsSome (find (is_on c.args.arriving.entry) v.state.waiting)) (sym c.admit-ticket.ensures.state)
-    (queued_on c.args.longest (counted s) x c.count.result c.eq-is_full.result c.eq-is_full.ensures (c.count.ensures ∙ count_at s.unit s.waiting c.args.arriving.entry entry) c.if-is_full.false)
+    let entry = subst (λ v. e < v.object.state.unit) (sym c.self.view_is) c.requires.entry in
+    subst (λ v. IsSome (find (is_on e) v.state.waiting)) (sym c.admit-ticket.ensures.state)
+    (queued_on (is_on e) c.args.longest (counted s) x c.count.result c.eq-is_full.result (eq_self e) c.eq-is_full.ensures (c.count.ensures ∙ count_at s.unit s.waiting e entry) c.if-is_full.false)
+
+pub returns-clause-found : goal.returns-clause-found
+returns-clause-found c =
+    let s = c.self.inside.state.state in let e = c.args.arriving.entry in let n = c.admit-ticket.result.number in
+    let x = new_call s.next c.args.arriving in
+    let entry = subst (λ v. e < v.object.state.unit) (sym c.self.view_is) c.requires.entry in
+    let own = subst (λ k. has_number k x ≡ true) (sym c.admit-ticket.ensures.number) (eq_self s.next) in
+    subst (λ v. IsSome (find (has_number n) v.state.waiting)) (sym c.admit-ticket.ensures.state)
+    (queued_on (has_number n) c.args.longest (counted s) x c.count.result c.eq-is_full.result own c.eq-is_full.ensures (c.count.ensures ∙ count_at s.unit s.waiting e entry) c.if-is_full.false)
 
 pub returns-then-is_full-clause-full : goal.returns-then-is_full-clause-full
 returns-then-is_full-clause-full c =

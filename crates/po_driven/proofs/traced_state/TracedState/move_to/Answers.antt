@@ -4,7 +4,8 @@ use Rattle.po_engine.specs.Arrival.{Increases}
 use Rattle.std.specs.Prelude.{IsSome}
 use Rattle.std.specs.List.{find}
 use Rattle.po_unit.specs.declared.outcome.Outcome.TheVariants.{Requeue}
-use Rattle.po_accepted.specs.WaitingCalls.{is_on}
+use Rattle.po_accepted.specs.WaitingCalls.{has_number, is_on}
+use Rattle.po_engine.proofs.Absent.{eq_self}
 use Rattle.po_engine.specs.Step.{is_full}
 use Rattle.po_accepted.proofs.Lists.{count_at}
 use Rattle.po_driven.proofs.Leads.{requeued}
@@ -56,10 +57,18 @@ invariant_of-self-else-is_full c =
 
 pub returns-clause-queued : goal.returns-clause-queued
 returns-clause-queued c =
-    let s = c.self.inside.state.state in
-    let entry = subst (λ v. c.args.target < v.object.state.unit) (sym c.self.view_is) c.requires.entry in
-    subst (λ v. IsSome (find (is_on c.args.target) v.state.waiting)) (sym c.land.ensures.state)
-    (moved_on c.args.longest s c.args.call c.args.target c.args.with_abort c.count.result c.eq-is_full.result c.eq-is_full.ensures (c.count.ensures ∙ count_at s.unit s.waiting c.args.target entry) c.if-is_full.false c.requires.kept)
+    let s = c.self.inside.state.state in let e = c.args.target in
+    let entry = subst (λ v. e < v.object.state.unit) (sym c.self.view_is) c.requires.entry in
+    subst (λ v. IsSome (find (is_on e) v.state.waiting)) (sym c.land.ensures.state)
+    (moved_on (is_on e) c.args.longest s c.args.call e c.args.with_abort c.count.result c.eq-is_full.result (λ sealed. eq_self e) c.eq-is_full.ensures (c.count.ensures ∙ count_at s.unit s.waiting e entry) c.if-is_full.false c.requires.kept)
+
+pub returns-clause-found : goal.returns-clause-found
+returns-clause-found c =
+    let s = c.self.inside.state.state in let e = c.args.target in let n = c.ticket_in_hand-ticket.result.number in
+    let entry = subst (λ v. e < v.object.state.unit) (sym c.self.view_is) c.requires.entry in
+    let own = subst (λ k. has_number k c.args.call ≡ true) (sym c.ticket_in_hand-ticket.ensures.number) (eq_self c.args.call.number) in
+    subst (λ v. IsSome (find (has_number n) v.state.waiting)) (sym c.land.ensures.state)
+    (moved_on (has_number n) c.args.longest s c.args.call e c.args.with_abort c.count.result c.eq-is_full.result (λ sealed. own) c.eq-is_full.ensures (c.count.ensures ∙ count_at s.unit s.waiting e entry) c.if-is_full.false c.requires.kept)
 
 pub returns-then-is_full-clause-full : goal.returns-then-is_full-clause-full
 returns-then-is_full-clause-full c =
