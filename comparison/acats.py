@@ -162,7 +162,7 @@ def prepare():
 
 def acats(path, beginnings):
     """Runs the tests by plain GNAT, and over the runtime folder at the path where one is named. Gives the status."""
-    runtime = None if path is None else acats_build.runtime_at(path)
+    runtime = None if path is None else programs.runtime_at(path)
     tests = acats_tests.picked(beginnings)
     if not tests:
         raise programs.Failed(f"no test of tasks begins with {' or '.join(beginnings)}")

@@ -1,6 +1,5 @@
 """How the tests of ACATS become programs: their units are written into files of their own, and gnatmake links them."""
 
-import pathlib
 import shutil
 import subprocess
 
@@ -13,20 +12,6 @@ SUPPORT = {"enumchek", "fcndecl", "impdef", "lencheck", "repbody", "repspec", "s
 FOUNDATIONS = "f*.a"
 # What has to be there once the support is compiled. Some of the rest belongs to tests of other things, and needn't be.
 NEEDED = ("report.o", "impdef.o")
-# What a runtime folder has of its own; what it shares with GNAT are links that lead out of it.
-LIBRARIES = ("libgnarl-12.so", "libgnarl.a")
-
-
-def runtime_at(path):
-    """The runtime folder at the path. One that wasn't made to the end has GNAT's own libraries, or none, and would let
-    the tests run without the engine unseen."""
-    folder = pathlib.Path(path).resolve()
-    for name in LIBRARIES:
-        library = folder / "adalib" / name
-        if not library.exists() or folder not in library.resolve().parents:
-            made = f"make one with: ./pobj ada {path}"
-            raise programs.Failed(f"{path} is no runtime folder, for it has no adalib/{name} of its own; {made}")
-    return folder
 
 
 def chop(folder, paths):

@@ -6,7 +6,6 @@ import concurrent.futures
 import dataclasses
 import itertools
 import os
-import pathlib
 import shutil
 import subprocess
 import time
@@ -20,7 +19,6 @@ STATIC = programs.OUT / "static"
 # What `./pobj ada` fills where no other folder is named.
 RUNTIME = programs.OUT / "ada"
 LIBRARY = "adalib/libgnarl-12.so"
-STATIC_LIBRARY = "adalib/libgnarl.a"
 # How long a program may take, in seconds: by plain GNAT, where several hang, and over the engine.
 PLAIN_LIMIT = 6
 OVER_LIMIT = 60
@@ -38,24 +36,12 @@ class Ended:
     hangs: bool
 
 
-def is_runtime(folder):
-    """Whether the folder is a runtime that was made to the end: its libraries are there, and aren't those of the system."""
-    return all((folder / file).is_file() and not (folder / file).is_symlink() for file in (LIBRARY, STATIC_LIBRARY))
-
-
-def runtime_at(folder):
-    """The folder of a runtime, as an absolute path."""
-    if not is_runtime(folder):
-        raise programs.Failed(f"{folder} is no runtime folder: it has no {LIBRARY} and {STATIC_LIBRARY} of its own")
-    return folder.resolve()
-
-
 def made_runtime():
     """The runtime folder that `./pobj ada` makes."""
     made = subprocess.run([programs.POBJ, "ada", str(RUNTIME)], stdin=subprocess.DEVNULL, stdout=subprocess.DEVNULL)
     if made.returncode != 0:
         raise programs.Failed(f"{programs.POBJ} ada ended with status {made.returncode}")
-    return runtime_at(RUNTIME)
+    return programs.runtime_at(RUNTIME)
 
 
 def names():
@@ -90,14 +76,9 @@ def build_all(wanted, runtime):
         list(pool.map(lambda order: build(*order), orders))
 
 
-def over(runtime):
-    """The environment in which a program that is linked with GNAT's shared runtime takes that of the folder."""
-    return {"LD_LIBRARY_PATH": str(runtime / "adalib")}
-
-
 def check_is_over(program, runtime):
     """Ends where the program would be carried out by another runtime than that of the folder."""
-    words = {"LD_TRACE_LOADED_OBJECTS": "1", **over(runtime)}
+    words = {"LD_TRACE_LOADED_OBJECTS": "1", **programs.over(runtime)}
     loaded = subprocess.run([str(program)], env={**os.environ, **words}, capture_output=True, text=True).stdout
     if str(runtime / LIBRARY) not in loaded:
         raise programs.Failed(f"{program} doesn't load {runtime / LIBRARY}:\n{loaded}")
@@ -171,7 +152,7 @@ def judged(name, runtime):
     says."""
     outputs = {
         "plain GNAT": run(SHARED / name, PLAIN_LIMIT),
-        "over pobj": run(SHARED / name, OVER_LIMIT, over(runtime)),
+        "over pobj": run(SHARED / name, OVER_LIMIT, programs.over(runtime)),
         "linked with it": run(STATIC / name, OVER_LIMIT),
     }
     plain = of_plain(name, outputs["plain GNAT"])
@@ -197,7 +178,7 @@ def all_programs(runtime):
 
 def stress_once(name, runtime, processors):
     """The lines of a run over the engine."""
-    return tuple(run(SHARED / name, OVER_LIMIT, over(runtime), processors).lines)
+    return tuple(run(SHARED / name, OVER_LIMIT, programs.over(runtime), processors).lines)
 
 
 def stress_program(name, count, runtime, processors):
@@ -231,7 +212,7 @@ def stress(count, runtime):
 
 def runtime_named(words):
     """The runtime folder that the words name, or the one that is made where they name none."""
-    return runtime_at(pathlib.Path(words[0])) if words else made_runtime()
+    return programs.runtime_at(words[0]) if words else made_runtime()
 
 
 def work_of(words):
@@ -243,5 +224,5 @@ def work_of(words):
         case ["stress", count, *folder] if count.isdigit() and len(folder) <= 1:
             return lambda: stress(int(count), runtime_named(folder))
         case [folder] if not folder.startswith("-"):
-            return lambda: all_programs(runtime_at(pathlib.Path(folder)))
+            return lambda: all_programs(programs.runtime_at(folder))
     return None

@@ -13,8 +13,8 @@ TOP = HERE.parent
 OUT = HERE / "out"
 # The program pobj, unless the environment names another one.
 POBJ = os.environ.get("POBJ", str(TOP / "pobj"))
-# The runtime folder (`./pobj ada DEST`) over which the Ada programs run, or None for GNAT's own runtime.
-over = None
+# The runtime folder (`./pobj ada DEST`) over which GNAT's tasks carry out scripts, or None for GNAT's own runtime.
+runtime = None
 # How long a run of either program may take, in seconds, and building pobj.
 LIMIT = 120
 BUILD_LIMIT = 7_200
@@ -63,17 +63,22 @@ def prepare():
         raise Failed(f"{POBJ} can't be built or run: status {first.returncode}")
 
 
-def over_runtime():
-    """What the environment of an Ada program says: with a runtime folder its protected objects are carried out by pobj."""
-    return {} if over is None else {"LD_LIBRARY_PATH": f"{over}/adalib"}
+def is_runtime(folder):
+    """Whether the folder is a runtime that was made to the end: its libraries are there, and are none of GNAT's own."""
+    libraries = [folder / "adalib" / name for name in ("libgnarl-12.so", "libgnarl.a")]
+    return (folder / "POBJ").is_file() and all(library.is_file() and not library.is_symlink() for library in libraries)
 
 
-def use_runtime(folder):
-    """Has the Ada programs run over this runtime folder."""
-    global over
-    if not (folder / "adalib" / "libgnarl-12.so").is_file() or not (folder / "POBJ").is_file():
-        raise Failed(f"{folder} is no runtime folder; ./pobj ada {folder} makes one")
-    over = folder.resolve()
+def runtime_at(path):
+    """The runtime folder at the path, as an absolute one. With another folder programs would run without the engine unseen."""
+    if not is_runtime(pathlib.Path(path)):
+        raise Failed(f"{path} is no runtime folder; one is made by: ./pobj ada {path}")
+    return pathlib.Path(path).resolve()
+
+
+def over(folder):
+    """What the environment of a program says whose protected objects are carried out by pobj, in this runtime folder."""
+    return {} if folder is None else {"LD_LIBRARY_PATH": f"{folder}/adalib"}
 
 
 def run(words, text, limit=LIMIT, environment=None):
@@ -101,7 +106,7 @@ def of_pobj(text):
 def of_gnat(text, step):
     """What the protected object of GNAT writes, or None where the machine was too slow for this step of time. A call that
     is never woken takes the time that later deadlines want; what was written up to these is the answer then."""
-    ended = run([str(OUT / "carry_out"), str(step)], text, environment=over_runtime())
+    ended = run([str(OUT / "carry_out"), str(step)], text, environment=over(runtime))
     if ended.returncode not in (0, TOO_LATE):
         raise Failed(f"the Ada program ended with status {ended.returncode} on this script:\n{text}\n{ended.stderr}")
     return ended.stdout if ended.returncode == 0 or "never woken" in ended.stdout else None

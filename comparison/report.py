@@ -30,7 +30,7 @@ def stated(name):
     """What a page says that GNAT writes on the script of that name, or None where there is no page, or pobj has GNAT's
     objects: then nothing may differ."""
     file = DIFFERENCES / f"{name}.gnat"
-    return programs.comparable(file.read_text()) if programs.over is None and file.exists() else None
+    return programs.comparable(file.read_text()) if programs.runtime is None and file.exists() else None
 
 
 def compared(file):
@@ -57,7 +57,7 @@ def difference(file):
         return "pobj DOESN'T WRITE what the page says", False
     if theirs == page:
         return f"differs, explained in {file.with_suffix('.why').name}", True
-    if theirs == ours and programs.over is not None:
+    if theirs == ours and programs.runtime is not None:
         return "same", True
     if theirs == ours:
         return "same: this GNAT is another one than the page speaks of", True
@@ -84,7 +84,7 @@ def scripts():
     good = True
     rows = [(file, compared) for folder in ("examples", "cases") for file in scripts_in(programs.TOP / folder)]
     rows += [(file, difference) for file in scripts_in(DIFFERENCES)]
-    if programs.over is None:
+    if programs.runtime is None:
         rows.append((programs.HERE / "ada" / "two_functions.adb", two_functions))
     names = [str(file.relative_to(programs.TOP)) for file, _ in rows]
     width = max(len(name) for name in names)
@@ -93,7 +93,7 @@ def scripts():
         result, is_good = judge(file)
         good = good and is_good
         print(f"{name:<{width}} {result}", flush=True)
-    well = "each difference is explained" if programs.over is None else "none differs"
+    well = "each difference is explained" if programs.runtime is None else "none differs"
     print(well if good else "a difference isn't explained: ./compare script FILE shows it")
     return 0 if good else 1
 

@@ -164,7 +164,7 @@ def named(work, threads, number):
 
 def measure_ada(runtime):
     """The numbers of the Ada program by plain GNAT and over the engine, taken in turns."""
-    sides = {"GNAT": None, "over": ada_programs.over(runtime)}
+    sides = {"GNAT": None, "over": programs.over(runtime)}
     numbers = {named(row[0], row[1], row[3]): {side: [] for side in sides} for row in ADA_ROWS}
     for _ in range(ADA_ROUNDS):
         for work, threads, turns, number in ADA_ROWS:
@@ -190,8 +190,8 @@ def over_engine(runtime):
 def runtime_if_there(words):
     """The runtime folder that the words name, or else the one that `./pobj ada` made, or None where there is none."""
     if words:
-        return ada_programs.runtime_at(pathlib.Path(words[0]))
-    return ada_programs.RUNTIME if ada_programs.is_runtime(ada_programs.RUNTIME) else None
+        return programs.runtime_at(words[0])
+    return ada_programs.RUNTIME if programs.is_runtime(ada_programs.RUNTIME) else None
 
 
 def speed(words):
