@@ -49,7 +49,7 @@ refused_memory() {
 # Whether a program that hangs says in its record what waits.
 record() {
   linked hangs || return
-  POBJ_TRACE=$scratch/record timeout 1 "$scratch/hangs-linked"
+  POBJ_TRACE=$scratch/record timeout 3 "$scratch/hangs-linked"
   ../trace.sh "$scratch/record" | diff hangs.out -
 }
 
