@@ -20,9 +20,10 @@ function with_word(line,   at) {
     return substr(line, 1, at - 1) to substr(line, at + length(it))
 }
 
-function put(file,   line) {
-    while ((getline line < file) > 0) print line
-    done++
+# Puts the text of a file, which has some.
+function put(file,   line, some) {
+    while ((getline line < file) > 0) { print line; some = 1 }
+    done += some
 }
 
 function changed(number,   line, blanks) {
