@@ -2,7 +2,7 @@
 # What the pages say of the tree: each crate stands in the map, links lead somewhere, wrong bodies are few. Read by `test`.
 
 # The most wrong bodies that the tree has: each costs half a minute of a full run.
-most_edits=113
+most_edits=114
 
 # Each crate of crates.txt has a row in the map, and each row a crate.
 map_is_whole() {

@@ -197,13 +197,14 @@ pub extern "C" fn pobj_finalize(alloc: Global, handle: &mut Handle, step: &mut S
     answer_of(action)
 }
 
-/// How many calls are queued on the entry.
+/// How many calls are queued on the entry; 0 where there is no such entry.
 #[unsafe(no_mangle)]
 pub extern "C" fn pobj_count(alloc: Global, handle: &mut Handle, entry: u64) -> u64
     requires { IsSome handle.old.object }
     ensures same { handle.new.object ≡ handle.old.object }
     ensures exact { (d : DrivenView) → handle.old.object ≡ Some d → entry_named entry < d.calls.object.state.unit
         → result ≡ count_by (is_on (entry_named entry)) d.calls.object.state.waiting }
+    ensures none { (d : DrivenView) → handle.old.object ≡ Some d → d.calls.object.state.unit ≤ entry_named entry → result ≡ 0 }
 {
     let object = handle.take(alloc);
     let count = object.count(entry_of(entry));
