@@ -44,7 +44,7 @@ put_library() {
 
 # Carries out `pobj c DEST`.
 library() {
-  if [ $# -ne 1 ]; then
+  if [ $# -ne 1 ] || [[ $1 == -* ]]; then
     say "pobj c takes a folder, into which it puts the library for C"
     exit 2
   fi
@@ -65,10 +65,12 @@ put_all() {
   done
   cp "$top/tools/installed.sh" "$to/bin/pobj"
   put_library "$to"
-  mkdir "$to/share/pobj/ada"
+  mkdir "$to/share/pobj/ada" "$to/share/pobj/picture" "$to/doc/pictures"
   cp -r "$top"/bindings/ada/*.* "$top/bindings/ada/parts" "$to/share/pobj/ada/"
+  cp "$top"/tools/picture/{picture,story,timeline,marks,svg}.py "$to/share/pobj/picture/"
   sed -i 's,^prefix=.*,prefix=${pcfiledir}/../..,' "$to/lib/pkgconfig/pobj.pc"
-  cp "$top/README.md" "$top"/docs/*.md "$to/doc/"
+  cp "$top/README.md" "$top/CONTRIBUTING.md" "$top"/docs/*.md "$top"/docs/*.svg "$to/doc/"
+  cp "$top"/docs/pictures/*.svg "$to/doc/pictures/"
   cp -r "$top/examples" "$to/examples"
   rt version >"$to/KIT"
   (cd "$to" && find . -type f ! -name SHA256SUMS | LC_ALL=C sort | xargs sha256sum >SHA256SUMS)

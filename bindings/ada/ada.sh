@@ -27,7 +27,7 @@ case "$#$1" in
     "$here/make.sh" "$1" "$library"
     dest=$(cd "$1" && pwd)
     say "the runtime is in $dest. A program that is compiled now:"
-    say "  gnatmake --RTS=$dest PROGRAM.adb -bargs -static"
+    say "  gnatmake -f --RTS=$dest PROGRAM.adb -bargs -static"
     say "and one that is linked already, with GNAT's shared libraries:"
     say "  LD_LIBRARY_PATH=$dest/adalib ./PROGRAM"
     ;;

@@ -62,17 +62,27 @@ package body System.Tasking.Protected_Objects.Actions is
    pragma Inline (Trace);
    --  Records what came of a call, if it is asked for
 
-   procedure End_Call
+   procedure Take_Off (Call : Entry_Call_Link);
+   pragma Inline (Take_Off);
+   --  The call is off its queue, and can't be cancelled
+
+   procedure End_Now
      (Self_ID : Task_Id;
       Call    : Entry_Call_Link;
       State   : Entry_Call_State);
    --  Ends the call, and wakes its caller
 
-   procedure End_By
+   procedure End_Call
      (Self_ID : Task_Id;
+      Object  : Protection_Entries_Access;
       Call    : Entry_Call_Link;
-      Why     : Exception_Id);
-   --  Ends the call by an exception of the runtime's own, without a message
+      State   : Entry_Call_State);
+   --  Ends the call of this task, and that of another one once the object's
+   --  lock is given up. Until then its caller waits, whatever comes: the call
+   --  isn't queued, and hasn't ended.
+
+   procedure Raise_In_Caller (Call : Entry_Call_Link; Why : Exception_Id);
+   --  The call ends by an exception of the runtime's own, without a message
 
    procedure Note_Queued
      (Self_ID : Task_Id;
@@ -142,11 +152,11 @@ package body System.Tasking.Protected_Objects.Actions is
      (Self_ID : Task_Id;
       Call    : Entry_Call_Link;
       Last    : in out Entry_Call_Link);
-   --  A call that was requeued to another object arrives there. What follows
-   --  elsewhere joins the ring.
+   --  A call that was requeued to another object arrives there. What is put
+   --  off there joins the ring.
 
-   procedure Issue_All (Self_ID : Task_Id; Ring : Entry_Call_Link);
-   --  Issues the calls of a ring, one after the other
+   procedure Look_After (Self_ID : Task_Id; Ring : Entry_Call_Link);
+   --  Ends or issues the calls of a ring, one after the other
 
    function Is_Cancelled (Call : Entry_Call_Link) return Boolean;
    --  Whether the engine cancels the queued call now
@@ -240,17 +250,29 @@ package body System.Tasking.Protected_Objects.Actions is
    end Trace;
 
    --------------
-   -- End_Call --
+   -- Take_Off --
    --------------
 
-   procedure End_Call
+   procedure Take_Off (Call : Entry_Call_Link) is
+   begin
+      Call.Next := null;
+
+      if Call.State = Now_Abortable then
+         Call.State := Was_Abortable;
+      end if;
+   end Take_Off;
+
+   -------------
+   -- End_Now --
+   -------------
+
+   procedure End_Now
      (Self_ID : Task_Id;
       Call    : Entry_Call_Link;
       State   : Entry_Call_State)
    is
       Caller : constant Task_Id := Call.Self;
    begin
-      Call.Next := null;
       STPO.Write_Lock (Caller);
       Initialization.Wakeup_Entry_Caller (Self_ID, Call, State);
 
@@ -264,16 +286,33 @@ package body System.Tasking.Protected_Objects.Actions is
       end if;
 
       STPO.Unlock (Caller);
+   end End_Now;
+
+   --------------
+   -- End_Call --
+   --------------
+
+   procedure End_Call
+     (Self_ID : Task_Id;
+      Object  : Protection_Entries_Access;
+      Call    : Entry_Call_Link;
+      State   : Entry_Call_State) is
+   begin
+      Take_Off (Call);
+
+      if Call.Self = Self_ID then
+         End_Now (Self_ID, Call, State);
+      else
+         Call.Prev := To_Link (Entry_Call_State'Pos (State));
+         Put_Off (Object, Call);
+      end if;
    end End_Call;
 
-   ------------
-   -- End_By --
-   ------------
+   ---------------------
+   -- Raise_In_Caller --
+   ---------------------
 
-   procedure End_By
-     (Self_ID : Task_Id;
-      Call    : Entry_Call_Link;
-      Why     : Exception_Id) is
+   procedure Raise_In_Caller (Call : Entry_Call_Link; Why : Exception_Id) is
    begin
       Call.Exception_To_Raise := Why;
 
@@ -283,9 +322,7 @@ package body System.Tasking.Protected_Objects.Actions is
          Save_Occurrence
            (Call.Self.Common.Compiler_Data.Current_Excep, Null_Occurrence);
       end if;
-
-      End_Call (Self_ID, Call, Done);
-   end End_By;
+   end Raise_In_Caller;
 
    ----------------
    -- Look_Again --
@@ -341,14 +378,7 @@ package body System.Tasking.Protected_Objects.Actions is
       Call   : Entry_Call_Link;
       E      : Protected_Entry_Index) return Boolean is
    begin
-      Call.Next := null;
-
-      --  It can't be cancelled while it is served
-
-      if Call.State = Now_Abortable then
-         Call.State := Was_Abortable;
-      end if;
-
+      Take_Off (Call);
       Object.Call_In_Progress := Call;
       Object.Entry_Bodies
         (Object.Find_Body_Index (Object.Compiler_Info, E)).Action
@@ -377,7 +407,7 @@ package body System.Tasking.Protected_Objects.Actions is
                  Call.Self = Self_ID
                    and then Call.Exception_To_Raise /= Null_Id;
    begin
-      End_Call (Self_ID, Call, Done);
+      End_Call (Self_ID, Object, Call, Done);
 
       if Is_Own and then Answer /= Rest then
          Carry_Out_Beside (Self_ID, Object, Answer, Told);
@@ -402,7 +432,8 @@ package body System.Tasking.Protected_Objects.Actions is
             (if Call.With_Abort then Requeued_With_Abort else Requeued),
             Word (Call.E - 1), Attempted (Call), Told'Address);
       else
-         Send_Elsewhere (Object, Call);
+         Call.Prev := null;
+         Put_Off (Object, Call);
          return pobj_body_ended
            (Engine_Of (Object.all), Requeued_Elsewhere, 0, 0, Told'Address);
       end if;
@@ -494,13 +525,14 @@ package body System.Tasking.Protected_Objects.Actions is
 
             when Now_Cancelled =>
                Trace (Object, To_Link (Told.Caller), "cancelled");
-               End_Call (Self_ID, To_Link (Told.Caller), Cancelled);
+               End_Call (Self_ID, Object, To_Link (Told.Caller), Cancelled);
                Now := pobj_next (Engine_Of (Object.all), Told'Address);
 
             when Now_Broken =>
                Trace (Object, To_Link (Told.Caller), "program_error");
-               End_By (Self_ID, To_Link (Told.Caller),
-                       Program_Error'Identity);
+               Raise_In_Caller
+                 (To_Link (Told.Caller), Program_Error'Identity);
+               End_Call (Self_ID, Object, To_Link (Told.Caller), Done);
                Now := pobj_next (Engine_Of (Object.all), Told'Address);
 
             when others =>
@@ -537,7 +569,8 @@ package body System.Tasking.Protected_Objects.Actions is
 
       if Answer = No_Memory then
          Trace (Object, Call, "raised STORAGE_ERROR");
-         End_By (Self_ID, Call, Storage_Error'Identity);
+         Raise_In_Caller (Call, Storage_Error'Identity);
+         End_Call (Self_ID, Object, Call, Done);
       else
          Carry_Out (Self_ID, Object, Answer, Told);
       end if;
@@ -580,7 +613,8 @@ package body System.Tasking.Protected_Objects.Actions is
    procedure Issue_To_Task (Self_ID : Task_Id; Call : Entry_Call_Link) is
    begin
       if not Rendezvous.Task_Do_Or_Queue (Self_ID, Call) then
-         End_By (Self_ID, Call, Tasking_Error'Identity);
+         Raise_In_Caller (Call, Tasking_Error'Identity);
+         End_Now (Self_ID, Call, Done);
       end if;
    end Issue_To_Task;
 
@@ -595,7 +629,7 @@ package body System.Tasking.Protected_Objects.Actions is
    is
       Object    : constant Protection_Entries_Access :=
                     To_Protection (Call.Called_PO);
-      Sent      : Entry_Call_Link;
+      Put_There : Entry_Call_Link;
       Violation : Boolean;
 
    begin
@@ -607,33 +641,37 @@ package body System.Tasking.Protected_Objects.Actions is
       end;
 
       if Violation then
-         End_By (Self_ID, Call, Program_Error'Identity);
+         Raise_In_Caller (Call, Program_Error'Identity);
+         End_Now (Self_ID, Call, Done);
       else
          Issue (Self_ID, Object, Call);
-         Take_Sent (Object, Sent);
-         Join (Last, Sent);
+         Take_Put_Off (Object, Put_There);
+         Join (Last, Put_There);
          Unlock_Entries (Object);
       end if;
    end Issue_To_Object;
 
-   ---------------
-   -- Issue_All --
-   ---------------
+   ----------------
+   -- Look_After --
+   ----------------
 
-   procedure Issue_All (Self_ID : Task_Id; Ring : Entry_Call_Link) is
+   procedure Look_After (Self_ID : Task_Id; Ring : Entry_Call_Link) is
       Last : Entry_Call_Link := Ring;
       Call : Entry_Call_Link;
    begin
       while Last /= null loop
          Take_First (Last, Call);
 
-         if Call.Called_Task /= null then
+         if Call.Prev /= null then
+            End_Now
+              (Self_ID, Call, Entry_Call_State'Val (To_Word (Call.Prev)));
+         elsif Call.Called_Task /= null then
             Issue_To_Task (Self_ID, Call);
          else
             Issue_To_Object (Self_ID, Call, Last);
          end if;
       end loop;
-   end Issue_All;
+   end Look_After;
 
    -----------
    -- Leave --
@@ -646,13 +684,13 @@ package body System.Tasking.Protected_Objects.Actions is
       Ring : Entry_Call_Link := null;
    begin
       if Serves (Object) then
-         Take_Sent (Object, Ring);
+         Take_Put_Off (Object, Ring);
       end if;
 
       Unlock_Entries (Object);
 
       if Ring /= null then
-         Issue_All (Self_ID, Ring);
+         Look_After (Self_ID, Ring);
       end if;
    end Leave;
 
@@ -665,6 +703,7 @@ package body System.Tasking.Protected_Objects.Actions is
       Object  : Protection_Entries_Access)
    is
       Told : aliased Step;
+      Ring : Entry_Call_Link;
    begin
       --  There are no queues where there was no memory for them
 
@@ -672,6 +711,8 @@ package body System.Tasking.Protected_Objects.Actions is
          Carry_Out
            (Self_ID, Object,
             pobj_finalize (Engine_Of (Object.all), Told'Address), Told);
+         Take_Put_Off (Object, Ring);
+         Look_After (Self_ID, Ring);
          Free (Object);
       end if;
    end Finalize;

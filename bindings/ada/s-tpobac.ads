@@ -31,9 +31,10 @@ package System.Tasking.Protected_Objects.Actions is
    procedure Leave
      (Self_ID : Task_Id;
       Object  : Entries.Protection_Entries_Access);
-   --  Gives up the lock of an object at rest, and then issues the calls that
-   --  its bodies requeued to other objects or to tasks (9.5.4), with no lock
-   --  held in between.
+   --  Gives up the lock of an object at rest. Then it ends the calls of other
+   --  tasks that have ended, and issues the calls that bodies requeued to
+   --  other objects or to tasks (9.5.4), with no lock held in between: a
+   --  caller that is woken finds the object's lock free.
 
    procedure Finalize
      (Self_ID : Task_Id;

@@ -1,5 +1,6 @@
 with Interfaces.C;
 
+with System.OS_Interface;
 with System.Restrictions;
 with System.Task_Primitives.Operations;
 with System.Tasking.Initialization;
@@ -16,8 +17,28 @@ package body System.Tasking.Protected_Objects.Queues is
    Queuing_Policy : constant Character;
    pragma Import (C, Queuing_Policy, "__gl_queuing_policy");
 
+   Locking_Policy : constant Character;
+   pragma Import (C, Locking_Policy, "__gl_locking_policy");
+
    Most_Entries : constant := 65_535;
    --  As pobj.h has it
+
+   use type Interfaces.C.int;
+   use System.OS_Interface;
+
+   --  A lock as System.Task_Primitives has it
+
+   type Lock_Parts is record
+      RW : aliased pthread_rwlock_t;
+      WO : aliased pthread_mutex_t;
+   end record;
+
+   PTHREAD_MUTEX_ADAPTIVE_NP : constant := 3;
+
+   function pthread_mutexattr_settype
+     (Attributes : access pthread_mutexattr_t;
+      Kind       : Interfaces.C.int) return Interfaces.C.int;
+   pragma Import (C, pthread_mutexattr_settype);
 
    function Longest
      (Object : Protection_Entries_Access;
@@ -27,6 +48,11 @@ package body System.Tasking.Protected_Objects.Queues is
 
    procedure Set_Limits (Object : Protection_Entries_Access);
    --  Tells the engine the longest queue of each entry that has one
+
+   procedure Make_Adaptive (Object : Protection_Entries_Access);
+   --  Who finds the object's lock taken looks some hundred times whether it
+   --  is free before it sleeps, as a protected action is short. Under a
+   --  locking policy (D.3) the lock stays GNARL's.
 
    ------------
    -- Serves --
@@ -95,6 +121,39 @@ package body System.Tasking.Protected_Objects.Queues is
       end loop;
    end Set_Limits;
 
+   -------------------
+   -- Make_Adaptive --
+   -------------------
+
+   procedure Make_Adaptive (Object : Protection_Entries_Access) is
+      Lock : aliased Lock_Parts;
+      for Lock'Address use Object.L'Address;
+      pragma Import (Ada, Lock);
+
+      Attributes : aliased pthread_mutexattr_t;
+      Result     : Interfaces.C.int := 0;
+
+   begin
+      if Locking_Policy in 'C' | 'I' | 'R'
+        or else pthread_mutexattr_init (Attributes'Access) /= 0
+      then
+         return;
+      end if;
+
+      if pthread_mutexattr_settype
+           (Attributes'Access, PTHREAD_MUTEX_ADAPTIVE_NP) = 0
+        and then pthread_mutex_destroy (Lock.WO'Access) = 0
+      then
+         Result := pthread_mutex_init (Lock.WO'Access, Attributes'Access);
+      end if;
+
+      if pthread_mutexattr_destroy (Attributes'Access) /= 0
+        or else Result /= 0
+      then
+         raise Storage_Error with "no memory for the lock of an object";
+      end if;
+   end Make_Adaptive;
+
    ----------
    -- Make --
    ----------
@@ -114,6 +173,7 @@ package body System.Tasking.Protected_Objects.Queues is
          raise Storage_Error with "a protected object over 65_535 entries";
       end if;
 
+      Make_Adaptive (Object);
       Initialization.Defer_Abort_Nestable (Self_ID);
       Is_Made :=
         pobj_make (Engine_Of (Object.all), Word (Object.Num_Entries)) /= 0;
@@ -196,29 +256,29 @@ package body System.Tasking.Protected_Objects.Queues is
       First.Acceptor_Prev_Call := null;
    end Take_First;
 
-   --------------------
-   -- Send_Elsewhere --
-   --------------------
+   -------------
+   -- Put_Off --
+   -------------
 
-   procedure Send_Elsewhere
+   procedure Put_Off
      (Object : Protection_Entries_Access;
       Call   : Entry_Call_Link) is
    begin
       Call.Acceptor_Prev_Call := Call;
       Join (Object.Entry_Queues (1).Tail, Call);
-   end Send_Elsewhere;
+   end Put_Off;
 
-   ---------------
-   -- Take_Sent --
-   ---------------
+   ------------------
+   -- Take_Put_Off --
+   ------------------
 
-   procedure Take_Sent
+   procedure Take_Put_Off
      (Object : Protection_Entries_Access;
       Ring   : out Entry_Call_Link) is
    begin
       Ring := Object.Entry_Queues (1).Tail;
       Object.Entry_Queues (1).Tail := null;
-   end Take_Sent;
+   end Take_Put_Off;
 
    ----------
    -- Stop --

@@ -1,6 +1,6 @@
---  The entry queues of an object that the engine has, and the calls that its
---  bodies requeued elsewhere. Nothing is elaborated here, so that programs
---  which are linked already can use it.
+--  The entry queues of an object that the engine has, and the calls that are
+--  put off until its lock is given up. Nothing is elaborated here, so that
+--  programs which are linked already can use it.
 
 with System.Tasking.Protected_Objects.Entries;
 with System.Tasking.Protected_Objects.Pobj;
@@ -8,8 +8,8 @@ with System.Tasking.Protected_Objects.Pobj;
 package System.Tasking.Protected_Objects.Queues is
 
    --  The first queue of GNARL's has no other use here: its Head is the
-   --  engine's, and its Tail the last of the calls that bodies requeued
-   --  elsewhere. These are in a ring, chained by Acceptor_Prev_Call.
+   --  engine's, and its Tail the last of the calls that are put off. These
+   --  are in a ring, chained by Acceptor_Prev_Call.
 
    function Serves
      (Object : Entries.Protection_Entries_Access) return Boolean;
@@ -36,16 +36,16 @@ package System.Tasking.Protected_Objects.Queues is
       E      : Protected_Entry_Index) return Natural;
    --  How many calls are queued on the entry (9.9)
 
-   procedure Send_Elsewhere
+   procedure Put_Off
      (Object : Entries.Protection_Entries_Access;
       Call   : Entry_Call_Link);
-   --  A body requeued the call to another object or to a task: it is issued
-   --  there once the object's lock is given up.
+   --  The call is looked after once the object's lock is given up: it has
+   --  ended, or a body requeued it to another object or to a task.
 
-   procedure Take_Sent
+   procedure Take_Put_Off
      (Object : Entries.Protection_Entries_Access;
       Ring   : out Entry_Call_Link);
-   pragma Inline (Take_Sent);
+   pragma Inline (Take_Put_Off);
    --  Takes the ring of those calls, or null
 
    procedure Join (Last : in out Entry_Call_Link; More : Entry_Call_Link);

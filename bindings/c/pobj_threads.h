@@ -16,7 +16,7 @@
    return alone: not by longjmp, an exception of C++ or the cancellation of their thread. They make no entry call, which is
    potentially blocking (9.5.1). They may call procedures and functions of other objects, as long as locks are always taken in
    the same order. An operation on the object itself is refused there, and pobj_entry_count may be asked everywhere. There are
-   no priorities and no ceilings (D.3).
+   no priorities and no ceilings (D.3). pthread_cancel doesn't end a call that waits: pobj_abort does.
 
    This is a header alone, of C11 or C++17, for POSIX.1-2008. Under -std=c11, define _POSIX_C_SOURCE as 200809L before the
    first header. Names that begin with pobj_threads_ aren't for programs. */
@@ -47,14 +47,17 @@ typedef enum {
     POBJ_CALL_EXPIRED,       /* it is cancelled: its time has come, or it is conditional and would wait (9.7.2, 9.7.3) */
     POBJ_CALL_PROGRAM_ERROR, /* the object is finalized (9.4), a barrier raised (9.5.3), or the queue was full (D.7) */
     POBJ_CALL_NO_MEMORY,     /* there was no memory to accept or to queue it; unless it was requeued, nothing has changed */
-    POBJ_CALL_MISUSE         /* no such entry or time, a record that is in use, or a thread that is inside the object */
+    POBJ_CALL_MISUSE         /* no such entry or time, a record that is in use, a thread that is inside the object, or a body that
+                                answered none of its numbers */
 } pobj_outcome;
 
 /* An entry (9.5.2). */
 typedef struct {
     const char *name;                        /* for the reader */
     bool (*barrier)(pobj_protected *object); /* whether it is open, or what pobj_raise_barrier answers; NULL: always open */
-    int (*body)(pobj_call *call);            /* POBJ_COMPLETED, POBJ_FAILED, or what pobj_raise or a requeue answers */
+    int (*body)(pobj_call *call);            /* POBJ_COMPLETED, or what pobj_raise or a requeue answers; or POBJ_FAILED: the
+                                                data can't be relied upon any more, and all queued calls end by Program_Error,
+                                                but the body's own call as pobj_raise said before, or completed */
 } pobj_entry;
 
 /* A protected object (9.4). Barriers, procedures and functions read the first two parts; the rest isn't for programs. */

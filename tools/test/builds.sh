@@ -38,6 +38,36 @@ make_repository() {
   done
 }
 
+# A picture of what a trial answers; one of what ran before a fault, whose line is that of the script; and no picture of no command, of
+# a file that isn't there, of other words, and where the run has another status.
+pictures_there() {
+  local script=$scratch/build/script answers
+  ln -s "$(python3 -c 'import sys; print(sys.executable)')" "$scratch/build/bin/python3"
+  printf '# A signal.\nunit signal\ncall Wait 1\n' >"$script"
+  touch "$scratch/build/crates/pobj_run/src/main.rt"
+  answers='printf "value 0\nWait 0\nclock 0\nnext 1\n#1\nvalue 0\nWait 1\nclock 0\nnext 2\n"'
+  act_as "$answers; echo 'run=ended status=0 proved=no' >&2; exit"
+  call_there 0 picture "$script"
+  wrote_there out "<title>Call 1 waits on Wait from line 3 to the end.</title>"
+  wrote_there err "an unproved trial"
+  act_as "$answers; echo 'pobj: line 8: unknown command' >&2; echo 'run=ended status=1 proved=no' >&2; exit"
+  echo 'cal Wait 2' >>"$script"
+  call_there 1 picture "$script"
+  wrote_there out "Line 4 has a fault, unknown command, and the run ends there: cal Wait 2"
+  wrote_there err "pobj: line 4: unknown command"
+  act_as "echo 'pobj: out of memory' >&2; echo 'run=ended status=4 proved=no' >&2; exit"
+  call_there 4 picture "$script"
+  act_as "$answers; echo 'run=ended status=0 proved=no' >&2; exit"
+  call_there 4 picture "$script"
+  wrote_there err "line 4: there is no answer to it"
+  call_there 1 picture
+  wrote_there err "the script has no command"
+  call_there 4 picture "$script.none"
+  wrote_there err "script.none can't be opened: No such file or directory"
+  call_there 2 picture "$script" more
+  if [ -s "$scratch/out" ]; then fail "words that are refused draw a picture"; else pass; fi
+}
+
 # A trial that is told to stop leaves nothing running.
 stopped() {
   local pid look
@@ -63,6 +93,8 @@ stopped() {
 builds() {
   make_repository
   call_there 6 run
+  call_there 6 picture
+  wrote_there err "the command python3 isn't found"
   act_as 'cat >/dev/null; echo tried; echo "pobj: own" >&2; echo "checked: ended" >&2; echo "run=ended status=1 proved=no" >&2; exit 1'
   call_there 1 run
   wrote_there out tried
@@ -85,5 +117,7 @@ builds() {
   call_there 0 build
   call_there 2 build everything
   call_there 2 c
+  call_there 2 c --help
+  pictures_there
   stopped
 }

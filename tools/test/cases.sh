@@ -77,6 +77,15 @@ run_cases() {
   broken examples/buffer.pobj /dev/full "write failed"
 }
 
+# The pictures of the pages, drawn of what the built program answers.
+draw_pictures() {
+  local file script
+  for file in docs/pictures/*.out; do
+    script=$(find examples comparison/differences -name "$(basename "$file" .out).pobj")
+    if ./pobj picture "$script" 2>&1 | cmp -s - "${file%.out}.svg"; then pass; else fail "./pobj picture $script differs from ${file%.out}.svg"; fi
+  done
+}
+
 # A script that is typed at a terminal.
 typed() {
   if timeout 120 python3 tools/test/terminal.py ./pobj; then pass; else fail "a script that is typed"; fi
@@ -98,10 +107,24 @@ lay_out_cases() {
   done
 }
 
+# Lays out, for the program that carries out scripts, the copies of those that the pages have pictures of, with what these were drawn
+# from.
+lay_out_pictures() {
+  local file name
+  for file in docs/pictures/*.out; do
+    name=picture-$(basename "$file" .out)
+    python3 tools/picture/pages.py asking "${name#picture-}" >"$scratch/$1/cases/$name"
+    cp "$file" "$scratch/$1/cases/$name.stdout"
+    echo run >"$scratch/$1/cases/$name.args"
+    echo 0 >"$scratch/$1/$name.want"
+  done
+}
+
 # Carries out the cases of the program by one trial of its sources. It compares what they write and their statuses.
 try_cases() {
   local file name
   lay_out_cases "$1"
+  [ "$1" != pobj_run ] || lay_out_pictures "$1"
   (cd "crates/$1" && rt try --seconds 120 --cases "$scratch/$1/cases") >"$scratch/$1/said" 2>&1
   for file in "$scratch/$1"/*.want; do
     name=$(basename "$file" .want)

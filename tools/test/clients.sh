@@ -30,6 +30,11 @@ packed_ada() {
   fi
 }
 
+# The packed picture of a script.
+packed_picture() {
+  if env -i "PATH=$2" "$1/bin/pobj" picture examples/relay.pobj | cmp -s - docs/pictures/relay.svg; then pass; else fail "the packed pobj draws another picture"; fi
+}
+
 # What `pobj dist` packs, in a folder of its own and with no toolchain in the path: it runs a script, its example is compiled, and an
 # Ada program runs over its runtime.
 unpacked() {
@@ -39,6 +44,7 @@ unpacked() {
   if env -i PATH=$bare gcc -std=c11 "-I$to/include" "$to/share/pobj/examples/buffer.c" "-L$to/lib" -lpobj -lpthread -o "$scratch/buffer" \
     && "$scratch/buffer" | cmp -s - "$to/share/pobj/examples/buffer.out"; then pass; else fail "the packed library doesn't run its example"; fi
   packed_ada "$to" "$bare"
+  packed_picture "$to" "$(dirname "$(python3 -c 'import sys; print(sys.executable)')"):$bare"
   if (cd "$to" && sha256sum --quiet -c SHA256SUMS); then pass; else fail "the packed sums differ"; fi
 }
 

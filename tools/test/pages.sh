@@ -1,8 +1,9 @@
 # shellcheck shell=bash
-# What the pages say of the tree: each crate stands in the map, links lead somewhere, wrong bodies are few. Read by `test`.
+# What the pages say of the tree: each crate stands in the map, links and claims lead somewhere, definitions are listed, what must
+# be believed is counted, wrong bodies are few. Read by `test`, behind count.sh.
 
-# The most wrong bodies that the tree has: each costs half a minute of a full run.
-most_edits=114
+# The most wrong bodies that the tree has: each costs half a minute of a full run (CONTRIBUTING.md).
+most_edits=115
 
 # Each crate of crates.txt has a row in the map, and each row a crate.
 map_is_whole() {
@@ -15,11 +16,58 @@ map_is_whole() {
 # Each file that a page names by its path, or by the beginning of it before a star, is there.
 paths_lead_somewhere() {
   local page path
-  for page in README.md docs/*.md; do
+  for page in README.md CONTRIBUTING.md docs/*.md; do
     for path in $(grep -oE '\b(docs|crates|examples|cases|tools|comparison)/[A-Za-z0-9_./-]*[A-Za-z0-9_]' "$page" | grep -v '/out\b' | LC_ALL=C sort -u); do
       if compgen -G "$path*" >/dev/null; then pass; else fail "$page names $path, which isn't there"; fi
     done
   done
+}
+
+# docs/DEFINITIONS.md has each definition that a public clause cites, and no other.
+definitions_are_listed() {
+  python3 tools/test/definitions.py >"$scratch/definitions"
+  sed '$d' "$scratch/definitions"
+  count "$scratch/definitions" tools/test/definitions.py
+}
+
+# docs/PROVED.md has the tables of what must be believed, as they are counted now.
+believed_is_counted() {
+  if diff <(python3 tools/test/believed.py) <(sed -n '/^<!-- what /,/^<!-- until here/p' docs/PROVED.md) >"$scratch/believed"; then
+    pass
+  else
+    fail "docs/PROVED.md and tools/test/believed.py (<) differ: $(cat "$scratch/believed")"
+  fi
+}
+
+# README.md has the two numbers of what the headline rests on.
+headline_is_counted() {
+  local counted
+  counted=$(sed -nE 's/^\| all \| ([0-9]+) \| ([0-9]+) \|$/\1 definitions in \2 lines/p' docs/PROVED.md)
+  if grep -qF "$counted" README.md; then pass; else fail "README.md doesn't say '$counted', as docs/PROVED.md counts"; fi
+}
+
+# Each file, type, function and clause that the table of claims of docs/PROVED.md names is there: the names in one of the row's files.
+claims_lead_somewhere() {
+  local cell name names files
+  while read -r cell; do
+    names=$(grep -oE '`[A-Za-z_:]+`' <<<"$cell" | tr -d '`' | sed 's/::/\n/')
+    mapfile -t files < <(grep -oE 'po_[a-z_]+/src/[a-z_]+\.rt' <<<"$cell" | sed 's:^:crates/:')
+    for name in "${files[@]}"; do
+      if [ -f "$name" ]; then pass; else fail "docs/PROVED.md names $name, which isn't there"; fi
+    done
+    for name in $names; do
+      if grep -qsE "\\b(fn|struct|trait|impl.*[ :]) ?$name\\b|\\bensures $name \\{" "${files[@]}" /dev/null; then pass; else fail "docs/PROVED.md: $name isn't in ${files[*]}"; fi
+    done
+  done < <(awk -F'|' '$3 ~ /po_.*\/src\// { print $3 }' docs/PROVED.md)
+}
+
+# The code in docs/OBJECTS.md stands in the example, word for word.
+code_is_the_example() {
+  local block source
+  source=$(<crates/po_object_example/src/main.rt)$'\n'
+  while IFS= read -r -d '' block; do
+    if [[ $source == *"$block"* ]]; then pass; else fail "docs/OBJECTS.md has code that isn't in po_object_example: $block"; fi
+  done < <(awk '/^```$/ && inside { printf "%c", 0; inside = 0 } inside { print } /^```rust$/ { inside = 1 }' docs/OBJECTS.md)
 }
 
 # No more wrong bodies than a full run has time for.
@@ -32,5 +80,10 @@ edits_are_few() {
 pages() {
   map_is_whole
   paths_lead_somewhere
+  definitions_are_listed
+  believed_is_counted
+  headline_is_counted
+  claims_lead_somewhere
+  code_is_the_example
   edits_are_few
 }

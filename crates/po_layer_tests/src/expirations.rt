@@ -1,6 +1,6 @@
 //! A worked run of expirations.
 
-ghost use Rattle.std.specs.Prelude.{◌≡◌, ◌≤◌, [], ◌∷◌, IfOk};
+ghost use Rattle.std.specs.Prelude.{◌≡◌, ◌≤◌, [], ◌∷◌, None, Some, length, take, IfOk};
 
 use po_queues::Expirations;
 use std::alloc::{AllocError, Global};
@@ -8,14 +8,14 @@ use std::test::Fail;
 
 /// Keys 4, 0, 7 and 2 in order of arrival, which expire at 50, 20, 90 and 20.
 fn worked(alloc: Global) -> Result<Expirations, AllocError>
-    ensures reserved { IfOk result (λ e. 8 ≤ e.reserved) }
+    ensures reserved { IfOk result (λ e. 8 ≤ length e.calls) }
     ensures clock { IfOk result (λ e. e.clock ≡ 0) }
-    ensures items { IfOk result (λ e. e.items ≡
-        record { key = 4; time = 50; stamp = 10 } ∷ record { key = 0; time = 20; stamp = 11 }
-        ∷ record { key = 7; time = 90; stamp = 13 } ∷ record { key = 2; time = 20; stamp = 14 }
-        ∷ []) }
+    ensures calls { IfOk result (λ e. take 8 e.calls
+        ≡ Some (record { time = 20; stamp = 11 }) ∷ None ∷ Some (record { time = 20; stamp = 14 })
+        ∷ None ∷ Some (record { time = 50; stamp = 10 }) ∷ None ∷ None
+        ∷ Some (record { time = 90; stamp = 13 }) ∷ []) }
 {
-    let mut expirations = Expirations::new(alloc)?;
+    let mut expirations = Expirations::new(alloc);
     expirations.reserve(7)?;
     expirations.append(4, 10, 50);
     expirations.append(0, 11, 20);

@@ -1,19 +1,24 @@
 -- What is seen of entry queues, and what a change of what is queued makes of them.
-use Rattle.std.proofs.Common.{◌≡◌, ℕ, ◌<◌, false, List, [], ◌∷◌, ◌++◌, map, Option, Some, None, sym, ap, ◌∙◌, subst}
-use Rattle.std.specs.Prelude.{option_map}
-use Rattle.std.specs.List.{cons_option, All}
-use Rattle.std.proofs.lemmas.List.{append-nil, map-append}
-use Rattle.std.proofs.lemmas.List.Elements.{All-map, All-same, All-push, All-filter, filter_map-append}
-use Rattle.po_queues.proofs.LineLemmas.{queued_is, keys_are, arrival_keys, arrival_queue, first_key_is, next_arrival}
-use Rattle.po_queues.proofs.LineLemmas.{times_push, time_new, time_free, with_push, with_without, timed}
-use Rattle.po_queues.proofs.LineLemmas.{arrivals_without, expiring_without, expiring_free, expiring_below, first_due_is}
-use Rattle.po_queues.specs.QueuedKeys.{QueuedKey, QueuesView, IsSound, RiseBy, AreDistinct, queue_of, keys_of}
-use Rattle.po_queues.specs.QueuedKeys.{keys_on, occurs, first_key, first_of, key_after, key_after_in_queue, without_key}
-use Rattle.po_queues.specs.Expiring.{Expiring, ExpirationsView, expiring_keys, without_expiring}
-use Rattle.po_queues.specs.Expiring.{first_due as first_expiring}
-use Rattle.po_queues.specs.Arrived.{Arrived, EntryQueuesView, AreInOrder, queued, all_queued}
-use Rattle.po_queues.specs.Arrived.{arrived_keys, first_due, without_arrived}
-use Rattle.po_queues.specs.Lines.{with_expirations, as_arrival, expiring_at, expiring_of, KeepsLines}
+use Rattle.std.proofs.Common.{◌≡◌, ℕ, ◌<◌, true, false, List, [], ◌∷◌, ◌++◌, set, length, Option, Some, None, refl}
+use Rattle.std.proofs.Common.{sym, ap, ap₂, ◌∙◌, subst, inl, inr, arith, replicate, eqb}
+use Rattle.std.specs.Prelude.{option_map, IfSome, IsNone}
+use Rattle.std.specs.List.{All}
+use Rattle.std.proofs.lemmas.Bool.{cases_Bool, cases_eq, eqb-false, le-leb, ne_eqb}
+use Rattle.std.proofs.lemmas.List.{map-append, length-set, get_or-set_same, get_or-set_other}
+use Rattle.std.proofs.lemmas.List.Elements.{All-map, All-same, All-push, All-filter}
+use Rattle.po_queues.proofs.KeyLemmas.{push_free, occurs_other, taken_free}
+use Rattle.po_queues.proofs.HoldLemmas.{keys_of-without, without_none}
+use Rattle.po_queues.proofs.RoomLemmas.{read_room}
+use Rattle.po_queues.proofs.LineLemmas.{queued_is, keys_are, timed, call_written, with_push, with_without, call_gone}
+use Rattle.po_queues.proofs.LineLemmas.{stamp_found, least_found, none_found}
+use Rattle.po_queues.specs.QueuedKeys.{QueuedKey, QueuesView, IsSound, RiseBy, AreDistinct, keys_of, keys_on, occurs}
+use Rattle.po_queues.specs.QueuedKeys.{first_key, without, without_key}
+use Rattle.po_queues.specs.InOrder.{ArrivalsView}
+use Rattle.po_queues.specs.Expiring.{ExpirationsView, IsFirstDue, call_of, expiration_of}
+use Rattle.po_queues.specs.Arrived.{Arrived, EntryQueuesView, AreInOrder, queued, all_queued, arrived_keys, has_come}
+use Rattle.po_queues.specs.Arrived.{first_due, without_arrived}
+use Rattle.po_queues.specs.Lines.{with_expirations, HasItsStamp, KeepsLines}
+use Rattle.po_queues.specs.declared.expiration.Expiration.{Expiration}
 
 -- What is seen of entry queues that are kept so.
 abbrev pub lines_view : ℕ → QueuesView → ExpirationsView → EntryQueuesView
@@ -21,180 +26,237 @@ lines_view reserved by_entry expirations = record {
   total = by_entry.total;
   reserved = reserved;
   clock = expirations.clock;
-  items = with_expirations expirations.items by_entry.items;
+  items = with_expirations expirations.calls by_entry.items;
 }
 
 -- Stamps rise, with times too.
-rising_with : (times : List Expiring) (items : List QueuedKey) → RiseBy (λ x. x.stamp) items
-    → RiseBy (λ x. x.stamp) (with_expirations times items)
-rising_with times [] rises = tt
-rising_with times (x ∷ xs) rises = (
+rising_with : (calls : List (Option Expiration)) (items : List QueuedKey) → RiseBy (λ x. x.stamp) items
+    → RiseBy (λ x. x.stamp) (with_expirations calls items)
+rising_with calls [] rises = tt
+rising_with calls (x ∷ xs) rises = (
   All-map (λ (y : Arrived). x.stamp < y.stamp) _ xs rises.0,
-  rising_with times xs rises.1,
+  rising_with calls xs rises.1,
 )
 
--- What may expire once this is queued.
-abbrev pub expiring_with : List Expiring → QueuedKey → Option ℕ → List Expiring
-expiring_with times x time = times ++ cons_option (expiring_at x.key x.stamp time) []
+-- The calls that expire, where that of a key is one of them, if it has a time.
+abbrev pub calls_with : List (Option Expiration) → QueuedKey → Option ℕ → List (Option Expiration)
+calls_with calls x None = calls
+calls_with calls x (Some time) = set calls x.key (Some (record { time = time; stamp = x.stamp }))
 
--- What is queued with times, where one key more is queued, with its time.
-timed_push : (times : List Expiring) (items : List QueuedKey) (x : QueuedKey) (time : Option ℕ)
-    → occurs x.key (keys_of items) ≡ false → occurs x.key (expiring_keys times) ≡ false
-    → with_expirations (expiring_with times x time) (items ++ x ∷ []) ≡ with_expirations times items ++ timed x time ∷ []
-timed_push times items x None free unexpiring =
-    ap (λ l. with_expirations l (items ++ x ∷ [])) (append-nil times)
-    ∙ with_push times items x None (time_free x.key times unexpiring)
-timed_push times items x (Some time) free unexpiring =
-    let y : Expiring = record { key = x.key; time = time; stamp = x.stamp } in
-    with_push (times ++ y ∷ []) items x (Some time) (time_new times y unexpiring)
-    ∙ ap (λ l. l ++ timed x (Some time) ∷ []) (times_push times y items free)
+-- What calls have, once one key more is queued, with its time.
+record HasCall (calls : List (Option Expiration)) (items : List QueuedKey) (x : QueuedKey) (time : Option ℕ) : Type 0 where
+  items_are : with_expirations (calls_with calls x time) (items ++ x ∷ [])
+      ≡ with_expirations calls items ++ timed x time ∷ []
+  stamps : All (HasItsStamp (calls_with calls x time)) (items ++ x ∷ [])
+  expiring : (k : ℕ) → occurs k (keys_of (items ++ x ∷ [])) ≡ false → call_of (calls_with calls x time) k ≡ None
+  as_many : length (calls_with calls x time) ≡ length calls
+
+-- A key that isn't queued is queued, with its time.
+called : (calls : List (Option Expiration)) (items : List QueuedKey) (x : QueuedKey) (time : Option ℕ)
+    → x.key < length calls → occurs x.key (keys_of items) ≡ false → All (HasItsStamp calls) items
+    → ((k : ℕ) → occurs k (keys_of items) ≡ false → call_of calls k ≡ None) → HasCall calls items x time
+called calls items x None within free own none =
+    let no_call = none x.key free in
+    record {
+      items_are = with_push calls items x None (ap (option_map (λ c. c.time)) no_call);
+      stamps = All-push (HasItsStamp calls) items x own (subst (λ c. IfSome c (λ y. y.stamp ≡ x.stamp)) (sym no_call) tt);
+      expiring = λ k gone. none k (push_free k x.key (keys_of items) (rw map-append at gone)).1;
+      as_many = refl;
+    }
+called calls items x (Some time) within free own none =
+    let call : Expiration = record { time = time; stamp = x.stamp } in
+    let now = set calls x.key (Some call) in
+    let has : call_of now x.key ≡ Some call = get_or-set_same calls x.key (Some call) None within in
+    let others = call_written calls x.key (Some call) items free in
+    record {
+      items_are = with_push now items x (Some time) (ap (option_map (λ c. c.time)) has)
+          ∙ ap (λ l. l ++ timed x (Some time) ∷ []) others.0;
+      stamps = All-push (HasItsStamp now) items x (others.1 own)
+          (subst (λ c. IfSome c (λ y. y.stamp ≡ x.stamp)) (sym has) refl);
+      expiring = λ k gone.
+          let apart = push_free k x.key (keys_of items) (rw map-append at gone) in
+          get_or-set_other calls x.key k (Some call) None (λ e. eqb-false x.key k apart.0 (sym e)) ∙ none k apart.1;
+      as_many = length-set calls x.key (Some call);
+    }
+
+-- The first key of an entry is queued.
+first_queued : (e k : ℕ) (items : List QueuedKey) → first_key (keys_on e items) ≡ Some k
+    → occurs k (keys_of items) ≡ true
+first_queued e k [] first = let bad : None ≡ Some k = first in absurd (cc)
+first_queued e k (x ∷ xs) first = elim (cases_Bool (eqb x.key k)) [
+  | inl equal ↦ simp equal refl
+  | inr differ ↦ elim (cases_Bool (eqb x.entry e)) [
+    | inl on_entry ↦
+        let here : Some x.key ≡ Some k = simp on_entry at first in
+        let same : x.key ≡ k = cc in
+        absurd (eqb-false x.key k differ same)
+    | inr elsewhere ↦ simp differ (first_queued e k xs (simp elsewhere at first))
+  ]
+]
+
+-- Room for more calls changes no time.
+room_times : (calls : List (Option Expiration)) (m : ℕ) (items : List QueuedKey)
+    → with_expirations (calls ++ replicate m None) items ≡ with_expirations calls items
+room_times calls m [] = refl
+room_times calls m (x ∷ xs) =
+    ap₂ (λ (c : Option Expiration) (l : List Arrived). timed x (option_map (λ y. y.time) c) ∷ l)
+    (read_room None calls m x.key) (room_times calls m xs)
+
+-- What is seen with room for more keys.
+pub room_view : (reserved reserved' : ℕ) (by_entry by_entry' : QueuesView) (expirations expirations' : ExpirationsView)
+    (m : ℕ) → by_entry' ≡ record by_entry { reserved = by_entry'.reserved }
+    → expirations' ≡ record expirations { calls = expirations.calls ++ replicate m None }
+    → lines_view reserved' by_entry' expirations'
+    ≡ (let v = lines_view reserved by_entry expirations in record v { reserved = reserved' })
+room_view reserved reserved' by_entry by_entry' expirations expirations' m queues_are calls_are =
+    ap (λ (q : QueuesView). lines_view reserved' q expirations') queues_are
+    ∙ ap (λ (e : ExpirationsView). lines_view reserved' by_entry e) calls_are
+    ∙ ap (λ l. let v = lines_view reserved' by_entry expirations in record v { items = l })
+    (room_times expirations.calls m by_entry.items)
 
 -- Entry queues are kept, and this is seen of them, once a key is queued with its time.
-pub record IsQueuedNow (reserved : ℕ) (by_entry arrivals : QueuesView) (expirations : ExpirationsView)
-    (x : QueuedKey) (time : Option ℕ) (times : List Expiring) : Type 0 where
+pub record IsQueuedNow (reserved : ℕ) (by_entry : QueuesView) (arrivals : ArrivalsView) (expirations : ExpirationsView)
+    (x : QueuedKey) (time : Option ℕ) (calls : List (Option Expiration)) : Type 0 where
   pub keeps : KeepsLines reserved (record by_entry { items = by_entry.items ++ x ∷ [] })
-      (record arrivals { items = arrivals.items ++ as_arrival x ∷ [] }) (record expirations { items = times })
+      (record arrivals { keys = arrivals.keys ++ x.key ∷ [] }) (record expirations { calls = calls })
   pub view :
-      lines_view reserved (record by_entry { items = by_entry.items ++ x ∷ [] }) (record expirations { items = times })
+      lines_view reserved (record by_entry { items = by_entry.items ++ x ∷ [] }) (record expirations { calls = calls })
       ≡ (let v = lines_view reserved by_entry expirations in record v { items = v.items ++ timed x time ∷ [] })
 
-module _ {reserved : ℕ} {by_entry arrivals : QueuesView} {expirations : ExpirationsView}
+module _ {reserved : ℕ} {by_entry : QueuesView} {arrivals : ArrivalsView} {expirations : ExpirationsView}
     (lines : KeepsLines reserved by_entry arrivals expirations) where
-  -- What is queued by entry is what is seen to be queued.
-  pub seen_queued : {view : EntryQueuesView} → lines_view reserved by_entry expirations ≡ view
-      → by_entry.items ≡ all_queued view.items
-  seen_queued seen =
-      sym (queued_is expirations.items by_entry.items) ∙ ap (λ (v : EntryQueuesView). all_queued v.items) seen
+  -- The first key of an entry has arrived.
+  pub first_arrived : (e k : ℕ) → first_key (keys_on e by_entry.items) ≡ Some k → occurs k arrivals.keys ≡ true
+  first_arrived e k first = ap (occurs k) lines.arrived ∙ first_queued e k by_entry.items first
 
-  -- The keys that are queued by entry are those that are seen to be.
-  pub seen_keys : {view : EntryQueuesView} → lines_view reserved by_entry expirations ≡ view
-      → keys_of by_entry.items ≡ arrived_keys view.items
-  seen_keys seen =
-      sym (keys_are expirations.items by_entry.items) ∙ ap (λ (v : EntryQueuesView). arrived_keys v.items) seen
+  -- What is kept once a key is taken out that was queued.
+  pub without_keeps : (k : ℕ)
+      → KeepsLines reserved (record by_entry { items = without_key k by_entry.items })
+      (record arrivals { keys = without k arrivals.keys })
+      (record expirations { calls = set expirations.calls k None })
+  without_keeps k =
+      let items = by_entry.items in
+      let calls = expirations.calls in
+      let left = keys_of-without k items in
+      let gone = ap (occurs k) left ∙ taken_free k (keys_of items) in
+      record {
+        arrived = ap (without k) lines.arrived ∙ sym left;
+        stamps = (call_written calls k None (without_key k items) gone).1
+            (All-filter _ (HasItsStamp calls) items lines.stamps);
+        expiring = λ j free. elim (cases_eq j k) [
+          | inl equal ↦ subst (λ i. call_of (set calls k None) i ≡ None) (sym equal) (call_gone calls k)
+          | inr differ ↦ get_or-set_other calls k j None None differ
+              ∙ lines.expiring j (sym (occurs_other j k (keys_of items) (ne_eqb j k differ))
+              ∙ sym (ap (occurs j) left) ∙ free)
+        ];
+        keys = All-filter _ (λ x. x.key < reserved) items lines.keys;
+        entry_room = lines.entry_room;
+        arrival_room = lines.arrival_room;
+        expiration_room = omega (arith, lines.expiration_room, length-set calls k None);
+      }
 
-  -- The first key of an entry.
-  pub seen_first : {view : EntryQueuesView} → lines_view reserved by_entry expirations ≡ view
-      → (e : ℕ) → first_key (keys_on e by_entry.items) ≡ first_key (keys_on e (all_queued view.items))
-  seen_first seen e = ap (λ (items : List QueuedKey). first_key (keys_on e items)) (seen_queued seen)
+  -- What is kept once a key is taken out that wasn't queued.
+  pub left_keeps : (k : ℕ) → occurs k (keys_of by_entry.items) ≡ false
+      → KeepsLines reserved (record by_entry { items = without_key k by_entry.items }) arrivals expirations
+  left_keeps k free = subst (λ l. KeepsLines reserved (record by_entry { items = l }) arrivals expirations)
+      (sym (without_none k by_entry.items free)) lines
 
-  -- The first key of all arrivals.
-  pub seen_oldest : {view : EntryQueuesView} → lines_view reserved by_entry expirations ≡ view
-      → (first : Option (ℕ × ℕ)) → first ≡ first_of (queue_of 0 arrivals.items)
-      → option_map (λ x. x.0) first ≡ first_key (arrived_keys view.items)
-  seen_oldest seen first is =
-      ap (option_map (λ x. x.0)) (is ∙ ap (λ items. first_of (queue_of 0 items)) lines.arrived
-      ∙ ap first_of (arrival_queue by_entry.items)) ∙ first_key_is (map as_arrival by_entry.items)
-      ∙ ap first_key (arrival_keys by_entry.items ∙ seen_keys seen)
+  module _ {view : EntryQueuesView} (seen : lines_view reserved by_entry expirations ≡ view) where
+    -- What is queued by entry is what is seen to be queued.
+    pub seen_queued : by_entry.items ≡ all_queued view.items
+    seen_queued =
+        sym (queued_is expirations.calls by_entry.items) ∙ ap (λ (v : EntryQueuesView). all_queued v.items) seen
 
-  -- The next key of all arrivals.
-  pub seen_next : {view : EntryQueuesView} → lines_view reserved by_entry expirations ≡ view
-      → (k : ℕ) → key_after_in_queue k arrivals.items ≡ key_after k (arrived_keys view.items)
-  seen_next seen k =
-      ap (key_after_in_queue k) lines.arrived ∙ next_arrival k by_entry.items ∙ ap (key_after k) (seen_keys seen)
+    -- The keys that are queued by entry are those that are seen to be.
+    pub seen_keys : keys_of by_entry.items ≡ arrived_keys view.items
+    seen_keys =
+        sym (keys_are expirations.calls by_entry.items) ∙ ap (λ (v : EntryQueuesView). arrived_keys v.items) seen
 
-  -- The first key whose time has come.
-  pub seen_due : {view : EntryQueuesView} → lines_view reserved by_entry expirations ≡ view
-      → first_expiring expirations ≡ first_due view
-  seen_due seen =
-      ap (λ items. first_expiring (record expirations { items = items })) lines.expiring
-      ∙ first_due_is expirations.clock (with_expirations expirations.items by_entry.items) ∙ ap first_due seen
+    -- The keys that have arrived are those that are seen to be queued.
+    pub seen_arrived : arrivals.keys ≡ arrived_keys view.items
+    seen_arrived = lines.arrived ∙ seen_keys
+
+    -- The first key of an entry.
+    pub seen_first : (e : ℕ) → first_key (keys_on e by_entry.items) ≡ first_key (keys_on e (all_queued view.items))
+    seen_first e = ap (λ (items : List QueuedKey). first_key (keys_on e items)) seen_queued
+
+    -- The first key whose time has come.
+    pub seen_due : IsSound by_entry → (found : Option ℕ) → IfSome found (λ k. IsFirstDue expirations k)
+        → (IsNone found → (k : ℕ) → has_come expirations.clock (expiration_of expirations.calls k) ≡ false)
+        → found ≡ first_due view
+    seen_due sound None _ none = none_found expirations.clock expirations.calls by_entry.items (none refl) ∙ ap first_due seen
+    seen_due sound (Some k) first _ =
+        let calls = expirations.calls in
+        let items = by_entry.items in
+        let come : has_come expirations.clock (expiration_of calls k) ≡ true =
+        ap (λ c. has_come expirations.clock (option_map (λ (x : Expiration). x.time) c)) first.expires
+        ∙ le-leb first.call.time expirations.clock first.has_come in
+        let there : occurs k (keys_of items) ≡ true = elim (cases_Bool (occurs k (keys_of items))) [
+          | inl has ↦ has
+          | inr free ↦ let bad : None ≡ Some first.call = sym (lines.expiring k free) ∙ first.expires in absurd (cc)
+        ]
+        in
+        least_found expirations.clock calls k first.call.stamp items sound.rising lines.stamps come first.first
+        (stamp_found calls k first.call items first.expires lines.stamps there)
+        ∙ ap first_due seen
+
+    -- A key that isn't seen to be queued isn't queued by entry.
+    pub seen_free : (k : ℕ) → occurs k (arrived_keys view.items) ≡ false → occurs k (keys_of by_entry.items) ≡ false
+    seen_free k free = ap (occurs k) seen_keys ∙ free
+
+    -- A stamp above those of all that is seen to be queued is above those of all that is queued by entry.
+    pub seen_below : (n : ℕ) → All (λ x. x.stamp < n) view.items → All (λ x. x.stamp < n) by_entry.items
+    seen_below n below = All-same (λ (x : QueuedKey). x.stamp < n) _ _ seen_queued
+        (All-map (λ (x : QueuedKey). x.stamp < n) queued view.items below)
+
+    -- What is kept and seen once a key is queued that is seen to be queued nowhere.
+    pub push_seen : (x : QueuedKey) (time : Option ℕ) (calls : List (Option Expiration)) → x.key < view.reserved
+        → occurs x.key (arrived_keys view.items) ≡ false → calls ≡ calls_with expirations.calls x time
+        → IsQueuedNow reserved by_entry arrivals expirations x time calls
+    push_seen x time calls within free_seen calls_are =
+        let items = by_entry.items in
+        let here : x.key < reserved = subst (λ n. x.key < n) (ap (λ (v : EntryQueuesView). v.reserved) (sym seen)) within in
+        let now = called expirations.calls items x time (omega (arith, here, lines.expiration_room))
+        (seen_free x.key free_seen) lines.stamps lines.expiring in
+        rw calls_are (record {
+          keeps = record {
+            arrived = ap (λ l. l ++ x.key ∷ []) lines.arrived ∙ sym (map-append (λ (y : QueuedKey). y.key) items (x ∷ []));
+            stamps = now.stamps;
+            expiring = now.expiring;
+            keys = All-push (λ x. x.key < reserved) items x lines.keys here;
+            entry_room = lines.entry_room;
+            arrival_room = lines.arrival_room;
+            expiration_room = omega (arith, lines.expiration_room, now.as_many);
+          };
+          view = ap (λ l. let v = lines_view reserved by_entry expirations in record v { items = l }) now.items_are;
+        })
 
   -- What all entry queues keep.
   pub in_order : IsSound by_entry → AreInOrder (lines_view reserved by_entry expirations)
   in_order sound =
       let items = by_entry.items in
       record {
-        distinct = subst AreDistinct (sym (keys_are expirations.items items)) sound.distinct;
-        rising = rising_with expirations.items items sound.rising;
+        distinct = subst AreDistinct (sym (keys_are expirations.calls items)) sound.distinct;
+        rising = rising_with expirations.calls items sound.rising;
         entries = All-map (λ (x : Arrived). x.entry < by_entry.total) _ items sound.entries;
         keys = All-map (λ (x : Arrived). x.key < reserved) _ items lines.keys;
       }
 
-  -- A key that isn't seen to be queued isn't queued by entry.
-  pub seen_free : {view : EntryQueuesView} → lines_view reserved by_entry expirations ≡ view
-      → (k : ℕ) → occurs k (arrived_keys view.items) ≡ false → occurs k (keys_of by_entry.items) ≡ false
-  seen_free seen k free = ap (occurs k) (seen_keys seen) ∙ free
-
-  -- A stamp above those of all that is seen to be queued is above those of all that is queued by entry.
-  pub seen_below : {view : EntryQueuesView} → lines_view reserved by_entry expirations ≡ view
-      → (n : ℕ) → All (λ x. x.stamp < n) view.items → All (λ x. x.stamp < n) by_entry.items
-  seen_below {view} seen n below = All-same (λ (x : QueuedKey). x.stamp < n) _ _ (seen_queued seen)
-      (All-map (λ (x : QueuedKey). x.stamp < n) queued view.items below)
-
-  -- A key that isn't queued is no arrival.
-  pub no_arrival : (k : ℕ) → occurs k (keys_of by_entry.items) ≡ false → occurs k (keys_of arrivals.items) ≡ false
-  no_arrival k free =
-      ap (λ (items : List QueuedKey). occurs k (keys_of items)) lines.arrived
-      ∙ ap (occurs k) (arrival_keys by_entry.items) ∙ free
-
-  -- A key that isn't queued doesn't expire.
-  pub no_expiration : (k : ℕ) → occurs k (keys_of by_entry.items) ≡ false
-      → occurs k (expiring_keys expirations.items) ≡ false
-  no_expiration k free =
-      ap (λ (times : List Expiring). occurs k (expiring_keys times)) lines.expiring
-      ∙ expiring_free k (with_expirations expirations.items by_entry.items)
-      (ap (occurs k) (keys_are expirations.items by_entry.items) ∙ free)
-
-  -- A stamp above those of all that is queued is above those of all arrivals.
-  pub arrivals_below : (n : ℕ) → All (λ x. x.stamp < n) by_entry.items → All (λ x. x.stamp < n) arrivals.items
-  arrivals_below n below = All-same (λ x. x.stamp < n) _ _ lines.arrived
-      (All-map (λ (x : QueuedKey). x.stamp < n) as_arrival by_entry.items below)
-
-  -- A stamp above those of all that is queued is above those of all that may expire.
-  pub expirations_below : (n : ℕ) → All (λ x. x.stamp < n) by_entry.items → All (λ x. x.stamp < n) expirations.items
-  expirations_below n below = All-same (λ (x : Expiring). x.stamp < n) _ _ lines.expiring
-      (expiring_below n (with_expirations expirations.items by_entry.items)
-      (All-map (λ (x : Arrived). x.stamp < n) _ by_entry.items below))
-
-  -- What is kept and seen once a key is queued that is seen to be queued nowhere.
-  pub push_seen : {view : EntryQueuesView} → lines_view reserved by_entry expirations ≡ view
-      → (x : QueuedKey) (time : Option ℕ) (times : List Expiring) → x.key < view.reserved
-      → occurs x.key (arrived_keys view.items) ≡ false → times ≡ expiring_with expirations.items x time
-      → IsQueuedNow reserved by_entry arrivals expirations x time times
-  push_seen seen x time times within free_seen times_are =
-      let items = by_entry.items in
-      let more = items ++ x ∷ [] in
-      let before = with_expirations expirations.items items in
-      let free = seen_free seen x.key free_seen in
-      let now : with_expirations times more ≡ before ++ timed x time ∷ [] = ap (λ l. with_expirations l more) times_are
-      ∙ timed_push expirations.items items x time free (no_expiration x.key free) in
-      record {
-        keeps = record {
-          one = lines.one;
-          arrived = ap (λ l. l ++ as_arrival x ∷ []) lines.arrived ∙ sym (map-append as_arrival items (x ∷ []));
-          expiring = times_are ∙ ap (λ l. expiring_with l x time) lines.expiring
-              ∙ sym (filter_map-append _ before (timed x time ∷ [])) ∙ ap expiring_of (sym now);
-          keys = All-push (λ x. x.key < reserved) items x lines.keys
-              (subst (λ n. x.key < n) (ap (λ (v : EntryQueuesView). v.reserved) (sym seen)) within);
-          entry_room = lines.entry_room;
-          arrival_room = lines.arrival_room;
-          expiration_room = lines.expiration_room;
-        };
-        view = ap (λ l. let v = lines_view reserved by_entry expirations in record v { items = l }) now;
-      }
-
-  -- What is kept once a key is taken out.
-  pub without_keeps : (k : ℕ)
-      → KeepsLines reserved (record by_entry { items = without_key k by_entry.items })
-      (record arrivals { items = without_key k arrivals.items })
-      (record expirations { items = without_expiring k expirations.items })
-  without_keeps k = record {
-    one = lines.one;
-    arrived = ap (without_key k) lines.arrived ∙ arrivals_without k by_entry.items;
-    expiring = ap (without_expiring k) lines.expiring
-        ∙ sym (expiring_without k (with_expirations expirations.items by_entry.items))
-        ∙ ap expiring_of (sym (with_without k expirations.items by_entry.items));
-    keys = All-filter _ (λ x. x.key < reserved) by_entry.items lines.keys;
-    entry_room = lines.entry_room;
-    arrival_room = lines.arrival_room;
-    expiration_room = lines.expiration_room;
-  }
-
--- What is seen once a key is taken out.
+-- What is seen once a key is taken out that was queued, and its call with it.
 pub without_view : (reserved : ℕ) (by_entry : QueuesView) (expirations : ExpirationsView) (k : ℕ)
     → lines_view reserved (record by_entry { items = without_key k by_entry.items })
-    (record expirations { items = without_expiring k expirations.items }) ≡
+    (record expirations { calls = set expirations.calls k None }) ≡
     (let v = lines_view reserved by_entry expirations in record v { items = without_arrived k v.items })
 without_view reserved by_entry expirations k =
+    let items = by_entry.items in
+    let gone = ap (occurs k) (keys_of-without k items) ∙ taken_free k (keys_of items) in
     ap (λ l. let v = lines_view reserved by_entry expirations in record v { items = l })
-    (with_without k expirations.items by_entry.items)
+    ((call_written expirations.calls k None (without_key k items) gone).0 ∙ with_without k expirations.calls items)
+
+-- The same, where it wasn't.
+pub left_view : (reserved : ℕ) (by_entry : QueuesView) (expirations : ExpirationsView) (k : ℕ)
+    → lines_view reserved (record by_entry { items = without_key k by_entry.items }) expirations ≡
+    (let v = lines_view reserved by_entry expirations in record v { items = without_arrived k v.items })
+left_view reserved by_entry expirations k =
+    ap (λ l. let v = lines_view reserved by_entry expirations in record v { items = l })
+    (with_without k expirations.calls by_entry.items)

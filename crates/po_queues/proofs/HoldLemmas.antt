@@ -324,15 +324,6 @@ removed total links firsts lasts counts items h j l read counts_are firsts_are l
           (omega arith) (omega arith) (omega arith) key,
     )
 
--- an entry with no first key has nothing that is queued first
-pub first_none : (e : ℕ) (items : List QueuedKey) → first_key (keys_on e items) ≡ None
-    → first_of (queue_of e items) ≡ None
-first_none e items none = go (queue_of e items) none
-  where
-    go : (xs : List QueuedKey) → first_key (keys_of xs) ≡ None → first_of xs ≡ None
-    go [] none = refl
-    go (x ∷ xs) none = let bad : Some x.key ≡ None = none in absurd (cc)
-
 -- the first key of an entry is queued, with the stamp of what is queued first
 pub first_some : (e k : ℕ) (items : List QueuedKey) → AreDistinct (keys_of items)
     → first_key (keys_on e items) ≡ Some k

@@ -3,7 +3,7 @@ use Rattle.std.proofs.Common.{◌≡◌, ℕ, ◌+◌, true, false, cond, eqb, L
 use Rattle.std.proofs.Common.{refl, sym, ap, ◌∙◌, inl, inr, arith}
 use Rattle.std.proofs.lemmas.Bool.{cases_Bool, eqb-true, eqb-false, eq-eqb, ne_eqb, false≢true}
 use Rattle.po_queues.specs.QueuedKeys.{occurs, first_key, last_key_or, key_after, key_before_or, without, AreDistinct}
-use Rattle.po_queues.specs.QueuedKeys.{is_this, is_missing}
+use Rattle.po_queues.specs.QueuedKeys.{is_this}
 
 -- a key that isn't among keys isn't the first, nor among the others
 pub tail_free : (j x : ℕ) (xs : List ℕ) → occurs j (x ∷ xs) ≡ false → (eqb x j ≡ false) × (occurs j xs ≡ false)
@@ -27,7 +27,7 @@ pub not_both : (x k j : ℕ) → eqb k j ≡ false → eqb x k ≡ true → eqb 
 not_both x k j differ equal = rw (eqb-true x k equal) differ
 
 -- a key that isn't among keys isn't their first
-head_free : (j : ℕ) (xs : List ℕ) → occurs j xs ≡ false → is_this (first_key xs) j ≡ false
+pub head_free : (j : ℕ) (xs : List ℕ) → occurs j xs ≡ false → is_this (first_key xs) j ≡ false
 head_free j [] free = refl
 head_free j (y ∷ ys) free = (tail_free j y ys free).0
 
@@ -99,12 +99,6 @@ before_new p key (x ∷ xs) free = let t = tail_free key x xs free in simp t.0 (
 pub last_push : (p : Option ℕ) (key : ℕ) (ks : List ℕ) → last_key_or p (ks ++ key ∷ []) ≡ Some key
 last_push p key [] = refl
 last_push p key (x ∷ xs) = last_push (Some x) key xs
-
--- the first key stays, if there was one
-pub head_push : (key : ℕ) (ks : List ℕ)
-    → first_key (ks ++ key ∷ []) ≡ cond (is_missing (first_key ks)) (Some key) (first_key ks)
-head_push key [] = refl
-head_push key (x ∷ xs) = refl
 
 -- one key taken out
 pub head_without : (j : ℕ) (ks : List ℕ) → AreDistinct ks
@@ -200,3 +194,45 @@ length_without j (x ∷ xs) d has = elim (cases_Bool (eqb x j)) [
   | inl equal ↦ simp equal (omega (arith, ap length (without_free j xs (free_same x j xs equal d.0))))
   | inr differ ↦ simp differ (omega (arith, length_without j xs d.1 (tail_has j x xs has differ)))
 ]
+
+-- nothing stands after a key that isn't there
+pub after_none : (k : ℕ) (ks : List ℕ) → occurs k ks ≡ false → key_after k ks ≡ None
+after_none k [] free = refl
+after_none k (x ∷ xs) free = let t = tail_free k x xs free in simp t.0 (after_none k xs t.1)
+
+-- nothing stands before a key that isn't there
+pub before_none : (p : Option ℕ) (k : ℕ) (ks : List ℕ) → occurs k ks ≡ false → key_before_or p k ks ≡ None
+before_none p k [] free = refl
+before_none p k (x ∷ xs) free = let t = tail_free k x xs free in simp t.0 (before_none (Some x) k xs t.1)
+
+-- another key is there as before, with a new one at the end
+pub occurs_push : (k key : ℕ) (ks : List ℕ) → eqb key k ≡ false → occurs k (ks ++ key ∷ []) ≡ occurs k ks
+occurs_push k key [] differ = simp differ refl
+occurs_push k key (x ∷ xs) differ = elim (cases_Bool (eqb x k))
+    [ inl equal ↦ simp equal refl | inr other ↦ simp other (occurs_push k key xs differ) ]
+
+-- a key that isn't there with a new one at the end is neither that nor was it there
+pub push_free : (k key : ℕ) (ks : List ℕ) → occurs k (ks ++ key ∷ []) ≡ false
+    → (eqb key k ≡ false) × (occurs k ks ≡ false)
+push_free k key [] free = tail_free k key [] free
+push_free k key (x ∷ xs) free =
+    let t = tail_free k x (xs ++ key ∷ []) free in
+    let rest = push_free k key xs t.1 in
+    (rest.0, simp t.0 rest.1)
+
+-- another key is there as before, once a key is taken out
+pub occurs_other : (k j : ℕ) (ks : List ℕ) → eqb k j ≡ false → occurs k (without j ks) ≡ occurs k ks
+occurs_other k j [] differ = refl
+occurs_other k j (x ∷ xs) differ = elim (cases_Bool (eqb x k)) [
+  | inl equal ↦ simp (not_both x k j differ equal, equal) refl
+  | inr other ↦ elim (cases_Bool (eqb x j)) [
+    | inl equal_j ↦ simp (equal_j, other) (occurs_other k j xs differ)
+    | inr differ_j ↦ simp (differ_j, other) (occurs_other k j xs differ)
+  ]
+]
+
+-- a key that is taken out is there no more
+pub taken_free : (j : ℕ) (ks : List ℕ) → occurs j (without j ks) ≡ false
+taken_free j [] = refl
+taken_free j (x ∷ xs) = elim (cases_Bool (eqb x j))
+    [ inl equal ↦ simp equal (taken_free j xs) | inr differ ↦ simp differ (taken_free j xs) ]

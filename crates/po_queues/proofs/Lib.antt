@@ -1,6 +1,5 @@
 pub mod ArrivalLemmas
 pub mod BusyLemmas
-pub mod ChainLemmas
 pub mod EntryLemmas
 pub mod ExpirationLemmas
 pub mod HoldLemmas
@@ -8,6 +7,7 @@ pub mod ItemLemmas
 pub mod KeyLemmas
 pub mod LeastLemmas
 pub mod LineLemmas
+pub mod OrderLemmas
 pub mod PlaceLemmas
 pub mod QueueLemmas
 pub mod RoomLemmas

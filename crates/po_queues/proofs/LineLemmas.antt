@@ -1,200 +1,138 @@
 -- What is queued, seen with the times at which calls expire, in order of arrival, and without other keys.
-use Rattle.std.proofs.Common.{◌≡◌, ℕ, ◌<◌, false, cond, eqb, leb, List, [], ◌∷◌, ◌++◌, map, Option, Some, None, refl}
-use Rattle.std.proofs.Common.{sym, ap, ap₂, ◌∙◌, inl, inr}
-use Rattle.std.specs.Prelude.{option_map}
-use Rattle.std.specs.List.{find, cons_option, All}
-use Rattle.std.proofs.lemmas.Bool.{cases_Bool, eqb-true, eq-eqb}
+use Rattle.std.proofs.Common.{◌≡◌, ℕ, ◌<◌, ◌≤◌, true, false, eqb, List, [], ◌∷◌, ◌++◌, length, set, Option, Some, None}
+use Rattle.std.proofs.Common.{refl, sym, ap, ap₂, subst, ◌∙◌, inl, inr, arith}
+use Rattle.std.specs.Prelude.{option_map, IfSome}
+use Rattle.std.specs.List.{find, All}
+use Rattle.std.proofs.lemmas.Bool.{cases_Bool, cases_lt, eqb-true, eqb-false, leb-true, false≢true}
+use Rattle.std.proofs.lemmas.List.{get_or-set_same, get_or-set_other, get_or_past, length-set}
 use Rattle.std.proofs.lemmas.List.Elements.{All-nil, All-cons, All-head, All-tail}
-use Rattle.po_queues.proofs.KeyLemmas.{tail_free, not_both, other_way}
-use Rattle.po_queues.specs.QueuedKeys.{QueuedKey, keys_of, queue_of, occurs, first_key, first_of, key_after}
-use Rattle.po_queues.specs.QueuedKeys.{key_after_in_queue, after_item, item_of, without_key}
-use Rattle.po_queues.specs.Expiring.{Expiring, expiring_keys, is_due, without_expiring}
+use Rattle.po_queues.proofs.KeyLemmas.{tail_free, tail_has}
+use Rattle.po_queues.specs.QueuedKeys.{QueuedKey, keys_of, occurs, stamp_of, without_key, RiseBy}
+use Rattle.po_queues.specs.Expiring.{call_of, expiration_of}
 use Rattle.po_queues.specs.Arrived.{Arrived, all_queued, arrived_keys, has_come, without_arrived}
-use Rattle.po_queues.specs.Lines.{expiration_of, with_expirations, as_arrival, expiring_at, expiring_of}
+use Rattle.po_queues.specs.Lines.{with_expirations, HasItsStamp}
+use Rattle.po_queues.specs.declared.expiration.Expiration.{Expiration}
 
 -- Times change nothing that is queued.
-pub queued_is : (times : List Expiring) (items : List QueuedKey) → all_queued (with_expirations times items) ≡ items
-queued_is times [] = refl
-queued_is times (x ∷ xs) = ap (λ l. x ∷ l) (queued_is times xs)
+pub queued_is : (calls : List (Option Expiration)) (items : List QueuedKey)
+    → all_queued (with_expirations calls items) ≡ items
+queued_is calls [] = refl
+queued_is calls (x ∷ xs) = ap (λ l. x ∷ l) (queued_is calls xs)
 
 -- Times change no key.
-pub keys_are : (times : List Expiring) (items : List QueuedKey)
-    → arrived_keys (with_expirations times items) ≡ keys_of items
-keys_are times [] = refl
-keys_are times (x ∷ xs) = ap (λ l. x.key ∷ l) (keys_are times xs)
-
--- The one entry of all arrivals has the same keys.
-pub arrival_keys : (items : List QueuedKey) → keys_of (map as_arrival items) ≡ keys_of items
-arrival_keys [] = refl
-arrival_keys (x ∷ xs) = ap (λ l. x.key ∷ l) (arrival_keys xs)
-
--- All arrivals are queued on that entry.
-pub arrival_queue : (items : List QueuedKey) → queue_of 0 (map as_arrival items) ≡ map as_arrival items
-arrival_queue [] = refl
-arrival_queue (x ∷ xs) = ap (λ l. as_arrival x ∷ l) (arrival_queue xs)
-
--- The first key is that of what is queued first.
-pub first_key_is : (items : List QueuedKey) → option_map (λ x. x.0) (first_of items) ≡ first_key (keys_of items)
-first_key_is [] = refl
-first_key_is (x ∷ xs) = refl
-
--- An item that is found among arrivals has the key and is on their entry, and with none there is no such key.
-after_found : (k : ℕ) (all items : List QueuedKey)
-    → after_item (map as_arrival all) (item_of k (map as_arrival items)) ≡
-    cond (occurs k (keys_of items)) (key_after k (keys_of all)) None
-after_found k all [] = refl
-after_found k all (x ∷ xs) = elim (cases_Bool (eqb x.key k)) [
-  | inl equal ↦ simp equal (ap₂ key_after (eqb-true x.key k equal)
-      (ap keys_of (arrival_queue all) ∙ arrival_keys all))
-  | inr differ ↦ simp differ (after_found k all xs)
-]
-
--- No key stands after one that isn't there.
-after_none : (k : ℕ) (ks : List ℕ) → cond (occurs k ks) (key_after k ks) None ≡ key_after k ks
-after_none k [] = refl
-after_none k (x ∷ xs) = elim (cases_Bool (eqb x k)) [
-  | inl equal ↦ simp equal refl
-  | inr differ ↦ simp differ (after_none k xs)
-]
-
--- The key after a key in the one queue of all arrivals is the next of all keys.
-pub next_arrival : (k : ℕ) (items : List QueuedKey)
-    → key_after_in_queue k (map as_arrival items) ≡ key_after k (keys_of items)
-next_arrival k items = after_found k items items ∙ after_none k (keys_of items)
-
--- The time of a key stays when another key is put at the end.
-time_push : (k : ℕ) (times : List Expiring) (x : Expiring) → eqb x.key k ≡ false
-    → expiration_of (times ++ x ∷ []) k ≡ expiration_of times k
-time_push k [] x differ = simp differ refl
-time_push k (y ∷ ys) x differ = elim (cases_Bool (eqb y.key k))
-    [ inl equal ↦ simp equal refl | inr other ↦ simp other (time_push k ys x differ) ]
-
--- A new key at the end has its time.
-pub time_new : (times : List Expiring) (x : Expiring) → occurs x.key (expiring_keys times) ≡ false
-    → expiration_of (times ++ x ∷ []) x.key ≡ Some x.time
-time_new [] x free = simp (eq-eqb x.key x.key refl) refl
-time_new (y ∷ ys) x free = let t = tail_free x.key y.key (expiring_keys ys) free in simp t.0 (time_new ys x t.1)
-
--- A key with no time has none.
-pub time_free : (k : ℕ) (times : List Expiring) → occurs k (expiring_keys times) ≡ false → expiration_of times k ≡ None
-time_free k [] free = refl
-time_free k (y ∷ ys) free = let t = tail_free k y.key (expiring_keys ys) free in simp t.0 (time_free k ys t.1)
-
--- The time of a key stays when another key is taken out.
-time_without : (k j : ℕ) (times : List Expiring) → eqb k j ≡ false
-    → expiration_of (without_expiring j times) k ≡ expiration_of times k
-time_without k j [] apart = refl
-time_without k j (y ∷ ys) apart = elim (cases_Bool (eqb y.key k)) [
-  | inl equal ↦ simp (not_both y.key k j apart equal, equal) refl
-  | inr differ ↦ elim (cases_Bool (eqb y.key j)) [
-    | inl equal_j ↦ simp (equal_j, differ) (time_without k j ys apart)
-    | inr differ_j ↦ simp (differ_j, differ) (time_without k j ys apart)
-  ]
-]
+pub keys_are : (calls : List (Option Expiration)) (items : List QueuedKey)
+    → arrived_keys (with_expirations calls items) ≡ keys_of items
+keys_are calls [] = refl
+keys_are calls (x ∷ xs) = ap (λ l. x.key ∷ l) (keys_are calls xs)
 
 -- An item with this time.
 abbrev pub timed : QueuedKey → Option ℕ → Arrived
 timed x time = record { entry = x.entry; key = x.key; stamp = x.stamp; expires = time }
 
--- The times of what is queued stay when a key that isn't queued is put at the end.
-pub times_push : (times : List Expiring) (x : Expiring) (items : List QueuedKey)
-    → occurs x.key (keys_of items) ≡ false → with_expirations (times ++ x ∷ []) items ≡ with_expirations times items
-times_push times x [] free = refl
-times_push times x (y ∷ ys) free =
-    let t = tail_free x.key y.key (keys_of ys) free in
-    ap₂ (λ (time : Option ℕ) (l : List Arrived). timed y time ∷ l) (time_push y.key times x (other_way y.key x.key t.0))
-    (times_push times x ys t.1)
+-- The times of what is queued stay where the call of a key changes that isn't queued, and so do the stamps.
+pub call_written : (calls : List (Option Expiration)) (k : ℕ) (o : Option Expiration) (items : List QueuedKey)
+    → occurs k (keys_of items) ≡ false
+    → (with_expirations (set calls k o) items ≡ with_expirations calls items) ×
+    (All (HasItsStamp calls) items → All (HasItsStamp (set calls k o)) items)
+call_written calls k o [] free = (refl, λ all. All-nil (HasItsStamp (set calls k o)))
+call_written calls k o (x ∷ xs) free =
+    let t = tail_free k x.key (keys_of xs) free in
+    let rest = call_written calls k o xs t.1 in
+    let same : call_of (set calls k o) x.key ≡ call_of calls x.key =
+    get_or-set_other calls k x.key o None (eqb-false x.key k t.0) in (
+      ap₂ (λ (c : Option Expiration) (l : List Arrived). timed x (option_map (λ y. y.time) c) ∷ l) same rest.0,
+      λ all. All-cons (HasItsStamp (set calls k o)) x xs
+          (subst (λ c. IfSome c (λ y. y.stamp ≡ x.stamp)) (sym same) (All-head (HasItsStamp calls) x xs all))
+          (rest.1 (All-tail (HasItsStamp calls) x xs all)),
+    )
 
 -- What is queued with times, where one key more is queued.
-pub with_push : (times : List Expiring) (items : List QueuedKey) (x : QueuedKey) (time : Option ℕ)
-    → expiration_of times x.key ≡ time
-    → with_expirations times (items ++ x ∷ []) ≡ with_expirations times items ++ timed x time ∷ []
-with_push times [] x time is = ap (λ t. timed x t ∷ []) is
-with_push times (y ∷ ys) x time is = ap (λ l. timed y (expiration_of times y.key) ∷ l) (with_push times ys x time is)
+pub with_push : (calls : List (Option Expiration)) (items : List QueuedKey) (x : QueuedKey) (time : Option ℕ)
+    → expiration_of calls x.key ≡ time
+    → with_expirations calls (items ++ x ∷ []) ≡ with_expirations calls items ++ timed x time ∷ []
+with_push calls [] x time is = ap (λ t. timed x t ∷ []) is
+with_push calls (y ∷ ys) x time is = ap (λ l. timed y (expiration_of calls y.key) ∷ l) (with_push calls ys x time is)
 
 -- What is queued with times, once a key is taken out.
-pub with_without : (k : ℕ) (times : List Expiring) (items : List QueuedKey)
-    → with_expirations (without_expiring k times) (without_key k items) ≡ without_arrived k (with_expirations times items)
-with_without k times [] = refl
-with_without k times (x ∷ xs) = elim (cases_Bool (eqb x.key k)) [
-  | inl equal ↦ simp equal (with_without k times xs)
-  | inr differ ↦ simp differ (ap₂ (λ (time : Option ℕ) (l : List Arrived). timed x time ∷ l)
-      (time_without x.key k times differ) (with_without k times xs))
+pub with_without : (k : ℕ) (calls : List (Option Expiration)) (items : List QueuedKey)
+    → with_expirations calls (without_key k items) ≡ without_arrived k (with_expirations calls items)
+with_without k calls [] = refl
+with_without k calls (x ∷ xs) = elim (cases_Bool (eqb x.key k)) [
+  | inl equal ↦ simp equal (with_without k calls xs)
+  | inr differ ↦ simp differ (ap (λ l. timed x (expiration_of calls x.key) ∷ l) (with_without k calls xs))
 ]
 
--- The arrivals, once a key is taken out.
-pub arrivals_without : (k : ℕ) (items : List QueuedKey)
-    → without_key k (map as_arrival items) ≡ map as_arrival (without_key k items)
-arrivals_without k [] = refl
-arrivals_without k (x ∷ xs) = elim (cases_Bool (eqb x.key k)) [
-  | inl equal ↦ simp equal (arrivals_without k xs)
-  | inr differ ↦ simp differ (ap (λ l. as_arrival x ∷ l) (arrivals_without k xs))
+-- No call has a key that is taken out.
+pub call_gone : (calls : List (Option Expiration)) (k : ℕ) → call_of (set calls k None) k ≡ None
+call_gone calls k = elim (cases_lt k (length calls)) [
+  | inl below ↦ get_or-set_same calls k None None below
+  | inr past ↦ get_or_past (set calls k None) k None (omega (arith, past, length-set calls k None))
 ]
 
--- What may expire of one more, once a key is taken out.
-cons_without : (k key stamp : ℕ) (time : Option ℕ) (xs : List Expiring)
-    → without_expiring k (cons_option (expiring_at key stamp time) xs) ≡
-    cond (eqb key k) (without_expiring k xs) (cons_option (expiring_at key stamp time) (without_expiring k xs))
-cons_without k key stamp None xs = elim (cases_Bool (eqb key k))
-    [ inl equal ↦ simp equal refl | inr differ ↦ simp differ refl ]
-cons_without k key stamp (Some time) xs = elim (cases_Bool (eqb key k))
-    [ inl equal ↦ simp equal refl | inr differ ↦ simp differ refl ]
+-- What is queued with a later stamp is.
+later_stamp : (s k stamp : ℕ) (items : List QueuedKey) → All (λ y. s < y.stamp) items → stamp_of k items ≡ Some stamp
+    → s < stamp
+later_stamp s k stamp [] all is = let bad : None ≡ Some stamp = is in absurd (cc)
+later_stamp s k stamp (y ∷ ys) all is = elim (cases_Bool (eqb y.key k)) [
+  | inl equal ↦
+      let here : Some y.stamp ≡ Some stamp = simp equal at is in
+      let same : y.stamp ≡ stamp = cc in
+      let later : s < y.stamp = All-head (λ y. s < y.stamp) y ys all in
+      omega (arith, same, later)
+  | inr differ ↦ later_stamp s k stamp ys (All-tail (λ y. s < y.stamp) y ys all) (simp differ at is)
+]
 
--- What may expire, once a key is taken out.
-pub expiring_without : (k : ℕ) (items : List Arrived)
-    → expiring_of (without_arrived k items) ≡ without_expiring k (expiring_of items)
-expiring_without k [] = refl
-expiring_without k (x ∷ xs) =
-    let one = cons_without k x.key x.stamp x.expires (expiring_of xs) in
-    elim (cases_Bool (eqb x.key k)) [
-      | inl equal ↦ simp equal (expiring_without k xs ∙ sym (simp equal at one))
-      | inr differ ↦ simp differ (ap (cons_option (expiring_at x.key x.stamp x.expires)) (expiring_without k xs)
-          ∙ sym (simp differ at one))
-    ]
+-- A call that expires was queued with its stamp.
+pub stamp_found : (calls : List (Option Expiration)) (k : ℕ) (call : Expiration) (items : List QueuedKey)
+    → call_of calls k ≡ Some call → All (HasItsStamp calls) items → occurs k (keys_of items) ≡ true
+    → stamp_of k items ≡ Some call.stamp
+stamp_found calls k call [] is all has = absurd (false≢true has)
+stamp_found calls k call (x ∷ xs) is all has = elim (cases_Bool (eqb x.key k)) [
+  | inl equal ↦
+      let here = All-head (HasItsStamp calls) x xs all in
+      let read : call_of calls x.key ≡ Some call = ap (call_of calls) (eqb-true x.key k equal) ∙ is in
+      let own : call.stamp ≡ x.stamp = subst (λ c. IfSome c (λ y. y.stamp ≡ x.stamp)) read here in
+      simp equal (ap Some (sym own))
+  | inr differ ↦ simp differ (stamp_found calls k call xs is (All-tail (HasItsStamp calls) x xs all)
+      (tail_has k x.key (keys_of xs) has differ))
+]
 
--- A key that isn't queued isn't among what may expire of one more.
-cons_free : (k key stamp : ℕ) (time : Option ℕ) (xs : List Expiring) → eqb key k ≡ false
-    → occurs k (expiring_keys xs) ≡ false
-    → occurs k (expiring_keys (cons_option (expiring_at key stamp time) xs)) ≡ false
-cons_free k key stamp None xs differ free = free
-cons_free k key stamp (Some time) xs differ free = simp differ free
+-- No call that is due has an earlier stamp than the first.
+not_earlier : (clock first stamp : ℕ) (o : Option Expiration) → has_come clock (option_map (λ x. x.time) o) ≡ true
+    → IfSome o (λ x. x.stamp ≡ stamp) → IfSome o (λ x. x.time ≤ clock → first ≤ x.stamp) → first ≤ stamp
+not_earlier clock first stamp None due own least = absurd (false≢true due)
+not_earlier clock first stamp (Some x) due own least =
+    let before : first ≤ x.stamp = least (leb-true x.time clock due) in
+    omega (arith, own, before)
 
--- A key that isn't queued isn't among what may expire.
-pub expiring_free : (k : ℕ) (items : List Arrived) → occurs k (arrived_keys items) ≡ false
-    → occurs k (expiring_keys (expiring_of items)) ≡ false
-expiring_free k [] free = refl
-expiring_free k (x ∷ xs) free =
-    let t = tail_free k x.key (arrived_keys xs) free in
-    cons_free k x.key x.stamp x.expires (expiring_of xs) t.0 (expiring_free k xs t.1)
+-- The key of the least stamp, of those whose time has come, is the first of them that was queued.
+pub least_found : (clock : ℕ) (calls : List (Option Expiration)) (k stamp : ℕ) (items : List QueuedKey)
+    → RiseBy (λ x. x.stamp) items → All (HasItsStamp calls) items → has_come clock (expiration_of calls k) ≡ true
+    → ((j : ℕ) → IfSome (call_of calls j) (λ other. other.time ≤ clock → stamp ≤ other.stamp))
+    → stamp_of k items ≡ Some stamp
+    → Some k ≡ option_map (λ x. x.key) (find (λ x. has_come clock x.expires) (with_expirations calls items))
+least_found clock calls k stamp [] rises own due least is = let bad : None ≡ Some stamp = is in absurd (cc)
+least_found clock calls k stamp (x ∷ xs) rises own due least is = elim (cases_Bool (eqb x.key k)) [
+  | inl equal ↦
+      let same = eqb-true x.key k equal in
+      let here : has_come clock (expiration_of calls x.key) ≡ true = rw same due in
+      simp here (ap Some (sym same))
+  | inr differ ↦
+      let behind : stamp_of k xs ≡ Some stamp = simp differ at is in
+      let later = later_stamp x.stamp k stamp xs rises.0 behind in
+      elim (cases_Bool (has_come clock (expiration_of calls x.key))) [
+        | inl here ↦
+            let earlier = not_earlier clock stamp x.stamp (call_of calls x.key) here
+            (All-head (HasItsStamp calls) x xs own) (least x.key) in
+            absurd (omega (arith, later, earlier))
+        | inr not_here ↦ simp not_here (least_found clock calls k stamp xs rises.1
+            (All-tail (HasItsStamp calls) x xs own) due least behind)
+      ]
+]
 
--- What may expire of one more has a stamp below this, if that one does.
-cons_below : (n key stamp : ℕ) (time : Option ℕ) (xs : List Expiring) → stamp < n → All (λ x. x.stamp < n) xs
-    → All (λ (x : Expiring). x.stamp < n) (cons_option (expiring_at key stamp time) xs)
-cons_below n key stamp None xs first all = all
-cons_below n key stamp (Some time) xs first all = All-cons (λ x. x.stamp < n) _ xs first all
-
--- What may expire has stamps below this, if all that is queued does.
-pub expiring_below : (n : ℕ) (items : List Arrived) → All (λ x. x.stamp < n) items
-    → All (λ x. x.stamp < n) (expiring_of items)
-expiring_below n [] all = All-nil (λ x. x.stamp < n)
-expiring_below n (x ∷ xs) all = cons_below n x.key x.stamp x.expires (expiring_of xs)
-    (All-head (λ x. x.stamp < n) x xs all) (expiring_below n xs (All-tail (λ x. x.stamp < n) x xs all))
-
--- The first of what may expire whose time has come, of one more.
-cons_due : (clock key stamp : ℕ) (time : Option ℕ) (xs : List Expiring)
-    → option_map (λ x. x.key) (find (is_due clock) (cons_option (expiring_at key stamp time) xs)) ≡
-    cond (has_come clock time) (Some key) (option_map (λ x. x.key) (find (is_due clock) xs))
-cons_due clock key stamp None xs = refl
-cons_due clock key stamp (Some time) xs = elim (cases_Bool (leb time clock))
-    [ inl due ↦ simp due refl | inr later ↦ simp later refl ]
-
--- The first of what may expire whose time has come is the first of all that is queued.
-pub first_due_is : (clock : ℕ) (items : List Arrived)
-    → option_map (λ x. x.key) (find (is_due clock) (expiring_of items)) ≡
-    option_map (λ x. x.key) (find (λ x. has_come clock x.expires) items)
-first_due_is clock [] = refl
-first_due_is clock (x ∷ xs) =
-    cons_due clock x.key x.stamp x.expires (expiring_of xs) ∙ elim (cases_Bool (has_come clock x.expires)) [
-      | inl due ↦ simp due refl
-      | inr later ↦ simp later (first_due_is clock xs)
-    ]
+-- Where no time has come, none is found.
+pub none_found : (clock : ℕ) (calls : List (Option Expiration)) (items : List QueuedKey)
+    → ((k : ℕ) → has_come clock (expiration_of calls k) ≡ false)
+    → None ≡ option_map (λ x. x.key) (find (λ x. has_come clock x.expires) (with_expirations calls items))
+none_found clock calls [] none = refl
+none_found clock calls (x ∷ xs) none = simp (none x.key) (none_found clock calls xs none)

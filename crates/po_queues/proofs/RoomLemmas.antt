@@ -26,18 +26,17 @@ arrivals_room k m (None ∷ links) = arrivals_room (k + 1) m links
 arrivals_room k m (Some l ∷ links) = ap (insert_item (record { entry = l.entry; key = k; stamp = l.stamp }))
     (arrivals_room (k + 1) m links)
 
--- what is read in the room for more keys
-read_none : (m k : ℕ) → get_or (let r : List (Option Link) = replicate m None in r) k None ≡ None
-read_none zero zero = refl
-read_none zero (suc k) = refl
-read_none (suc m) zero = refl
-read_none (suc m) (suc k) = read_none m k
-
--- what is read stays
-read_room : (links : List (Option Link)) (m k : ℕ) → get_or (links ++ replicate m None) k None ≡ get_or links k None
-read_room [] m k = read_none m k ∙ sym (read_none zero k)
-read_room (l ∷ links) m zero = refl
-read_room (l ∷ links) m (suc k) = read_room links m k
+-- what is read stays, with room for more
+pub read_room : {A : Type 0} (d : A) (xs : List A) (m k : ℕ) → get_or (xs ++ replicate m d) k d ≡ get_or xs k d
+read_room d [] zero k = refl
+read_room d [] (suc m) zero = refl
+read_room d [] (suc m) (suc k) = read_room d [] m k ∙ past k
+  where
+    past : (k : ℕ) → get_or [] k d ≡ get_or [] (suc k) d
+    past zero = refl
+    past (suc k) = refl
+read_room d (x ∷ xs) m zero = refl
+read_room d (x ∷ xs) m (suc k) = read_room d xs m k
 
 -- the queues are kept with other links, which hold the same
 pub record HoldsSame (links links' : List (Option Link)) (firsts lasts : List (Option ℕ)) (counts words : List ℕ)
@@ -53,7 +52,7 @@ room_is {links} {firsts} {lasts} {counts} {words} {queued} q m =
     let h = q.holds in
     let more = links ++ replicate m None in
     let held : HoldsQueues (length counts) more firsts lasts counts (arrivals links) = record {
-      linked = λ k. read_room links m k ∙ h.linked k;
+      linked = λ k. read_room None links m k ∙ h.linked k;
       first = h.first;
       last = h.last;
       count = h.count;

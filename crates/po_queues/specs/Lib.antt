@@ -2,6 +2,7 @@ pub mod Arrivals
 pub mod Arrived
 pub mod Busy
 pub mod Expiring
+pub mod InOrder
 pub mod Least
 pub mod Lines
 pub mod Links

@@ -6,6 +6,7 @@ ghost use Rattle.std.specs.List.{All};
 ghost use Rattle.po_queues.specs.QueuedKeys.{occurs, first_key, key_after, keys_on, queue_of, stamp_of};
 ghost use Rattle.po_queues.specs.Arrived.{AreInOrder, all_queued, arrived_keys, first_due, without_arrived};
 
+use crate::arrivals::Arrivals;
 use crate::expirations::Expirations;
 use crate::queues::Queues;
 use std::alloc::{AllocError, Global};
@@ -19,8 +20,8 @@ use std::marker::Model;
 pub struct EntryQueues {
     /// The queue of each entry.
     by_entry: Queues,
-    /// All that is queued, as the queue of one entry.
-    arrivals: Queues,
+    /// The keys of all that is queued.
+    arrivals: Arrivals,
     /// The keys whose calls expire, with their times.
     expirations: Expirations,
     /// How many keys are reserved in each of the three.
@@ -37,7 +38,7 @@ impl Model for EntryQueues {
       total = q.by_entry.total;
       reserved = q.reserved;
       clock = q.expirations.clock;
-      items = with_expirations q.expirations.items q.by_entry.items;
+      items = with_expirations q.expirations.calls q.by_entry.items;
     } };
 
     ghost invariant = { λ q. KeepsLines q.reserved q.by_entry q.arrivals q.expirations };
@@ -50,8 +51,8 @@ impl EntryQueues {
     {
         Ok(EntryQueues {
             by_entry: Queues::new(alloc, total)?,
-            arrivals: Queues::new(alloc, 1)?,
-            expirations: Expirations::new(alloc)?,
+            arrivals: Arrivals::new(alloc),
+            expirations: Expirations::new(alloc),
             reserved: 0,
         })
     }
@@ -94,7 +95,7 @@ impl EntryQueues {
         } }
     {
         self.by_entry.append(entry, key, stamp);
-        self.arrivals.append(0, key, stamp);
+        self.arrivals.append(key);
         if let Some(time) = expires {
             self.expirations.append(key, stamp, time);
         }
@@ -105,9 +106,12 @@ impl EntryQueues {
         ensures was_queued { result ≡ occurs key (arrived_keys self.old.items) }
         ensures others { self.new ≡ record self.old { items = without_arrived key self.old.items } }
     {
+        if !self.by_entry.remove(key) {
+            return false;
+        }
         self.arrivals.remove(key);
         self.expirations.remove(key);
-        self.by_entry.remove(key)
+        true
     }
 
     /// Takes the first key out of the entry's queue, if it has one: the next to be served (D.4).
@@ -128,8 +132,7 @@ impl EntryQueues {
     pub fn oldest(&self) -> Option<usize>
         ensures { result ≡ first_key (arrived_keys self.now.items) }
     {
-        let (key, _) = self.arrivals.first(0)?;
-        Some(key)
+        self.arrivals.first()
     }
 
     /// The key that was queued next after this one, on whatever entry.
@@ -189,6 +192,7 @@ impl EntryQueues {
     pub fn first_due(&self) -> Option<usize>
         ensures found { result ≡ first_due self.now }
     {
+        self.by_entry.recall_invariant();
         self.expirations.first_due()
     }
 

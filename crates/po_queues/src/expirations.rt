@@ -1,62 +1,54 @@
-//! The calls that expire, in order of arrival, beside the clock.
+//! The calls that expire, beside the clock.
 
-ghost use Rattle.std.specs.Prelude.{◌≡◌, ◌<◌, ◌≤◌, ◌+◌, ◌*◌, ◌++◌, [], ◌∷◌, max, false, IfOk, IsOk, OnOk, OnErr};
-ghost use Rattle.std.specs.List.{All};
-ghost use Rattle.po_queues.specs.QueuedKeys.{occurs};
-ghost use Rattle.po_queues.specs.Expiring.{AreSound, expiring_keys, first_due, without_expiring};
+ghost use Rattle.std.specs.Prelude.{◌≡◌, ◌<◌, ◌≤◌, ◌+◌, ◌-◌, ◌*◌, ◌++◌, [], ℕ, length, replicate, slice_set, max};
+ghost use Rattle.std.specs.Prelude.{false, is_some, None, Some, option_map, IfOk, IfSome, IsNone, IsOk, OnOk, OnErr};
+ghost use Rattle.po_queues.specs.Arrived.{has_come};
+ghost use Rattle.po_queues.specs.Expiring.{IsFirstDue, call_of, expiration_of};
 
+use crate::expiration::Expiration;
 use crate::minima::Minima;
-use crate::queues::Queues;
 use crate::room::grown;
 use std::alloc::{AllocError, Global};
 use std::marker::Model;
 
-/// The waiting calls that may be cancelled when their time comes, in order of arrival, beside the clock (9.7.2).
+/// The waiting calls that may be cancelled when their time comes, beside the clock (9.7.2).
 ///
 /// A key stands for a call. Times and the clock count the same unit, from the same start. But for `new` and `reserve`, no
 /// method takes memory. The time of each grows with the logarithm of how many keys are reserved, and that of `rise` also
 /// with how many times come by it.
 #[derive(Debug, Drop)]
 pub struct Expirations {
-    // The keys, all on entry 0, in order of arrival.
-    chain: Queues,
-    // By key: when its call expires.
-    times: Vec<u64>,
-    // By key: the same, where that time hasn't come.
+    // By key: how its call expires, if it does.
+    calls: Vec<Option<Expiration>>,
+    // By key: the time of its call, where that hasn't come.
     later: Minima,
-    // By key: its stamp, where its time has come.
+    // By key: the stamp of its call, whose time has come.
     due: Minima,
     clock: u64,
 }
 
 impl Model for Expirations {
-    ghost use Rattle.std.specs.Prelude.{length};
     ghost use Rattle.po_queues.specs.Expiring.{ExpirationsView};
-    ghost use Rattle.po_queues.specs.Timed.{KeepsExpirations, with_times};
+    ghost use Rattle.po_queues.specs.Timed.{KeepsExpirations};
 
     ghost Value = { ExpirationsView };
 
-    ghost view = { λ e. record {
-      reserved = length e.times.items;
-      clock = e.clock;
-      items = with_times e.times.items e.chain.items;
-    } };
+    ghost view = { λ e. record { clock = e.clock; calls = e.calls.items } };
 
-    ghost invariant = { λ e. KeepsExpirations e.chain e.times.items e.later e.due e.clock };
+    ghost invariant = { λ e. KeepsExpirations e.calls.items e.later e.due e.clock };
 }
 
 impl Expirations {
-    /// No key, none reserved, and the clock at 0.
-    pub fn new(alloc: Global) -> Result<Expirations, AllocError>
-        ensures { IfOk result (λ e. e ≡ record { reserved = 0; clock = 0; items = [] }) }
+    /// No key reserved, and the clock at 0.
+    pub fn new(alloc: Global) -> Expirations
+        ensures { result ≡ record { clock = 0; calls = [] } }
     {
-        Ok(Expirations {
-            chain: Queues::new(alloc, 1)?,
-            times: Vec::new(alloc),
+        Expirations {
+            calls: Vec::new(alloc),
             later: Minima::new(alloc),
             due: Minima::new(alloc),
             clock: 0,
-        })
+        }
     }
 
     /// Reserves the key and all keys below it, which stay reserved.
@@ -64,39 +56,38 @@ impl Expirations {
     /// Where it isn't, the number of reserved keys at least doubles, so that many calls take little
     /// memory and time each; it grows no further than that or this key asks for.
     pub fn reserve(&mut self, key: usize) -> Result<(), AllocError>
-        ensures ok { OnOk result (key < self.new.reserved) }
+        ensures ok { OnOk result (key < length self.new.calls) }
         ensures err { OnErr result (self.new ≡ self.old) }
-        ensures had_room { key < self.old.reserved → IsOk result × (self.new ≡ self.old) }
-        ensures only_room { self.new ≡ record self.old { reserved = self.new.reserved } }
-        ensures grows { self.old.reserved ≤ self.new.reserved }
-        ensures doubles { self.old.reserved ≤ key →
-            OnOk result (2 * self.old.reserved ≤ self.new.reserved) }
-        ensures no_more { self.new.reserved ≤ max (key + 1) (2 * self.old.reserved) }
+        ensures had_room { key < length self.old.calls → IsOk result × (self.new ≡ self.old) }
+        ensures only_room { self.new ≡ record self.old {
+          calls = self.old.calls ++ replicate (length self.new.calls - length self.old.calls) None;
+        } }
+        ensures grows { length self.old.calls ≤ length self.new.calls }
+        ensures doubles { length self.old.calls ≤ key →
+            OnOk result (2 * length self.old.calls ≤ length self.new.calls) }
+        ensures no_more { length self.new.calls ≤ max (key + 1) (2 * length self.old.calls) }
     {
-        let reserved = self.times.len();
+        let reserved = self.calls.len();
         if key < reserved {
             return Ok(());
         }
         let more = grown(reserved, key)?;
-        self.chain.reserve(more - 1)?;
         self.later.grow(more)?;
         self.due.grow(more)?;
-        self.times.resize(more, 0)
+        self.calls.resize(more, None)
     }
 
-    /// Adds the key, whose call expires at this time, after all that there are (9.7.2).
+    /// Adds the call of the key, which expires at this time (9.7.2).
     ///
-    /// The caller knows which keys it has reserved and added, and takes the stamps from a count that only rises.
+    /// The caller knows which keys it has reserved and added.
     pub fn append(&mut self, key: usize, stamp: u128, time: u64)
-        requires reserved { key < self.old.reserved }
-        requires not_queued { occurs key (expiring_keys self.old.items) ≡ false }
-        requires rises { All (λ x. x.stamp < stamp) self.old.items }
+        requires reserved { key < length self.old.calls }
+        requires not_there { call_of self.old.calls key ≡ None }
         ensures { self.new ≡ record self.old {
-          items = self.old.items ++ record { key = key; time = time; stamp = stamp } ∷ [];
+          calls = slice_set self.old.calls key (Some (record { time = time; stamp = stamp }));
         } }
     {
-        self.times[key] = time;
-        self.chain.append(0, key, stamp);
+        self.calls[key] = Some(Expiration { time, stamp });
         if time <= self.clock {
             self.due.set(key, Some(stamp));
         } else {
@@ -104,25 +95,29 @@ impl Expirations {
         }
     }
 
-    /// Takes out the key, and says whether it was there.
+    /// Takes out the call of the key, and says whether it was there.
     pub fn remove(&mut self, key: usize) -> bool
-        ensures was_there { result ≡ occurs key (expiring_keys self.old.items) }
-        ensures others { self.new
-            ≡ record self.old { items = without_expiring key self.old.items } }
+        ensures was_there { result ≡ is_some (call_of self.old.calls key) }
+        ensures others { self.new ≡ record self.old { calls = slice_set self.old.calls key None } }
     {
-        let was_there = self.chain.remove(key);
-        if was_there {
-            self.later.set(key, None);
+        let Some(call) = call_at(&self.calls, key) else {
+            return false;
+        };
+        self.calls[key] = None;
+        if call.time <= self.clock {
             self.due.set(key, None);
+        } else {
+            self.later.set(key, None);
         }
-        was_there
+        true
     }
 
-    /// The first key in order of arrival whose time has come, if one's has (9.7.2).
+    /// The key of the call whose time has come, and which arrived first of those, if the time of one has come (9.7.2).
     pub fn first_due(&self) -> Option<usize>
-        ensures found { result ≡ first_due self.now }
+        ensures found { IfSome result (λ key. IsFirstDue self.now key) }
+        ensures none { IsNone result →
+            (key : ℕ) → has_come self.now.clock (expiration_of self.now.calls key) ≡ false }
     {
-        self.chain.recall_invariant();
         self.due.least()
     }
 
@@ -133,7 +128,7 @@ impl Expirations {
         let clock = self.clock.max(time);
         while let Some(key) = self.later.least_within(u128::from(clock)) {
             self.later.set(key, None);
-            self.due.set(key, self.chain.stamp(key));
+            self.due.set(key, stamp_at(&self.calls, key));
         }
         self.clock = clock;
     }
@@ -144,11 +139,18 @@ impl Expirations {
     {
         self.clock
     }
+}
 
-    /// What all expirations keep.
-    pub fn recall_invariant(&self)
-        ensures { AreSound self.now }
-    {
-        self.chain.recall_invariant();
-    }
+/// How the call of the key expires, if it does.
+fn call_at(calls: &Vec<Option<Expiration>>, key: usize) -> Option<Expiration>
+    ensures { result ≡ call_of calls.now.items key }
+{
+    calls.get(key).copied().flatten()
+}
+
+/// The stamp of the key's call, if it expires.
+fn stamp_at(calls: &Vec<Option<Expiration>>, key: usize) -> Option<u128>
+    ensures { result ≡ option_map (λ x. x.stamp) (call_of calls.now.items key) }
+{
+    Some(call_at(calls, key)?.stamp)
 }

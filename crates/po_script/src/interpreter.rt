@@ -31,7 +31,7 @@ fn begun_after(begun: Option<UnitChoice>, command: Command) -> Option<UnitChoice
     }
 }
 
-impl<O: ScriptObject> Interpreter<O> {
+impl<O: ScriptObject + Drop> Interpreter<O> {
     ghost use Rattle.po_script.specs.Session.{state_of, opening_state};
     ghost use Rattle.po_script.specs.Interpreter.{CarriesOut, Fails};
 

@@ -36,7 +36,7 @@ struct Run<O> {
     ghost numbered: { number ≤ total + 1 },
 }
 
-impl<O: ScriptObject> Run<O> {
+impl<O: ScriptObject + Drop> Run<O> {
     ghost use Rattle.po_script.specs.Run.{Stands, GoesOn, FailsAt};
 
     /// A run that has read nothing.
@@ -192,7 +192,7 @@ impl<O: ScriptObject> Run<O> {
 }
 
 /// Runs the script that the reader gives over the units of a list, and writes the answers.
-fn run_over<O: ScriptObject, R: Source, W: Sink>(
+fn run_over<O: ScriptObject + Drop, R: Source, W: Sink>(
     alloc: Global,
     reader: &mut R,
     writer: &mut W,

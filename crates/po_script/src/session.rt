@@ -14,7 +14,7 @@ pub struct Session<O> {
 }
 
 #[tactic(auto, unfolding(crate::specs::Session::opening_state, crate::specs::Session::after, crate::specs::Session::answer))]
-impl<O: ScriptObject> Session<O> {
+impl<O: ScriptObject + Drop> Session<O> {
     ghost use Rattle.po_language.specs.Commands.{CanBegin};
     ghost use Rattle.po_script.specs.Session.{state_of, opening_state, after, answer};
     ghost use Rattle.po_script.specs.Units.{listed};

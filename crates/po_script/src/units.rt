@@ -25,7 +25,7 @@ pub type Units = OneOf<
 >;
 
 /// The object of a script, of one of a list of units.
-pub trait ScriptObject: UnitList + Drop {
+pub trait ScriptObject: UnitList {
     ghost use Rattle.po_classic_units.specs.Sizes.{IsSizeWhere};
     ghost use Rattle.po_language.specs.Units.{names_at};
     ghost use Rattle.po_script.specs.Operations.{IsEither};

@@ -1,12 +1,9 @@
--- The key of the least stamp is the first that is due.
-use Rattle.std.proofs.Common.{◌∙◌, ap}
-use Rattle.po_queues.specs.Expiring.{first_due}
-use Rattle.po_queues.proofs.ExpirationLemmas.{due_is}
+-- The key of the least stamp is that of the first call that is due.
+use Rattle.po_queues.proofs.ExpirationLemmas.{due_some, due_none}
 use Rattle.po_queues.proofs.expirations.Expirations.first_due.Goals as goal
 
-pub returns : goal.returns
-returns c = record {
-  found =
-      due_is c.self.invariant c.recall_invariant.ensures c.least.result c.least.ensures.some c.least.ensures.none
-      ∙ ap first_due c.self.view_is;
-}
+pub returns-clause-found : goal.returns-clause-found
+returns-clause-found c = due_some c.self.invariant c.self.view_is c.least.result c.least.ensures.some
+
+pub returns-clause-none : goal.returns-clause-none
+returns-clause-none c = λ none. due_none c.self.invariant c.self.view_is (c.least.ensures.none none)

@@ -1,0 +1,8 @@
+//! Between which keys a key stands.
+
+/// The key before a key, and the one after it, if there are any.
+#[derive(Clone, Copy, Debug)]
+pub(crate) struct Neighbours {
+    pub(crate) before: Option<usize>,
+    pub(crate) after: Option<usize>,
+}

@@ -1,0 +1,62 @@
+"""The pictures of the pages, docs/pictures/NAME.svg. Those of scripts are drawn from examples/NAME.pobj or
+comparison/differences/NAME.pobj, and from NAME.out beside the picture, which has what is answered to the copy of the script that
+asks for the state.
+
+    pages.py asking NAME          that copy, on standard output
+    pages.py draw                 draws all pictures of the pages
+"""
+
+import pathlib
+import sys
+
+sys.dont_write_bytecode = True
+sys.path.insert(0, str(pathlib.Path(__file__).resolve().parent))
+
+import crates
+import sequence
+import story
+import timeline
+
+TOP = pathlib.Path(__file__).resolve().parent.parent.parent
+PICTURES = TOP / "docs/pictures"
+SCRIPTS = (TOP / "examples", TOP / "comparison/differences")
+
+
+def script_of(name):
+    """The file of the script of that name."""
+    for folder in SCRIPTS:
+        if (folder / f"{name}.pobj").exists():
+            return folder / f"{name}.pobj"
+    raise FileNotFoundError(f"there is no script {name}.pobj in examples/ or comparison/differences/")
+
+
+def of_script(name):
+    """The picture of a script."""
+    file = script_of(name)
+    told = story.read(file.read_bytes(), (PICTURES / f"{name}.out").read_text())
+    return timeline.draw(told, file.name)
+
+
+def all_pictures():
+    """All pictures of the pages, by their names."""
+    pictures = {file.stem: of_script(file.stem) for file in sorted(PICTURES.glob("*.out"))}
+    pictures["crates"] = crates.draw((TOP / "crates.txt").read_text())
+    pictures["waiting"] = sequence.draw()
+    return pictures
+
+
+def main(words):
+    """Carries out the words, and gives the status."""
+    if words[:1] == ["asking"] and len(words) == 2:
+        sys.stdout.buffer.write(story.asking(script_of(words[1]).read_bytes())[0])
+    elif words == ["draw"]:
+        for name, picture in all_pictures().items():
+            (PICTURES / f"{name}.svg").write_bytes(picture.encode())
+    else:
+        print(__doc__, file=sys.stderr)
+        return 2
+    return 0
+
+
+if __name__ == "__main__":
+    sys.exit(main(sys.argv[1:]))

@@ -1,0 +1,106 @@
+"""What all pictures are made of: elements of SVG, and the style, which has colours for light and for dark."""
+
+import html
+import re
+
+# The width of a letter, in pixels: of a script's own words, which have one width, and of all other text, at most.
+LETTER = 6.7
+PROSE_LETTER = 6.5
+# Bytes that no XML may have, and characters that would change how the text beside them is shown.
+UNSHOWN = re.compile("[\x00-\x1f\x7f-\x9f\u200b-\u200f\u2028-\u202e\u2060-\u206f\ufeff\ufffe\uffff]")
+# How many colours there are for entries. They are those of Paul Tol's light scheme, which readers without one kind of cone tell
+# apart, and on which dark text is read.
+COLOURS = ("#77aadd", "#ee8866", "#eedd88", "#ffaabb", "#99ddff", "#44bb99", "#bbcc33", "#dddddd")
+LIGHT = {"paper": "#ffffff", "stripe": "#f3f5f8", "ink": "#1c2128", "quiet": "#57606a", "rule": "#c5ccd3", "fault": "#b3261e"}
+DARK = {"paper": "#0d1117", "stripe": "#181e27", "ink": "#e6edf3", "quiet": "#9aa5b1", "rule": "#3d4652", "fault": "#ff9d94"}
+
+
+def clean(text):
+    """The text as an element or an attribute may have it: what is no text is a mark that something stood there."""
+    return html.escape(UNSHOWN.sub("\ufffd", text))
+
+
+def tag(name, attributes, *content):
+    """An element. Numbers have one decimal at most, so that the same picture is always the same bytes."""
+    words = "".join(f' {key}="{short(value)}"' for key, value in attributes.items())
+    return f"<{name}{words}>{''.join(content)}</{name}>" if content else f"<{name}{words}/>"
+
+
+def short(value):
+    """The value of an attribute."""
+    return f"{value:.1f}".rstrip("0").rstrip(".") if isinstance(value, float) else clean(str(value))
+
+
+def text(x, y, words, kind="", anchor="start"):
+    """A text of this class, if there are words; `prose` is one that isn't a script's own."""
+    if not words:
+        return ""
+    attributes = {"x": x, "y": y, "class": kind, "text-anchor": anchor}
+    return tag("text", {key: value for key, value in attributes.items() if value not in ("", "start")}, clean(words))
+
+
+def line(x1, y1, x2, y2, kind):
+    """A line."""
+    return tag("line", {"x1": x1, "y1": y1, "x2": x2, "y2": y2, "class": kind})
+
+
+def box(x, y, width, height, kind, round=0):
+    """A rectangle."""
+    attributes = {"x": x, "y": y, "width": width, "height": height, "class": kind}
+    return tag("rect", {**attributes, "rx": round} if round else attributes)
+
+
+def told(words, *content, role="graphics-symbol img"):
+    """A part with what it says in words, for those who point at it and those who have it read to them."""
+    return tag("g", {"role": role}, tag("title", {}, clean(words)), *content)
+
+
+def shortened(words, most):
+    """The words, with their middle left out where they have more letters."""
+    if len(words) <= most:
+        return words
+    kept = most - 1
+    return words[: kept - kept // 2] + "…" + words[len(words) - kept // 2 :]
+
+
+def colours(names):
+    """What the style says of these colours."""
+    rules = (
+        ".paper{fill:%(paper)s}.stripe{fill:%(stripe)s}text{fill:%(ink)s}.quiet{fill:%(quiet)s}.wrong{fill:%(fault)s}"
+        ".rule{stroke:%(rule)s}.way{stroke:%(quiet)s}.full{fill:%(ink)s;stroke:%(paper)s}.open{fill:%(paper)s;stroke:%(ink)s}"
+        ".thick{stroke:%(ink)s}.under{stroke:%(paper)s}.alarm{fill:%(fault)s}.hole{stroke:%(paper)s}.halo{stroke:%(paper)s}"
+        ".arrow{stroke:%(quiet)s}.head-of{fill:%(quiet)s}.crate{fill:%(stripe)s;stroke:%(quiet)s}"
+    )
+    return rules % names
+
+
+def style():
+    """The style of all pictures."""
+    entries = "".join(f".c{n}{{fill:{colour}}}" for n, colour in enumerate(COLOURS))
+    fixed = (
+        'text{font:11px "DejaVu Sans Mono",Menlo,Consolas,monospace}'
+        '.prose{font:12px "DejaVu Sans",Verdana,Arial,sans-serif}.head{font-weight:bold;font-size:14px}'
+        ".small{font-size:10px}.new{font-weight:bold}text.inside{fill:#14181d;font-size:10px}.hit{fill:transparent}"
+        ".arrow,.thick,.under{fill:none}.arrow{stroke-width:1.3}.bar{stroke:#57606a}.open,.thick,.hole{stroke-width:2}"
+        ".under{stroke-width:5}.halo{paint-order:stroke;stroke-width:3px}.way{stroke-width:1.5}"
+    )
+    dark = f"@media (prefers-color-scheme:dark){{{colours(DARK)}}}"
+    return tag("style", {}, colours(LIGHT) + entries + fixed + dark)
+
+
+def picture(width, height, title, description, kind, parts):
+    """A whole picture of this kind."""
+    size = f"0 0 {short(float(width))} {short(float(height))}"
+    attributes = {
+        "xmlns": "http://www.w3.org/2000/svg",
+        "width": float(width),
+        "height": float(height),
+        "viewBox": size,
+        "role": "graphics-document document",
+        "aria-roledescription": kind,
+        "aria-labelledby": "title",
+        "aria-describedby": "description",
+    }
+    head = [tag("title", {"id": "title"}, clean(title)), tag("desc", {"id": "description"}, clean(description)), style()]
+    paper = box(0, 0, float(width), float(height), "paper")
+    return tag("svg", attributes, "\n", "\n".join([*head, paper, *parts]), "\n") + "\n"
