@@ -1,0 +1,5 @@
+pub mod Cuts
+pub mod Recordings
+pub mod TicketLemmas
+pub mod Trackings
+pub mod Views

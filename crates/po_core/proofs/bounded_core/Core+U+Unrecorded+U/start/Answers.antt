@@ -1,0 +1,6 @@
+use Rattle.po_actions.proofs.Histories.{rest_opening, issued_opening}
+use Rattle.po_core.proofs.bounded_core.Core+U+Unrecorded+U.start.Goals as goal
+
+pub invariant_of-result : goal.invariant_of-result
+invariant_of-result g c =
+    rw c.new-2.ensures (record { rest = rest_opening g.U.Unit.meaning c.new-making.result.opening c.new-making.result.first_number; issued = issued_opening g.row.U-Value.Denot c.new-making.result })

@@ -1,0 +1,34 @@
+-- What contracts see of a core: its object, its tickets, and how many calls may be uncollected (this project's own).
+use Rattle.std.specs.Prelude.{ℕ, ◌≡◌, ◌<◌, ◌≤◌, List, Option, Some, None, if◌then◌else◌}
+use Rattle.po_calls.specs.declared.end.End.{End}
+use Rattle.po_calls.specs.declared.end.Place.{Place}
+use Rattle.po_calls.specs.declared.ticket.Ticket.{Ticket}
+use Rattle.po_accepted.specs.Tickets.{number_at, place_among, end_at}
+use Rattle.po_engine.specs.StateView.{StateView}
+use Rattle.po_actions.specs.View.{View}
+
+-- The object, and its tickets.
+pub record CoreView (S V : Type 0) : Type 0 where
+  pub object : View S V
+  -- by key the number of the uncollected call whose ticket has that key, if there is one
+  pub tickets : List (Option ℕ)
+  -- how many calls may be uncollected at once, where that number is fixed
+  pub capacity : Option ℕ
+
+module _ {S V : Type 0} where
+  -- how many calls of an object in this state may be uncollected at once, where that number is fixed
+  abbrev pub capacity_of : StateView S V → Option ℕ
+  capacity_of s = if s.is_fixed then Some s.most else None
+
+  -- where the call of a ticket is
+  abbrev pub place_of_ticket : CoreView S V → Ticket → Place V
+  place_of_ticket core ticket = place_among core.object.state.waiting core.object.state.ended core.tickets ticket
+
+  -- the end of the call of a ticket, if it has ended and isn't collected
+  abbrev pub end_of_ticket : CoreView S V → Ticket → Option (End V)
+  end_of_ticket core ticket = end_at (place_of_ticket core ticket)
+
+  -- Each ticket is of a call that was issued. A later call has a greater number, so a collected ticket stays Unknown.
+  abbrev pub AreIssued : CoreView S V → Type 0
+  AreIssued core =
+      (key n : ℕ) → number_at core.tickets key ≡ Some n → (core.object.making.first_number ≤ n) × (n < core.object.state.next)

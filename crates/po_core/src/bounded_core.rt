@@ -1,0 +1,79 @@
+//! A core that takes all its memory when it is made: how it is made, and how many calls it was given.
+
+ghost use Rattle.std.specs.Prelude.{◌≡◌, ◌≢◌, ◌+◌, [], ◌↔◌, count_by, Some, IfOk};
+ghost use Rattle.po_index.specs.Numbering.{entry_count};
+ghost use Rattle.po_actions.specs.Base.{is_issue};
+ghost use Rattle.po_actions.specs.View.{opening_view};
+ghost use Rattle.po_actions.specs.Cutting.{AreVolumes};
+
+use crate::object_core::Core;
+use crate::tracked_object::TrackedObject;
+use crate::unrecorded::Unrecorded;
+use po_actions::{MakeFault, Making, Start};
+use po_barriers::Order;
+use po_engine::State;
+use po_index::Shape;
+use po_unit::Unit;
+use std::alloc::Global;
+
+impl<U: Unit + Drop> Core<U, Unrecorded<U>> {
+    /// An object with this unit, from given numbers, with all memory for `most` uncollected calls at once.
+    ///
+    /// It fails where the unit hasn't as many entries as the shape, or where memory is wanting.
+    pub fn start(
+        alloc: Global,
+        unit: U,
+        shape: Shape,
+        order: Order,
+        start: Start,
+        most: usize,
+    ) -> Result<Core<U, Unrecorded<U>>, MakeFault>
+        ensures core { IfOk result (λ c. c ≡ record {
+          object = opening_view (record {
+            opening = unit;
+            shape = shape;
+            order = order;
+            max_queue = start.max_queue;
+            first_number = start.first_number;
+            first_place = start.first_place;
+          });
+          tickets = [];
+          capacity = Some most;
+        }) }
+        ensures mismatch { (result ≡ Err MakeFault.ShapeMismatch) ↔
+            (U.meaning.entries unit ≢ entry_count shape) }
+        // No event came before.
+        ensures volumes { IfOk result (λ c. AreVolumes U.meaning c.object []) }
+    {
+        if unit.entries() != shape.total() {
+            return Err(MakeFault::ShapeMismatch);
+        }
+        let making = Making::new(unit, shape, order, start);
+        let now = making.opening().copy()?;
+        let state = State::with_capacity(alloc, now, making.first_number(), most)?;
+        Ok(Core {
+            tracked: TrackedObject::new(making, state, Unrecorded::new()),
+        })
+    }
+}
+
+impl<U: Unit> TrackedObject<U, Unrecorded<U>> {
+    /// How many calls were issued: the history, which proofs alone know, has as many.
+    fn issued(&self) -> u64
+        ensures counted { result ≡ count_by is_issue self.now.object.events }
+        ensures numbered { self.now.object.state.next ≡ self.now.object.making.first_number + result }
+    {
+        self.state.next() - self.making.first_number()
+    }
+}
+
+impl<U: Unit> Core<U, Unrecorded<U>> {
+    /// How many calls were issued: the history, which proofs alone know, has as many.
+    pub fn issued(&self) -> u64
+        ensures counted { result ≡ count_by is_issue self.now.object.events }
+        // They are numbered from the first number on.
+        ensures numbered { self.now.object.state.next ≡ self.now.object.making.first_number + result }
+    {
+        self.tracked.issued()
+    }
+}

@@ -1,0 +1,396 @@
+//! A protected object between two protected actions: its core, which carries out every operation on it.
+
+ghost use Rattle.std.specs.Prelude.{◌≡◌, ◌∷◌, ◌++◌, [], slice_index, find, option_map, None, Some, Option, true, IfOk, IfErr, IfNone, OnSome, MatchResult, OnOk, OnErr};
+ghost use Rattle.po_index.specs.Numbering.{flat_number, is_public};
+ghost use Rattle.po_accepted.specs.Tickets.{number_at, is_live, SetsTicket};
+ghost use Rattle.po_accepted.specs.WaitingCalls.{has_number, is_of};
+ghost use Rattle.po_engine.specs.ObjectState.{counts_in};
+ghost use Rattle.po_actions.specs.View.{ended_now, next_place};
+ghost use Rattle.po_actions.specs.ProtectedAction.{IsProtectedAction, IsAbortOf, after_action, after_abort, abort_answer};
+ghost use Rattle.po_actions.specs.Refusals.{entry_of};
+ghost use Rattle.po_actions.specs.Commands.{issue_of, reply_of};
+ghost use Rattle.po_actions.specs.Headline.{Headline};
+ghost use Rattle.po_actions.specs.Cutting.{KeepsVolumes, AreVolumes};
+ghost use Rattle.po_core.specs.Tickets.{place_of_ticket, end_of_ticket, AreIssued};
+ghost use Rattle.po_core.specs.Refusals.{MayRefuse, entry_refusal, call_refusal, run_refusal, read_refusal, cancel_refusal, tick_refusal, finalized_refusal, count_refusal};
+ghost use Rattle.po_core.specs.declared.refusal.Refusal.{Refusal};
+
+use crate::record::Record;
+use crate::recorded::Recorded;
+use crate::refusal::Refusal;
+use crate::tracked_object::TrackedObject;
+use crate::unrecorded::Unrecorded;
+use po_accepted::Ended;
+use po_actions::Aborted;
+use po_barriers::Order;
+use po_calls::{Call, Deadline, End, Place, Ticket};
+use po_history::Event;
+use po_index::{EntryRef, Shape};
+use po_unit::Unit;
+use std::marker::Model;
+
+/// The core of a protected object (9.4), with a record of what has happened: in memory, or for proofs alone.
+///
+/// Each command is one protected action of one thread: its own event, and the servicing of the entry queues that
+/// follows it (9.5.1, 9.5.3). Between two commands the headline holds, which `headline` states.
+#[derive(Drop)]
+pub struct Core<U: Unit, R: Record<U> = Recorded<U>> {
+    pub(crate) tracked: TrackedObject<U, R>,
+}
+
+/// A core that takes all its memory when it is made, and keeps no record: its history is known to proofs alone. So many
+/// calls at most may be uncollected at once.
+pub type BoundedCore<U> = Core<U, Unrecorded<U>>;
+
+impl<U: Unit, R: Record<U>> Model for Core<U, R> {
+    ghost use Rattle.po_engine.specs.ObjectState.{IsAtRest};
+    ghost use Rattle.po_core.specs.Tickets.{CoreView, AreIssued as TicketsAreIssued};
+
+    ghost Value = { CoreView U U.Value };
+
+    ghost view = { λ c. c.tracked };
+
+    ghost invariant = { λ c. record {
+      rest : IsAtRest U.meaning c.tracked.object.state;
+      issued : TicketsAreIssued c.tracked;
+    } };
+}
+
+impl<U: Unit, R: Record<U>> Core<U, R> {
+    /// Issues a call on an entry (9.5.3).
+    ///
+    /// Refused 1, 2, 3, 7 and 8; where the number of calls is fixed 11, and else 9.
+    pub fn issue(
+        &mut self,
+        owner: u16,
+        entry: EntryRef,
+        value: U::Value,
+        deadline: Deadline,
+    ) -> Result<Ticket, Refusal>
+        ensures after { OnOk result (self.new.object ≡
+            after_action U.meaning self.old.object (issue_of self.old.object owner entry value deadline)) }
+        ensures number { IfOk result (λ ticket. ticket.number ≡ self.old.object.state.next) }
+        // No uncollected call had the key of the ticket.
+        ensures key { IfOk result (λ ticket. number_at self.old.tickets ticket.key ≡ None) }
+        ensures ticket { IfOk result (λ ticket.
+            SetsTicket self.old.tickets self.new.tickets ticket.key (Some ticket.number)) }
+        ensures capacity { self.new.capacity ≡ self.old.capacity }
+        ensures volumes { OnOk result (KeepsVolumes U.meaning self.old.object self.new.object) }
+        ensures action { OnOk result (IsProtectedAction U.meaning self.old.object self.new.object
+            (issue_of self.old.object owner entry value deadline)) }
+        ensures allowed { OnOk result (call_refusal self.old entry ≡ None) }
+        ensures refused { IfErr result (MayRefuse self.old.capacity (call_refusal self.old entry)) }
+        ensures unchanged { OnErr result (self.new ≡ self.old) }
+    {
+        let e = self.entry_from_outside(entry)?;
+        if self.tracked.state().is_finalized() {
+            return Err(Refusal::Finalized);
+        }
+        self.tracked.recall_invariant();
+        if self.tracked.state().next() == u64::MAX {
+            return Err(Refusal::NumbersSpent);
+        }
+        let ticket = self.tracked.issue(owner, e, value, deadline)?;
+        self.tracked.settle();
+        Ok(ticket)
+    }
+
+    /// Runs a protected procedure (9.5.1). The reply is a value, or the number of the exception that it propagates.
+    ///
+    /// Refused 4, 7 and 8; where the number of calls isn't fixed also 9.
+    pub fn run(
+        &mut self,
+        owner: u16,
+        op: u16,
+        value: U::Value,
+    ) -> Result<Result<U::Value, u32>, Refusal>
+        ensures after { IfOk result (λ reply. self.new ≡ record self.old {
+          object = after_action U.meaning self.old.object (Event.Ran owner op value reply);
+        }) }
+        ensures reply { IfOk result (λ reply. reply ≡ reply_of U.meaning self.old.object op value) }
+        ensures volumes { OnOk result (KeepsVolumes U.meaning self.old.object self.new.object) }
+        ensures action { IfOk result (λ reply.
+            IsProtectedAction U.meaning self.old.object self.new.object (Event.Ran owner op value reply)) }
+        ensures allowed { OnOk result (run_refusal U.meaning self.old.object op ≡ None) }
+        ensures refused { IfErr result (MayRefuse self.old.capacity (run_refusal U.meaning self.old.object op)) }
+        ensures unchanged { OnErr result (self.new ≡ self.old) }
+    {
+        if op >= self.tracked.state().procedures() {
+            return Err(Refusal::NoSuchOperation);
+        }
+        if self.tracked.state().is_finalized() {
+            return Err(Refusal::Finalized);
+        }
+        if self.tracked.place() >= u128::from(u64::MAX) {
+            return Err(Refusal::NumbersSpent);
+        }
+        self.tracked.recall_invariant();
+        let reply = self.tracked.run(owner, op, value)?;
+        self.tracked.settle();
+        Ok(reply)
+    }
+
+    /// What a protected function replies (9.5.1). Nothing changes, and no memory is taken.
+    ///
+    /// Refused 4 and 7.
+    pub fn read(&self, op: u16, value: U::Value) -> Result<Result<U::Value, u32>, Refusal>
+        ensures reply { IfOk result (λ reply. reply ≡
+            U.meaning.function self.now.object.state.unit op value
+            (counts_in U.meaning self.now.object.state)) }
+        ensures refused { MatchResult result
+            (λ _. read_refusal U.meaning self.now.object op ≡ None)
+            (λ r. read_refusal U.meaning self.now.object op ≡ Some r) }
+    {
+        if op >= self.tracked.state().functions() {
+            return Err(Refusal::NoSuchOperation);
+        }
+        if self.tracked.state().is_finalized() {
+            return Err(Refusal::Finalized);
+        }
+        Ok(self.tracked.state().read(op, value))
+    }
+
+    /// Attempts to cancel the call of a ticket (9.5.3, 9.5.4). No memory is taken.
+    ///
+    /// Refused 5, where the ticket is of no uncollected call, and 6.
+    pub fn cancel(&mut self, ticket: Ticket) -> Result<Aborted, Refusal>
+        ensures after { OnOk result (self.new ≡ record self.old {
+          object = after_abort U.meaning self.old.object ticket.number;
+        }) }
+        ensures answer { IfOk result (λ aborted. aborted ≡ abort_answer self.old.object ticket.number) }
+        ensures volumes { OnOk result (KeepsVolumes U.meaning self.old.object self.new.object) }
+        ensures action { OnOk result (IsAbortOf U.meaning self.old.object self.new.object ticket.number) }
+        ensures refused { MatchResult result
+            (λ _. cancel_refusal (place_of_ticket self.old ticket) ≡ None)
+            (λ r. cancel_refusal (place_of_ticket self.old ticket) ≡ Some r) }
+        ensures unchanged { OnErr result (self.new ≡ self.old) }
+    {
+        let call = self.tracked.cancellable(ticket)?;
+        Ok(self.cancel_waiting(ticket, call))
+    }
+
+    /// Attempts to cancel this call, which waits.
+    pub(crate) fn cancel_waiting(&mut self, ticket: Ticket, call: Call<U::Value>) -> Aborted
+        requires live { is_live self.old.tickets ticket ≡ true }
+        requires found { find (has_number ticket.number) self.old.object.state.waiting ≡ Some call }
+        ensures after { self.new ≡ record self.old {
+          object = after_abort U.meaning self.old.object ticket.number;
+        } }
+        ensures answer { result ≡ abort_answer self.old.object ticket.number }
+        ensures volumes { KeepsVolumes U.meaning self.old.object self.new.object }
+        ensures action { IsAbortOf U.meaning self.old.object self.new.object ticket.number }
+    {
+        self.tracked.recall_invariant();
+        if !call.sealed {
+            self.tracked.cancel(ticket);
+            self.tracked.settle();
+            return Aborted::Cancelled;
+        }
+        if call.aborted {
+            self.tracked.pass();
+        } else {
+            self.tracked.cancel(ticket);
+        }
+        Aborted::Kept
+    }
+
+    /// Raises the clock to t, if it is lower, and answers the clock.
+    ///
+    /// Refused 7; where the number of calls is fixed 8, and else 9.
+    pub fn tick(&mut self, t: u64) -> Result<u64, Refusal>
+        ensures after { OnOk result (self.new ≡ record self.old {
+          object = after_action U.meaning self.old.object (Event.Tick t);
+        }) }
+        ensures clock { IfOk result (λ clock. clock ≡ self.new.object.state.clock) }
+        ensures volumes { OnOk result (KeepsVolumes U.meaning self.old.object self.new.object) }
+        ensures action { OnOk result (
+            IsProtectedAction U.meaning self.old.object self.new.object (Event.Tick t)) }
+        ensures allowed { OnOk result (tick_refusal self.old ≡ None) }
+        ensures refused { IfErr result (MayRefuse self.old.capacity (tick_refusal self.old)) }
+        ensures unchanged { OnErr result (self.new ≡ self.old) }
+    {
+        if self.tracked.state().is_finalized() {
+            return Err(Refusal::Finalized);
+        }
+        self.tracked.recall_invariant();
+        self.tracked.tick(t)?;
+        self.tracked.settle();
+        Ok(self.clock())
+    }
+
+    /// Finalizes the object: Program_Error is raised at each queued call (9.4). No memory is taken.
+    ///
+    /// Refused 7.
+    pub fn finalize(&mut self) -> Result<(), Refusal>
+        ensures after { OnOk result (self.new ≡ record self.old {
+          object = after_action U.meaning self.old.object Event.Final;
+        }) }
+        ensures volumes { OnOk result (KeepsVolumes U.meaning self.old.object self.new.object) }
+        ensures action { OnOk result (
+            IsProtectedAction U.meaning self.old.object self.new.object Event.Final) }
+        ensures alone { OnOk result (self.new.object.events ≡ self.old.object.events ++ Event.Final ∷ []) }
+        ensures refused { MatchResult result
+            (λ _. finalized_refusal self.old.object ≡ None)
+            (λ r. finalized_refusal self.old.object ≡ Some r) }
+        ensures unchanged { OnErr result (self.new ≡ self.old) }
+    {
+        if self.tracked.state().is_finalized() {
+            return Err(Refusal::Finalized);
+        }
+        self.tracked.recall_invariant();
+        self.tracked.finalize();
+        Ok(())
+    }
+
+    /// Where the call of a ticket is.
+    pub fn end_of(&self, ticket: Ticket) -> Place<U::Value>
+        ensures { result ≡ place_of_ticket self.now ticket }
+    {
+        self.tracked.place_of(ticket)
+    }
+
+    /// Takes the end of the call of a ticket, if it has ended, and makes the ticket Unknown for good. Else nothing
+    /// changes.
+    pub fn collect(&mut self, ticket: Ticket) -> Option<End<U::Value>>
+        ensures end { result ≡ end_of_ticket self.old ticket }
+        ensures object { self.new.object ≡ self.old.object }
+        ensures taken { OnSome result (SetsTicket self.old.tickets self.new.tickets ticket.key None) }
+        ensures capacity { self.new.capacity ≡ self.old.capacity }
+        ensures left { IfNone result (self.new ≡ self.old) }
+    {
+        self.tracked.collect(ticket)
+    }
+
+    /// How many calls are queued on an entry: the attribute Count (9.9). Private entries are counted too.
+    ///
+    /// Refused 1 and 3.
+    pub fn count(&self, entry: EntryRef) -> Result<u64, Refusal>
+        ensures count { IfOk result (λ n. n ≡
+            slice_index (counts_in U.meaning self.now.object.state)
+            (entry_of self.now.object.making.shape entry)) }
+        ensures refused { MatchResult result
+            (λ _. count_refusal self.now.object entry ≡ None)
+            (λ r. count_refusal self.now.object entry ≡ Some r) }
+    {
+        let e = self.tracked.making().shape().flat(entry)?;
+        self.tracked.recall_invariant();
+        Ok(self.tracked.state().count(e))
+    }
+
+    /// The calls that the last command that wasn't refused ended, in the order in which they ended.
+    pub fn ended_now(&self) -> &[Ended<U::Value>]
+        ensures { result.now ≡ ended_now self.now.object }
+    {
+        self.tracked.ended_now()
+    }
+
+    /// The number of the owner's earliest queued call.
+    pub fn waiting_of(&self, owner: u16) -> Option<u64>
+        ensures { result ≡ option_map (λ x. x.number) (find (is_of owner) self.now.object.state.waiting) }
+    {
+        self.tracked.state().waiting_of(owner)
+    }
+
+    /// The number that the next call gets.
+    pub fn next(&self) -> u64
+        ensures { result ≡ self.now.object.state.next }
+    {
+        self.tracked.state().next()
+    }
+
+    /// The clock.
+    pub fn clock(&self) -> u64
+        ensures { result ≡ self.now.object.state.clock }
+    {
+        self.tracked.state().clock()
+    }
+
+    /// The unit as the object was made with it.
+    pub fn opening(&self) -> &U
+        ensures { result.now ≡ self.now.object.making.opening }
+    {
+        self.tracked.making().opening()
+    }
+
+    /// The unit as it is now.
+    pub fn unit(&self) -> &U
+        ensures { result.now ≡ self.now.object.state.unit }
+    {
+        self.tracked.state().unit()
+    }
+
+    /// The declarations of the object's entries.
+    pub fn shape(&self) -> &Shape
+        ensures { result.now ≡ self.now.object.making.shape }
+    {
+        self.tracked.making().shape()
+    }
+
+    /// The service order.
+    pub fn order(&self) -> Order
+        ensures { result ≡ self.now.object.making.order }
+    {
+        self.tracked.making().order()
+    }
+
+    /// The place of the next event in the whole history.
+    pub fn place(&self) -> u128
+        ensures { result ≡ next_place self.now.object }
+    {
+        self.tracked.place()
+    }
+
+    /// The place of the first event.
+    pub fn first_place(&self) -> u64
+        ensures { result ≡ self.now.object.making.first_place }
+    {
+        self.tracked.making().first_place()
+    }
+
+    /// The number of the first call.
+    pub fn first_number(&self) -> u64
+        ensures { result ≡ self.now.object.making.first_number }
+    {
+        self.tracked.making().first_number()
+    }
+
+    /// How many calls may be queued on an entry, where there is such a limit.
+    pub fn max_queue(&self) -> Option<u64>
+        ensures { result ≡ self.now.object.making.max_queue }
+    {
+        self.tracked.making().max_queue()
+    }
+
+    /// The headline, which holds of every core, whatever commands it has carried out or refused: no queued call has an
+    /// open barrier, each queue is in order of arrival, each accepted call is in exactly one place, and the history
+    /// replays, from its base, as serial protected actions of one thread and leads to the present state. And each ticket
+    /// is of an issued call.
+    pub fn headline(&self)
+        ensures headline { Headline U.meaning self.now.object }
+        ensures tickets { AreIssued self.now }
+        // Where the base is at the place of the first event, no volume is before it.
+        ensures uncut { self.now.object.base.place ≡ self.now.object.making.first_place → AreVolumes U.meaning self.now.object [] }
+    {
+        self.tracked.recall_invariant();
+    }
+
+    /// The flat number of a public entry, for a call from outside.
+    fn entry_from_outside(&self, entry: EntryRef) -> Result<u16, Refusal>
+        ensures number { IfOk result (λ e. flat_number self.now.object.making.shape entry ≡ Ok e) }
+        ensures public { IfOk result (λ e. is_public self.now.object.making.shape e ≡ true) }
+        ensures allowed { OnOk result ((other : Option Refusal) →
+            entry_refusal self.now.object.making.shape entry other ≡ other) }
+        ensures refused { IfErr result (λ r. (other : Option Refusal) →
+            entry_refusal self.now.object.making.shape entry other ≡ Some r) }
+    {
+        let shape = self.tracked.making().shape();
+        let Some(decl) = shape.decl(entry.entry) else {
+            return Err(Refusal::NoSuchEntry);
+        };
+        if !decl.public {
+            return Err(Refusal::PrivateEntry);
+        }
+        let number = shape.flat(entry)?;
+        Ok(number)
+    }
+}

@@ -1,0 +1,167 @@
+//! A record in memory.
+
+ghost use Rattle.std.specs.Prelude.{ℕ, ◌≡◌, ◌+◌, ◌≤◌, ◌<◌, ◌∷◌, ◌++◌, [], None, Some, true, false, length, vec_len, vec_capacity, MatchOption, IfOk, OnOk, if◌then◌else◌};
+ghost use Rattle.po_accepted.specs.Calls.{key_of};
+ghost use Rattle.po_engine.specs.ObjectState.{opening_state};
+ghost use Rattle.po_actions.specs.Base.{is_ran};
+ghost use Rattle.po_actions.specs.Making.{Making as WhatWasMade};
+ghost use Rattle.po_core.specs.Tracking.{opening_of};
+ghost use Rattle.po_core.specs.Noting.{Known, MayPush, calls_of, keys_on};
+ghost use Rattle.po_core.specs.Recording.{IsRecording};
+
+use crate::base::Base;
+use crate::noting::note_calls;
+use crate::record::Record;
+use crate::refusal::Refusal;
+use po_accepted::Ended;
+use po_actions::Making;
+use po_calls::Ticket;
+use po_engine::State;
+use po_history::{Event, History};
+use po_unit::Unit;
+use std::alloc::{AllocError, Global};
+
+/// A record in memory: the history since the base, a key for each number, and the calls that have ended.
+#[derive(Drop)]
+pub struct Recorded<U: Unit> {
+    /// From where the history replays.
+    pub(crate) base: Base<U>,
+    pub(crate) history: History<U::Value>,
+    /// The key of the ticket that each call got, by its number less the first one.
+    pub(crate) keys: Vec<usize>,
+    /// The calls that have ended, in that order.
+    pub(crate) ended: Vec<Ended<U::Value>>,
+    /// How many procedures have run.
+    pub(crate) ran: u64,
+}
+
+/// Makes room for the key of one more call, and for the ends of all calls that have a key then.
+fn reserve_lists<V>(keys: &mut Vec<usize>, ended: &mut Vec<Ended<V>>) -> Result<(), AllocError>
+    ensures key { OnOk result (vec_len keys.new + 1 ≤ vec_capacity keys.new) }
+    ensures ends { OnOk result (vec_len keys.new + 1 ≤ vec_capacity ended.new) }
+    ensures keys { (keys.new.items ≡ keys.old.items) × (vec_len keys.new ≡ vec_len keys.old) }
+    ensures ended { (ended.new.items ≡ ended.old.items) × (vec_len ended.new ≡ vec_len ended.old) }
+    ensures grows { vec_capacity ended.old ≤ vec_capacity ended.new }
+{
+    keys.reserve(1)?;
+    let more = (keys.len() + 1).saturating_sub(ended.len());
+    ended.reserve(more)
+}
+
+/// Notes the key of the call that an event issued.
+fn push_key(keys: &mut Vec<usize>, ticket: Option<Ticket>)
+    requires { vec_len keys.old + calls_of ticket ≤ vec_capacity keys.old }
+    ensures items { keys.new.items ≡ keys_on keys.old.items ticket }
+    ensures len { vec_len keys.new ≡ vec_len keys.old + calls_of ticket }
+    ensures capacity { vec_capacity keys.new ≡ vec_capacity keys.old }
+{
+    if let Some(ticket) = ticket {
+        keys.push_reserved(ticket.key);
+    }
+}
+
+/// How many procedures have run, after one more event.
+fn counted<V: Copy>(ran: u64, event: Event<V>) -> u64
+    requires { is_ran event ≡ true → ran < u64.MAX }
+    ensures { result ≡ ran + (if is_ran event then 1 else 0) }
+{
+    match event {
+        Event::Ran { .. } => ran + 1,
+        _ => ran,
+    }
+}
+
+/// A place is a word, and so many events are in memory.
+fn recall_place<U: Unit>(base: &Base<U>, history: &History<U::Value>)
+    ensures { base.now.place + length history.now.events < 36_893_488_147_419_103_232 }
+{
+    let (_place, _events) = (base.place(), history.events().len());
+}
+
+impl<U: Unit + Drop> Recorded<U> {
+    /// The record of an object without events.
+    pub(crate) fn new(alloc: Global, making: &Making<U>) -> Result<Recorded<U>, AllocError>
+        ensures base { IfOk result (λ r. r.base ≡ opening_of making.now) }
+        ensures events { IfOk result (λ r. r.history.events ≡ []) }
+        ensures has { IfOk result (λ r. (s : Known U U.Value) → s.state ≡ opening_state making.now.opening making.now.first_number
+            → s.keys ≡ [] → s.first ≡ making.now.first_number → s.is_fixed ≡ false
+            → IsRecording making.now s 1 0 r.base r.history r.keys r.ended r.ran) }
+    {
+        let unit = making.opening().copy()?;
+        let (first_number, first_place) = (making.first_number(), making.first_place());
+        let history = History::new(alloc, first_number, first_place)?;
+        Ok(Recorded {
+            base: Base::new(alloc, unit, first_number, first_place),
+            history,
+            keys: Vec::new(alloc),
+            ended: Vec::new(alloc),
+            ran: 0,
+        })
+    }
+}
+
+impl<U: Unit> Recorded<U> {
+    /// The ticket that the call with number n got, where the first call has this number.
+    pub(crate) fn ticket_of(&self, first: u64, n: u64) -> Option<Ticket>
+        ensures { MatchOption result (key_of first self.now.keys.items n ≡ None)
+            (λ t. (key_of first self.now.keys.items n ≡ Some t.key) × (t.number ≡ n)) }
+    {
+        if n < first {
+            return None;
+        }
+        let key = *self.keys.get((n - first) as usize)?;
+        Some(Ticket { key, number: n })
+    }
+}
+
+impl<U: Unit> Record<U> for Recorded<U> {
+    ghost base = { λ making r. r.base };
+
+    ghost events = { λ r. r.history.events };
+
+    ghost IsOf = { λ making r s room calls. IsRecording making s room calls r.base r.history r.keys r.ended r.ran };
+
+    fn reserve_call(
+        &mut self,
+        _making: &Making<U>,
+        state: &mut State<U>,
+        rank: u8,
+    ) -> Result<(), Refusal> {
+        state.reserve()?;
+        reserve_lists(&mut self.keys, &mut self.ended)?;
+        self.history.reserve_for(rank)?;
+        Ok(())
+    }
+
+    fn reserve_event(
+        &mut self,
+        _making: &Making<U>,
+        _state: &State<U>,
+        _place: u128,
+    ) -> Result<(), Refusal> {
+        recall_place(&self.base, &self.history);
+        self.history.reserve_event()?;
+        Ok(())
+    }
+
+    fn push(&mut self, event: Event<U::Value>)
+        requires { MayPush U.meaning (λ making s room calls. IsRecording making s room calls self.old.base self.old.history self.old.keys self.old.ended self.old.ran) (λ making. self.old.base) self.old.history.events event }
+        ensures base { (making : WhatWasMade U) → self.new.base ≡ self.old.base }
+        ensures events { self.new.history.events ≡ self.old.history.events ++ event ∷ [] }
+        ensures has { (making : WhatWasMade U) (s : Known U U.Value) (room calls : ℕ) → IsRecording making s (room + 1) calls self.old.base self.old.history self.old.keys self.old.ended self.old.ran → IsRecording making s room calls self.new.base self.new.history self.new.keys self.new.ended self.new.ran }
+    {
+        self.ran = counted(self.ran, event);
+        self.history.push_owed(event);
+    }
+
+    fn note_calls(
+        &mut self,
+        _making: &Making<U>,
+        state: &State<U>,
+        noted: usize,
+        ticket: Option<Ticket>,
+    ) {
+        push_key(&mut self.keys, ticket);
+        note_calls(&mut self.history, &mut self.ended, state, noted);
+    }
+}

@@ -1,0 +1,92 @@
+//! Why commands are refused.
+
+ghost use Rattle.std.specs.Prelude.{◌≡◌};
+ghost use Rattle.po_core.specs.RefusalNumbers.{refusal_number};
+ghost use Rattle.po_core.specs.declared.refusal.Refusal.TheVariants.{OutOfMemory};
+
+use po_index::IndexFault;
+use std::alloc::AllocError;
+use thiserror::Error;
+
+/// Why a command is refused, in the order in which a call checks. A refused command changes nothing.
+#[derive(Clone, Copy, Debug, PartialEq, Eq, Error)]
+pub enum Refusal {
+    /// 1: the object has no such entry.
+    #[error("the object has no such entry")]
+    NoSuchEntry,
+    /// 2: the entry is private, and can be named by a requeue alone (9.4, 9.5.4).
+    #[error("the entry is private: a requeue alone can name it")]
+    PrivateEntry,
+    /// 3: a single entry with an index, a family without one, or an index outside of the family's range (9.5.2).
+    #[error("the index is missing, not wanted, or out of range")]
+    BadIndex,
+    /// 4: the object has no such procedure or function.
+    #[error("the object has no such procedure or function")]
+    NoSuchOperation,
+    /// 5: no call with this number was issued, or the ticket is of no uncollected call.
+    #[error("no call has that number")]
+    UnknownCall,
+    /// 6: the call has ended.
+    #[error("the call has ended")]
+    AlreadyEnded,
+    /// 7: the object is finalized (9.4).
+    #[error("the object is finalized")]
+    Finalized,
+    /// 8: there is no further number for a call, or no further place for an event.
+    #[error("no number is left for a call, or no place for an event")]
+    NumbersSpent,
+    /// 9: memory was wanting. An object that took all its memory when it was made never answers it.
+    #[error("out of memory")]
+    OutOfMemory,
+    /// 10: no call of that seat waits. An object behind a lock alone answers it.
+    #[error("no call of that seat is queued")]
+    NoCall,
+    /// 11: as many calls are uncollected as may be. An object that took all its memory when it was made alone answers it.
+    #[error("too many calls")]
+    TooManyCalls,
+}
+
+impl Refusal {
+    /// The number of the refusal, from 1 to 11.
+    pub fn number(self) -> u8
+        ensures { result ≡ refusal_number self }
+    {
+        match self {
+            Refusal::NoSuchEntry => 1,
+            Refusal::PrivateEntry => 2,
+            Refusal::BadIndex => 3,
+            Refusal::NoSuchOperation => 4,
+            Refusal::UnknownCall => 5,
+            Refusal::AlreadyEnded => 6,
+            Refusal::Finalized => 7,
+            Refusal::NumbersSpent => 8,
+            Refusal::OutOfMemory => 9,
+            Refusal::NoCall => 10,
+            Refusal::TooManyCalls => 11,
+        }
+    }
+}
+
+impl From<AllocError> for Refusal {
+    ghost use Rattle.std.specs.Prelude.{◌≡◌};
+
+    ghost from_gives = { λ _ refusal. refusal ≡ OutOfMemory };
+
+    fn from(_error: AllocError) -> Refusal {
+        Refusal::OutOfMemory
+    }
+}
+
+impl From<IndexFault> for Refusal {
+    ghost use Rattle.std.specs.Prelude.{◌≡◌};
+    ghost use Rattle.po_core.specs.RefusalNumbers.{refusal_of};
+
+    ghost from_gives = { λ fault refusal. refusal ≡ refusal_of fault };
+
+    fn from(fault: IndexFault) -> Refusal {
+        match fault {
+            IndexFault::NoSuchEntry => Refusal::NoSuchEntry,
+            _ => Refusal::BadIndex,
+        }
+    }
+}

@@ -1,0 +1,355 @@
+//! An object with its record, in the middle of a protected action or between two.
+
+ghost use Rattle.std.specs.Prelude.{◌≡◌, ◌<◌, ◌≤◌, ◌&&◌, [], find, None, Some, true, false, MatchOption, MatchBool, MatchResult, IfOk, IfErr, IfNone, OnSome, OnOk, OnErr};
+ghost use Rattle.po_index.specs.Numbering.{entry_count, is_public};
+ghost use Rattle.po_accepted.specs.Finding.{IsFound};
+ghost use Rattle.po_accepted.specs.Tickets.{number_at, is_live, SetsTicket};
+ghost use Rattle.po_accepted.specs.WaitingCalls.{has_number};
+ghost use Rattle.po_engine.specs.ObjectState.{IsAtRest, counts_in, opening_state};
+ghost use Rattle.po_engine.specs.Step.{MayBegin};
+ghost use Rattle.po_engine.specs.Pick.{pick, weight};
+ghost use Rattle.po_actions.specs.View.{ended_now, last_served, next_place, opening_view};
+ghost use Rattle.po_actions.specs.Progress.{Settles, Begins, Happens, IsSameCommand};
+ghost use Rattle.po_actions.specs.ProtectedAction.{settled, without_event};
+ghost use Rattle.po_actions.specs.Headline.{IsSound};
+ghost use Rattle.po_core.specs.Tickets.{capacity_of, place_of_ticket, end_of_ticket};
+ghost use Rattle.po_core.specs.Refusals.{MayRefuse, cancel_refusal, if_full, if_uncounted};
+ghost use Rattle.po_core.specs.Tracking.{opening_of};
+ghost use Rattle.po_core.specs.Noting.{known_of};
+
+use crate::record::{Record, note};
+use crate::refusal::Refusal;
+use po_accepted::Ended;
+use po_actions::Making;
+use po_calls::{Call, Deadline, End, Place, Ticket};
+use po_engine::{State, served_by};
+use po_history::Event;
+use po_unit::Unit;
+use std::marker::Model;
+
+/// An object in the middle of a protected action or between two: its state, and a record of what has happened.
+#[derive(Drop)]
+pub(crate) struct TrackedObject<U: Unit, R: Record<U>> {
+    pub(crate) making: Making<U>,
+    pub(crate) state: State<U>,
+    pub(crate) kept: R,
+    /// The place of the next event.
+    pub(crate) place: u128,
+    /// The entry that was served last.
+    pub(crate) last: Option<u16>,
+}
+
+impl<U: Unit, R: Record<U>> Model for TrackedObject<U, R> {
+    ghost use Rattle.po_engine.specs.Pick.{owed};
+    ghost use Rattle.po_core.specs.Tickets.{CoreView, capacity_of as the_capacity};
+    ghost use Rattle.po_core.specs.Tracking.{IsTracked};
+    ghost use Rattle.po_core.specs.Noting.{known_of as what_is_known};
+
+    ghost Value = { CoreView U U.Value };
+
+    ghost view = { λ a. record {
+      object = record {
+        making = a.making;
+        base = R.base a.making a.kept;
+        events = R.events a.kept;
+        state = a.state.state;
+        ended_before = a.state.before;
+      };
+      tickets = a.state.tickets;
+      capacity = the_capacity a.state;
+    } };
+
+    ghost invariant = { λ a. record {
+      tracked : IsTracked U.meaning a.making (R.base a.making a.kept) a.state (R.events a.kept) a.place a.last;
+      has : R.IsOf a.making a.kept (what_is_known a.state) (owed U.meaning a.state.state) 0;
+    } };
+}
+
+/// A rank is a byte.
+fn rank_of<U: Unit>(e: u16, v: U::Value) -> u8
+    ensures rank { result ≡ U.meaning.rank e v }
+    ensures low { U.meaning.rank e v ≤ 255 }
+{
+    U::rank(e, v)
+}
+
+impl<U: Unit, R: Record<U>> TrackedObject<U, R> {
+    /// An object without events.
+    pub(crate) fn new(making: Making<U>, state: State<U>, kept: R) -> TrackedObject<U, R>
+        requires total { U.meaning.entries making.opening ≡ entry_count making.shape }
+        requires state { state ≡ record {
+          state = opening_state making.opening making.first_number;
+          places = [];
+          hand = None;
+          tickets = [];
+          keys = [];
+          first = making.first_number;
+          most = state.most;
+          is_fixed = state.is_fixed;
+          before = 0;
+        } }
+        requires base { R.base making kept ≡ opening_of making }
+        requires events { R.events kept ≡ [] }
+        requires has { R.IsOf making kept (known_of state) 1 0 }
+        ensures { result ≡ record { object = opening_view making; tickets = []; capacity = capacity_of state } }
+    {
+        let (place, _number) = (u128::from(making.first_place()), making.first_number());
+        TrackedObject {
+            making,
+            state,
+            kept,
+            place,
+            last: None,
+        }
+    }
+
+    /// The next inner event happens, if there is one.
+    fn step(&mut self) -> bool
+        ensures step { MatchOption (pick U.meaning self.old.object.making.order (last_served self.old.object) self.old.object.state)
+            ((result ≡ false) × (self.new ≡ self.old))
+            (λ e. (result ≡ true) × Happens U.meaning self.old.object self.new.object e) }
+        ensures same { IsSameCommand self.old.object self.new.object }
+        ensures tickets { self.new.tickets ≡ self.old.tickets }
+        ensures capacity { self.new.capacity ≡ self.old.capacity }
+        ensures falls { MatchBool result (weight U.meaning self.new.object.state < weight U.meaning self.old.object.state) (IsAtRest U.meaning self.new.object.state) }
+    {
+        match self.state.pick(self.making.order(), self.last) {
+            Some(event) => {
+                let noted = self.state.ended_now().len();
+                let queueing = self.making.queueing(self.place);
+                self.state.perform(queueing, event);
+                note(
+                    &mut self.kept,
+                    &self.making,
+                    &self.state,
+                    event,
+                    noted,
+                    None,
+                );
+                self.place += 1;
+                self.last = served_by(self.last, event);
+                true
+            }
+            None => false,
+        }
+    }
+
+    /// The inner events that follow happen, up to rest.
+    pub(crate) fn settle(&mut self)
+        ensures settles { Settles U.meaning self.old.object self.new.object }
+        ensures exact { self.new ≡ record self.old { object = settled U.meaning self.old.object } }
+        ensures rest { IsAtRest U.meaning self.new.object.state }
+        ensures same { IsSameCommand self.old.object self.new.object }
+    {
+        while self.step() {}
+    }
+
+    /// A call is issued.
+    pub(crate) fn issue(
+        &mut self,
+        owner: u16,
+        e: u16,
+        v: U::Value,
+        deadline: Deadline,
+    ) -> Result<Ticket, Refusal>
+        requires begin { MayBegin U.meaning self.old.object.state }
+        requires entry { e < U.meaning.entries self.old.object.state.unit }
+        requires public { is_public self.old.object.making.shape e ≡ true }
+        requires number { self.old.object.state.next < u64.MAX }
+        ensures begins { OnOk result (Begins U.meaning self.old.object self.new.object (Event.Issue self.old.object.state.next owner e v deadline)) }
+        ensures number { IfOk result (λ ticket. ticket.number ≡ self.old.object.state.next) }
+        ensures key { IfOk result (λ ticket. number_at self.old.tickets ticket.key ≡ None) }
+        ensures ticket { IfOk result (λ ticket.
+            SetsTicket self.old.tickets self.new.tickets ticket.key (Some ticket.number)) }
+        ensures capacity { self.new.capacity ≡ self.old.capacity }
+        ensures allowed { OnOk result (if_full self.old.capacity self.old.tickets ≡ None) }
+        ensures refused { IfErr result (MayRefuse self.old.capacity (if_full self.old.capacity self.old.tickets)) }
+        ensures err { OnErr result (self.new ≡ self.old) }
+    {
+        let rank = rank_of::<U>(e, v);
+        self.kept.reserve_call(&self.making, &mut self.state, rank)?;
+        self.state.begin();
+        let event = Event::Issue {
+            n: self.state.next(),
+            owner,
+            e,
+            v,
+            deadline,
+        };
+        let queueing = self.making.queueing(self.place);
+        let ticket = self.state.issue(queueing, owner, e, v, deadline);
+        note(
+            &mut self.kept,
+            &self.making,
+            &self.state,
+            event,
+            0,
+            Some(ticket),
+        );
+        self.place += 1;
+        Ok(ticket)
+    }
+
+    /// A procedure runs, and replies.
+    pub(crate) fn run(
+        &mut self,
+        owner: u16,
+        op: u16,
+        v: U::Value,
+    ) -> Result<Result<U::Value, u32>, Refusal>
+        requires begin { MayBegin U.meaning self.old.object.state }
+        requires op { op < U.meaning.procedures self.old.object.state.unit }
+        requires place { next_place self.old.object < u64.MAX }
+        ensures reply { IfOk result (λ reply. reply ≡ (U.meaning.procedure self.old.object.state.unit op v (counts_in U.meaning self.old.object.state)).1) }
+        ensures begins { IfOk result (λ reply. Begins U.meaning self.old.object self.new.object (Event.Ran owner op v reply)) }
+        ensures tickets { self.new.tickets ≡ self.old.tickets }
+        ensures capacity { self.new.capacity ≡ self.old.capacity }
+        ensures refused { IfErr result (MayRefuse self.old.capacity None) }
+        ensures err { OnErr result (self.new ≡ self.old) }
+    {
+        self.kept
+            .reserve_event(&self.making, &self.state, self.place)?;
+        self.state.recall_invariant();
+        self.state.begin();
+        let reply = self.state.run(op, v);
+        let event = Event::Ran {
+            owner,
+            op,
+            v,
+            reply,
+        };
+        note(&mut self.kept, &self.making, &self.state, event, 0, None);
+        self.place += 1;
+        Ok(reply)
+    }
+
+    /// The queued call of the ticket is cancelled, or marked as aborted.
+    pub(crate) fn cancel(&mut self, ticket: Ticket)
+        requires begin { MayBegin U.meaning self.old.object.state }
+        requires live { is_live self.old.tickets ticket ≡ true }
+        requires found { IsFound (λ x. (x.sealed && x.aborted) ≡ false) (find (has_number ticket.number) self.old.object.state.waiting) }
+        ensures begins { Begins U.meaning self.old.object self.new.object (Event.Abort ticket.number) }
+        ensures tickets { self.new.tickets ≡ self.old.tickets }
+        ensures capacity { self.new.capacity ≡ self.old.capacity }
+    {
+        self.state.begin();
+        self.state.abort(ticket);
+        let event = Event::Abort(ticket.number);
+        note(&mut self.kept, &self.making, &self.state, event, 0, None);
+        self.place += 1;
+    }
+
+    /// The clock rises.
+    pub(crate) fn tick(&mut self, t: u64) -> Result<(), Refusal>
+        requires begin { MayBegin U.meaning self.old.object.state }
+        ensures begins { OnOk result (Begins U.meaning self.old.object self.new.object (Event.Tick t)) }
+        ensures tickets { self.new.tickets ≡ self.old.tickets }
+        ensures capacity { self.new.capacity ≡ self.old.capacity }
+        ensures allowed { OnOk result (if_uncounted self.old.capacity (next_place self.old.object) ≡ None) }
+        ensures refused { IfErr result (MayRefuse self.old.capacity (if_uncounted self.old.capacity (next_place self.old.object))) }
+        ensures err { OnErr result (self.new ≡ self.old) }
+    {
+        self.kept
+            .reserve_event(&self.making, &self.state, self.place)?;
+        self.state.recall_invariant();
+        self.state.begin();
+        self.state.tick(t);
+        let event = Event::Tick(t);
+        note(&mut self.kept, &self.making, &self.state, event, 0, None);
+        self.place += 1;
+        Ok(())
+    }
+
+    /// The object is finalized, and all queued calls end.
+    pub(crate) fn finalize(&mut self)
+        requires begin { MayBegin U.meaning self.old.object.state }
+        ensures begins { Begins U.meaning self.old.object self.new.object Event.Final }
+        ensures tickets { self.new.tickets ≡ self.old.tickets }
+        ensures capacity { self.new.capacity ≡ self.old.capacity }
+    {
+        self.state.begin();
+        self.state.finalize();
+        let event = Event::Final;
+        note(&mut self.kept, &self.making, &self.state, event, 0, None);
+        self.place += 1;
+    }
+
+    /// A command that has no event, and ends no call.
+    pub(crate) fn pass(&mut self)
+        ensures { self.new ≡ record self.old { object = without_event self.old.object } }
+    {
+        self.state.begin();
+    }
+
+    /// The waiting call of the ticket; else the refusal of an attempt to cancel it.
+    pub(crate) fn cancellable(&self, ticket: Ticket) -> Result<Call<U::Value>, Refusal>
+        ensures live { OnOk result (is_live self.now.tickets ticket ≡ true) }
+        ensures found { IfOk result (λ x. find (has_number ticket.number) self.now.object.state.waiting ≡ Some x) }
+        ensures refused { MatchResult result
+            (λ _. cancel_refusal (place_of_ticket self.now ticket) ≡ None)
+            (λ r. cancel_refusal (place_of_ticket self.now ticket) ≡ Some r) }
+    {
+        match self.state.place(ticket) {
+            Place::Unknown => Err(Refusal::UnknownCall),
+            Place::Ended(_) => Err(Refusal::AlreadyEnded),
+            Place::Waiting => match self.state.waiting_call(ticket) {
+                Some(call) => Ok(call),
+                None => Err(Refusal::AlreadyEnded),
+            },
+        }
+    }
+
+    /// Takes the end of the call of a ticket, if it has ended, and makes the ticket Unknown for good. Else nothing
+    /// changes.
+    pub(crate) fn collect(&mut self, ticket: Ticket) -> Option<End<U::Value>>
+        ensures end { result ≡ end_of_ticket self.old ticket }
+        ensures object { self.new.object ≡ self.old.object }
+        ensures taken { OnSome result (SetsTicket self.old.tickets self.new.tickets ticket.key None) }
+        ensures capacity { self.new.capacity ≡ self.old.capacity }
+        ensures left { IfNone result (self.new ≡ self.old) }
+    {
+        self.state.collect(ticket)
+    }
+
+    /// Where the call of a ticket is.
+    pub(crate) fn place_of(&self, ticket: Ticket) -> Place<U::Value>
+        ensures { result ≡ place_of_ticket self.now ticket }
+    {
+        self.state.place(ticket)
+    }
+
+    /// What every history keeps. It replays from its base.
+    pub(crate) fn recall_invariant(&self)
+        ensures { IsSound U.meaning self.now.object }
+    {
+        let _ = &self.state;
+    }
+
+    /// With what the object was made.
+    pub(crate) fn making(&self) -> &Making<U>
+        ensures { result.now ≡ self.now.object.making }
+    {
+        &self.making
+    }
+
+    /// The data of the object and its calls.
+    pub(crate) fn state(&self) -> &State<U>
+        ensures { result.now.state ≡ self.now.object.state }
+    {
+        &self.state
+    }
+
+    /// The place of the next event.
+    pub(crate) fn place(&self) -> u128
+        ensures { result ≡ next_place self.now.object }
+    {
+        self.place
+    }
+
+    /// The calls that the last command ended.
+    pub(crate) fn ended_now(&self) -> &[Ended<U::Value>]
+        ensures { result.now ≡ ended_now self.now.object }
+    {
+        self.state.ended_now()
+    }
+}

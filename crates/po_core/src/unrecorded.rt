@@ -1,0 +1,80 @@
+//! No record: what has happened is known to proofs alone.
+
+ghost use Rattle.std.specs.Prelude.{◌≡◌, ◌∷◌, ◌++◌, [], true};
+ghost use Rattle.po_core.specs.Tracking.{opening_of};
+ghost use Rattle.po_core.specs.Noting.{MayPush};
+
+use crate::record::Record;
+use crate::refusal::Refusal;
+use po_actions::Making;
+use po_calls::Ticket;
+use po_engine::State;
+use po_history::Event;
+use po_trace::Trace;
+use po_unit::Unit;
+
+/// No record. The object takes all its memory when it is made, and what happens is known to proofs alone.
+#[derive(Drop)]
+pub struct Unrecorded<U: Unit> {
+    events: Trace<Event<U::Value>>,
+}
+
+impl<U: Unit> Unrecorded<U> {
+    /// The record of an object without events.
+    pub(crate) fn new() -> Unrecorded<U>
+        ensures { result.events.items ≡ [] }
+    {
+        Unrecorded {
+            events: Trace::new(),
+        }
+    }
+}
+
+impl<U: Unit> Record<U> for Unrecorded<U> {
+    ghost base = { λ making _. opening_of making };
+
+    ghost events = { λ r. r.events.items };
+
+    ghost IsOf = { λ making r s room calls. s.is_fixed ≡ true };
+
+    fn reserve_call(
+        &mut self,
+        _making: &Making<U>,
+        state: &mut State<U>,
+        _rank: u8,
+    ) -> Result<(), Refusal> {
+        if state.has_room() {
+            Ok(())
+        } else {
+            Err(Refusal::TooManyCalls)
+        }
+    }
+
+    fn reserve_event(
+        &mut self,
+        _making: &Making<U>,
+        _state: &State<U>,
+        place: u128,
+    ) -> Result<(), Refusal> {
+        if place < u128::from(u64::MAX) {
+            Ok(())
+        } else {
+            Err(Refusal::NumbersSpent)
+        }
+    }
+
+    fn push(&mut self, event: Event<U::Value>)
+        requires { MayPush U.meaning (λ making s room calls. s.is_fixed ≡ true) (λ making. opening_of making) self.old.events.items event }
+        ensures events { self.new.events.items ≡ self.old.events.items ++ event ∷ [] }
+    {
+        self.events = self.events.then(&event);
+    }
+
+    fn note_calls(
+        &mut self,
+        _making: &Making<U>,
+        _state: &State<U>,
+        _noted: usize,
+        _ticket: Option<Ticket>,
+    ) {}
+}
