@@ -1,5 +1,6 @@
 pub mod Cuts
 pub mod Recordings
+pub mod Refusing
 pub mod TicketLemmas
 pub mod Trackings
 pub mod Views
