@@ -12,7 +12,7 @@ use base.Growing.{latest, at_least, Least}
 use types.Logic.{Logic, sem}
 use types.Owned.{basic}
 use types.Growing.{latest_new, latest_grows, latest_shows, latest_bounds, at_least_dup, at_least_join}
-use types.Kit.{‵, raw, ◌⊛◌, some, given, later, ◌$◌, ◌∵◌, !, qed, pick, show, learn, check, done, use2}
+use types.Kit.{‵, ◌⊛◌, some, given, ◌$◌, ◌∵◌, !, qed, pick, show, learn, check, done, use2}
 use Rattle.logbook.specs.Kept.{logs}
 use Rattle.logbook.proofs.Roster.{prefix_out, prefix_in}
 use Rattle.po_log.specs.Owned.{keeper_owns, seen_owns}

@@ -1,5 +1,5 @@
 -- What the methods write into the ghost fields. These have no bytes, so this is all that the methods do.
-use Rattle.std.proofs.Common.{List, [], ◌∷◌, refl}
+use Rattle.std.proofs.Common.{List, [], ◌∷◌}
 use mathlib.Core.List.{IsPrefix, append-nil}
 
 module _ {X : Type 0} where

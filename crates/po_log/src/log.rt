@@ -1,6 +1,6 @@
 //! A log that only grows. It takes no memory, and its methods do nothing at run time.
 
-ghost use Rattle.std.specs.Prelude.{◌≡◌, ◌≤◌, ℕ, List, [], ◌∷◌, ◌++◌, length};
+ghost use Rattle.std.specs.Prelude.{◌≡◌, ◌≢◌, ◌≤◌, ℕ, List, [], ◌∷◌, ◌++◌, length};
 ghost use mathlib.Core.List.{IsPrefix};
 ghost use base.Stored.{coded_list};
 ghost use Rattle.po_log.specs.Owned.{keeper_owns, seen_owns};
@@ -69,11 +69,9 @@ impl<T> Keeper<T> {
     /// Adds to the log what a list has gained: the one that a value shows, which was `before` and is `now`.
     pub fn follow<X, M: Shows<X, T>>(&mut self, before: &Snapshot<X>, now: &X)
         requires goes_on { IsPrefix (M.list before.now.value) (M.list now.now) }
-        ensures followed {
-            (more : List T)
-                × (M.list before.now.value ++ more ≡ M.list now.now)
-                × (self.new.items ≡ self.old.items ++ more)
-        }
+        ensures followed { (more : List T)
+            × (M.list before.now.value ++ more ≡ M.list now.now)
+            × (self.new.items ≡ self.old.items ++ more) }
         ensures same_log { self.new.name ≡ self.old.name }
     {}
 
@@ -85,6 +83,13 @@ impl<T> Keeper<T> {
     {
         Seen { of: PhantomData }
     }
+
+    /// Tells that two keepers keep two logs: of a name there is one keeper, whatever it keeps. Both logs stay as they were.
+    pub fn apart<X>(&mut self, other: &mut Keeper<X>)
+        ensures two_logs { self.old.name ≢ other.old.name }
+        ensures unchanged { self.new ≡ self.old }
+        ensures other_unchanged { other.new ≡ other.old }
+    {}
 
     /// Tells that what was seen of this log is a beginning of it. The log stays as it was.
     pub fn recall(&mut self, seen: &Seen<T>)

@@ -1,37 +1,28 @@
 -- `follow` lets the log go on as a list has.
-use Rattle.std.proofs.Common.{◌≡◌, ℕ, List, [], ◌∷◌, ◌++◌, sym, refl, ap, ◌∙◌, subst}
-use mathlib.Core.List.{IsPrefix}
+use Rattle.std.proofs.Common.{List, [], ◌∷◌, ◌++◌, refl}
 use mir.Syntax.{a_type, dcons, dnil, named}
 use mir.Val.{Val, vunit, vptr}
 use mir.MapTy.{inst_fn}
 use base.Logic.{SProp, emp}
-use base.Fml.{Lft, Share, Fml, ftrue, fsep, flft, fhide}
-use types.Logic.{sem}
-use types.Kit.{‵, raw, ◌⊛◌, some, given, later, ◌$◌, ◌∵◌, !, qed, by, move, keep, drop, split, fsplit, fsplit3, fjoin, fjoin3, pick, learn, use0, use1, use2, await, rewrite, feq_i}
-use types.Run.{unit_lit, of_opd, no_more, and_then, returns, enter}
-use types.ByLocal.{alloc_all, pass_all, free_all, look_at, get, sets, env}
-use types.Part.{agg}
+use base.Fml.{Fml, ftrue, fsep, flft}
+use types.Kit.{‵, raw, ◌⊛◌, given, later, ◌$◌, ◌∵◌, !, qed, by, move, keep, drop, split, fsplit, fsplit3, fjoin, fjoin3, learn, use1, await, feq_i}
+use types.Run.{unit_lit, of_opd, returns, enter}
+use types.ByLocal.{alloc_all, pass_all, free_all, look_at, sets}
 use contract.Monad.{fact, fact_i}
 use contract.Running.{tables}
-use denote.Exit.{yes, no}
+use denote.Exit.{yes}
 use denote.RattleType.{RattleType, owns}
 use denote.Signature.{types_at, plain}
-use denote.Builtin.{RefOf, unit}
+use denote.Builtin.{RefOf}
 use denote.Ref.{mut_vals, mut_Tells, shr_vals, shr_Tells}
-use denote.Memory.{hidden_shr}
-use denote.Opens.{unhide}
 use denote.Steps.{nothing, opens, closes}
 use denote.Param.{param, bounded}
-use denote.Struct.Tuple.{Tuple}
-use denote.Struct.Lending.{lent_out}
 use denote.Triple.Walked.{Stays, stay_dropped, stay_ref, walk_of, Goes-dropped, Goes-ref}
-use Rattle.std.specs.contracts.marker.PhantomData as marker
 use Rattle.atomic_table.proofs.Walks.{proved}
 use Rattle.po_log.proofs.Written as written
-use Rattle.logbook.proofs.Fields.{token, Token, token_told, token_made, ends}
-use Rattle.po_log.specs.Owned.{keeper_owns, seen_owns}
+use Rattle.logbook.proofs.Fields.{ends}
+use Rattle.po_log.specs.Owned.{keeper_owns}
 use Rattle.po_log.specs.contracts.log.Keeper as Keeper
-use Rattle.po_log.specs.contracts.log.Seen as Seen
 use Rattle.po_log.proofs.Steps as steps
 use Rattle.std.specs.contracts.snapshot.Snapshot as Snap
 use Rattle.po_log.specs.contracts.log.Keeper.follow.{ended, clauses}

@@ -1,37 +1,27 @@
 -- `show` keeps the log, and gives what was seen.
-use Rattle.std.proofs.Common.{◌≡◌, ℕ, List, [], ◌∷◌, ◌++◌, sym, refl, ap, ◌∙◌, subst}
-use mathlib.Core.List.{IsPrefix}
-use mir.Syntax.{a_type, dcons, dnil, named}
-use mir.Val.{Val, vunit, vptr}
+use Rattle.std.proofs.Common.{List, [], ◌∷◌, refl}
+use mir.Syntax.{a_type, dnil, named}
+use mir.Val.{Val, vptr}
 use mir.MapTy.{inst_fn}
 use base.Logic.{SProp, emp}
-use base.Fml.{Lft, Share, Fml, ftrue, fsep, flft, fhide}
-use types.Logic.{sem}
-use types.Kit.{‵, raw, ◌⊛◌, some, given, later, ◌$◌, ◌∵◌, !, qed, by, move, keep, drop, split, fsplit, fsplit3, fjoin, fjoin3, pick, learn, use0, use1, use2, await, rewrite, feq_i}
-use types.Run.{unit_lit, of_opd, no_more, and_then, returns, enter}
-use types.ByLocal.{alloc_all, pass_all, free_all, look_at, get, sets, env}
+use base.Fml.{Fml, ftrue, fsep, flft}
+use types.Kit.{‵, raw, ◌⊛◌, ◌$◌, ◌∵◌, !, qed, by, move, keep, split, fsplit, fsplit3, fjoin, fjoin3, use0, use1, feq_i}
+use types.Run.{no_more, and_then, returns, enter}
+use types.ByLocal.{alloc_all, pass_all, free_all, look_at, get, sets}
 use types.Part.{agg}
-use contract.Monad.{fact, fact_i}
+use contract.Monad.{fact_i}
 use contract.Running.{tables}
-use denote.Exit.{yes, no}
 use denote.RattleType.{RattleType, owns}
 use denote.Signature.{types_at, plain}
-use denote.Builtin.{RefOf, unit}
-use denote.Ref.{mut_vals, mut_Tells, shr_vals, shr_Tells}
-use denote.Memory.{hidden_shr}
-use denote.Opens.{unhide}
+use denote.Ref.{mut_vals, mut_Tells}
 use denote.Steps.{nothing, opens, closes}
 use denote.Param.{param, bounded}
-use denote.Struct.Tuple.{Tuple}
-use denote.Struct.Lending.{lent_out}
-use denote.Triple.Walked.{Stays, stay_dropped, stay_ref, walk_of, Goes-dropped, Goes-ref}
-use Rattle.std.specs.contracts.marker.PhantomData as marker
+use denote.Triple.Walked.{Stays, stay_ref, walk_of, Goes-ref}
 use Rattle.atomic_table.proofs.Walks.{proved}
 use Rattle.po_log.proofs.Written as written
-use Rattle.logbook.proofs.Fields.{token, Token, token_told, token_made, ends}
+use Rattle.logbook.proofs.Fields.{token, Token, token_made, ends}
 use Rattle.po_log.specs.Owned.{keeper_owns, seen_owns}
 use Rattle.po_log.specs.contracts.log.Keeper as Keeper
-use Rattle.po_log.specs.contracts.log.Seen as Seen
 use Rattle.po_log.proofs.Steps as steps
 use Rattle.po_log.specs.contracts.log.Keeper.show.{ended, clauses}
 use Rattle.po_log.specs.contracts.log.Keeper.show.Key.{name as #self}
