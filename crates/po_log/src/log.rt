@@ -8,15 +8,15 @@ ghost use Rattle.po_log.specs.Owned.{keeper_owns, seen_owns};
 use std::marker::{Model, PhantomData};
 use std::snapshot::Snapshot;
 
-/// Which list a value shows, as that of what has happened to it. Only clauses read it.
+/// Which list a value shows, as what has happened to it so far. Only clauses read it.
 pub trait Shows<X, T> {
     ghost list: { X → List T };
 }
 
-/// The log, as its one keeper knows it: `items` is all of it, and `name` tells it from other logs.
+/// The keeper of a log: `items` is all of the log, and `name` tells it from every other log.
 ///
-/// Whoever has the keeper adds to the log, and nobody else does. By itself a log says nothing of a program, as each list of
-/// items meets what is written here. It says what the invariant of the type that has the keeper says of `items`.
+/// Of a name there is one keeper, so nobody else adds to the log. By itself a log says nothing of a program, as it may hold any
+/// items. It says what the invariant of the type that has the keeper says of `items`.
 pub struct Keeper<T> {
     of: PhantomData<T>,
     pub ghost name: { ℕ },
@@ -27,9 +27,10 @@ impl<T> Model for Keeper<T> {
     ghost also_owns = { λ k. keeper_owns T.row.coded.code k.name k.items };
 }
 
-/// What was seen of the log of this name: `items` is a beginning of it, and stays one.
+/// What was seen of the log of that name: `items` is a beginning of the log, and stays one.
 ///
-/// Only the keeper makes it, so whoever has one knows what the log begins with, and needs neither the keeper nor its lock for it.
+/// It comes from the keeper, by `show`, or from another one, by `again`. Who has it knows what the log begins with, with neither
+/// the keeper nor its lock.
 pub struct Seen<T> {
     of: PhantomData<T>,
     pub ghost name: { ℕ },
@@ -46,27 +47,28 @@ impl<T> Model for Seen<T> {
 }
 
 impl<T> Keeper<T> {
-    /// A new log, which is empty.
+    /// A new log, with no items. No other keeper has its name, as `apart` tells.
     pub fn open() -> Keeper<T>
         ensures { result.items ≡ [] }
     {
         Keeper { of: PhantomData }
     }
 
-    /// Adds an item at the end of the log.
+    /// Adds an item at the end of the log. The log keeps its name.
     pub fn note(&mut self, last: &T)
         ensures added { self.new.items ≡ self.old.items ++ last.now ∷ [] }
         ensures same_log { self.new.name ≡ self.old.name }
     {}
 
-    /// Lets the log go on until it is the list that a value shows. What it has so far must be a beginning of that list.
+    /// Lets the log go on until it is the list that a value shows, of which it must be a beginning. The log keeps its name.
     pub fn reach<X, M: Shows<X, T>>(&mut self, now: &X)
         requires goes_on { IsPrefix self.old.items (M.list now.now) }
         ensures reached { self.new.items ≡ M.list now.now }
         ensures same_log { self.new.name ≡ self.old.name }
     {}
 
-    /// Adds to the log what a list has gained: the one that a value shows, which was `before` and is `now`.
+    /// Adds to the log what the list that a value shows has gained at its end, from `before` to `now`. That list need not be the
+    /// log. The log keeps its name.
     pub fn follow<X, M: Shows<X, T>>(&mut self, before: &Snapshot<X>, now: &X)
         requires goes_on { IsPrefix (M.list before.now.value) (M.list now.now) }
         ensures followed { (more : List T)
@@ -75,7 +77,7 @@ impl<T> Keeper<T> {
         ensures same_log { self.new.name ≡ self.old.name }
     {}
 
-    /// All of the log as it is now, for others to know. The log stays as it was.
+    /// All of the log as it is now, for others to have. The log stays as it was.
     pub fn show(&mut self) -> Seen<T>
         ensures whole { result.items ≡ self.old.items }
         ensures same_log { result.name ≡ self.old.name }
@@ -84,14 +86,14 @@ impl<T> Keeper<T> {
         Seen { of: PhantomData }
     }
 
-    /// Tells that two keepers keep two logs: of a name there is one keeper, whatever it keeps. Both logs stay as they were.
+    /// Tells that two keepers have two names, whatever their logs hold. Both logs stay as they were.
     pub fn apart<X>(&mut self, other: &mut Keeper<X>)
-        ensures two_logs { self.old.name ≢ other.old.name }
+        ensures two_names { self.old.name ≢ other.old.name }
         ensures unchanged { self.new ≡ self.old }
         ensures other_unchanged { other.new ≡ other.old }
     {}
 
-    /// Tells that what was seen of this log is a beginning of it. The log stays as it was.
+    /// Tells that what was seen of this log, ever, is a beginning of it. The log stays as it was.
     pub fn recall(&mut self, seen: &Seen<T>)
         requires same_log { seen.now.name ≡ self.old.name }
         ensures beginning { IsPrefix seen.now.items self.old.items }
@@ -100,17 +102,17 @@ impl<T> Keeper<T> {
 }
 
 impl<T> Seen<T> {
-    /// The same once more.
+    /// The same once more, for somebody else to have.
     pub fn again(&self) -> Seen<T>
         ensures { result ≡ self.now }
     {
         Seen { of: PhantomData }
     }
 
-    /// Tells that of two that were seen of one log, the shorter is a beginning of the longer.
+    /// Tells of two that were seen of one log: if this one is no longer than the other, it is a beginning of the other.
     pub fn meet(&self, other: &Seen<T>)
-        requires { other.now.name ≡ self.now.name }
-        ensures { length self.now.items ≤ length other.now.items → IsPrefix self.now.items other.now.items }
+        requires same_log { other.now.name ≡ self.now.name }
+        ensures beginning { length self.now.items ≤ length other.now.items → IsPrefix self.now.items other.now.items }
     {}
 }
 
@@ -126,7 +128,7 @@ impl<T> Drop for Seen<T> {
     }
 }
 
-// What they own is known of the log alone, so it is true in each thread.
+// What they own is about the log alone, and holds in each thread.
 unsafe impl<T> Send for Keeper<T> {}
 
 unsafe impl<T> Sync for Keeper<T> {}
