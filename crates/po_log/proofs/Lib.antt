@@ -1,3 +1,4 @@
 pub mod Alone
+pub mod Beginnings
 pub mod Steps
 pub mod Written
