@@ -20,7 +20,7 @@ impl<U: Unit + Drop> Core<U, Unrecorded<U>> {
     /// An object with this unit, from given numbers, with all memory for `most` uncollected calls at once.
     ///
     /// It fails where the unit hasn't as many entries as the shape, or where memory is wanting.
-    pub fn start(
+    pub fn with_capacity(
         alloc: Global,
         unit: U,
         shape: Shape,

@@ -8,6 +8,8 @@ mod crowds;
 #[cfg(test)]
 mod cuts;
 #[cfg(test)]
+mod kinds;
+#[cfg(test)]
 mod ladder;
 #[cfg(test)]
 mod laws;

@@ -10,7 +10,7 @@ use Rattle.po_history.specs.declared.event.Event.{Event}
 use Rattle.po_history.specs.declared.event.Event.TheVariants.{Issue, Ran, Abort, Tick, Final, Serve, Break, Expire}
 use Rattle.po_accepted.specs.WaitingCalls.{is_on, has_number, mark}
 use Rattle.std.specs.Prelude.{map, not, count_by}
-use Rattle.po_actions.specs.declared.refusal.Refusal.{Refusal}
+use Rattle.po_core.specs.declared.refusal.Refusal.{Refusal}
 use Rattle.po_engine.specs.ObjectState.{ObjectState, counts_in, gate_in}
 use Rattle.po_actions.specs.ProtectedAction.{inner_events, begun, after_action, after_abort_of, without_event}
 use Rattle.po_engine.specs.Step.{is_full, end_call, queue, enter, land, run_body, arrive, take_out, serve, cancel, abort, step, replay}

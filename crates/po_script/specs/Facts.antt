@@ -2,9 +2,9 @@
 use Rattle.std.specs.Prelude.{ℕ, zero, suc, ◌≡◌, List, Option, Some, None, nat_le, if◌then◌else◌}
 use Rattle.po_index.specs.declared.decl.Decl.{Decl}
 use Rattle.po_unit.specs.Meaning.{Meaning}
-use Rattle.po_actions.specs.declared.refusal.Refusal.{Refusal}
-use Rattle.po_actions.specs.declared.refusal.Refusal.TheVariants.{NoSuchOperation}
-use Rattle.po_actions.specs.Refusals.{entry_refusal}
+use Rattle.po_core.specs.declared.refusal.Refusal.{Refusal}
+use Rattle.po_core.specs.declared.refusal.Refusal.TheVariants.{NoSuchOperation}
+use Rattle.po_core.specs.Refusals.{entry_refusal}
 use Rattle.po_actions.specs.View.{View}
 use Rattle.po_classic_units.specs.ScriptUnit.{KnownUnit}
 use Rattle.po_language.specs.declared.command.Operation.{Operation}

@@ -4,13 +4,14 @@ use Rattle.po_index.specs.declared.decl.EntryRef.{EntryRef}
 use Rattle.po_index.specs.Numbering.{entry_references}
 use Rattle.po_unit.specs.Meaning.{Meaning}
 use Rattle.po_history.specs.declared.event.Event.TheVariants.{Ran, Tick as TickEvent, Final}
-use Rattle.po_actions.specs.declared.refusal.Refusal.{Refusal}
-use Rattle.po_actions.specs.declared.refusal.Refusal.TheVariants.{OutOfMemory}
+use Rattle.po_core.specs.declared.refusal.Refusal.{Refusal}
+use Rattle.po_core.specs.declared.refusal.Refusal.TheVariants.{OutOfMemory}
 use Rattle.po_engine.specs.ObjectState.{counts_in}
 use Rattle.po_actions.specs.Commands.{issue_of, reply_of}
+use Rattle.po_actions.specs.Refusals.{entry_of}
 use Rattle.po_actions.specs.View.{View, ended_now}
 use Rattle.po_actions.specs.ProtectedAction.{after_action, after_abort, abort_answer}
-use Rattle.po_actions.specs.Refusals.{entry_of, issue_refusal, run_refusal, read_refusal, abort_refusal, finalized_refusal}
+use Rattle.po_core.specs.Refusals.{issue_refusal, run_refusal, read_refusal, abort_refusal, finalized_refusal}
 use Rattle.po_language.specs.declared.command.Operation.{Operation}
 use Rattle.po_language.specs.declared.command.Operation.TheVariants.{Call, Run, Read, Abort, Tick, Finalize, Show}
 use Rattle.po_script.specs.Lines.{ended_lines, ticket_line, refused_line, reply_line, value_line, abort_line, clock_line, next_line, final_line, count_line}

@@ -1,6 +1,6 @@
 -- What is refused in a run of a script, whatever was carried out before it.
 use Rattle.std.specs.Prelude.{◌≡◌, List, Some, None}
-use Rattle.po_actions.specs.declared.refusal.Refusal.{Refusal}
+use Rattle.po_core.specs.declared.refusal.Refusal.{Refusal}
 use Rattle.po_language.specs.declared.command.Command.{Command}
 use Rattle.po_language.specs.declared.command.Operation.{Operation}
 use Rattle.po_language.specs.declared.command.UnitChoice.{UnitChoice}

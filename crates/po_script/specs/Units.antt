@@ -4,7 +4,7 @@ use Rattle.std.proofs.Common.{inl, inr}
 use Rattle.po_index.specs.declared.decl.Decl.{Decl}
 use Rattle.po_barriers.specs.declared.order.Order.{Order}
 use Rattle.po_unit.specs.Meaning.{Meaning, IsLawful}
-use Rattle.po_actions.specs.declared.refusal.Refusal.{Refusal}
+use Rattle.po_core.specs.declared.refusal.Refusal.{Refusal}
 use Rattle.po_actions.specs.Making.{Making}
 use Rattle.po_actions.specs.View.{View, opening_view}
 use Rattle.po_classic_units.specs.ScriptUnit.{KnownUnit}

@@ -1,7 +1,7 @@
 //! What is known of an object of a script, whatever it is used for.
 
 ghost use Rattle.std.specs.Prelude.{◌≡◌, ◌≢◌, List, IfOk, Err, None};
-ghost use Rattle.po_actions.specs.Refusals.{entry_refusal};
+ghost use Rattle.po_core.specs.Refusals.{entry_refusal};
 ghost use Rattle.po_classic_units.specs.Sizes.{IsSizeWhere};
 ghost use Rattle.po_index.specs.declared.fault.ShapeFault.{ShapeFault};
 ghost use Rattle.po_language.specs.declared.command.Command.{Command};
@@ -9,8 +9,8 @@ ghost use Rattle.po_script.specs.Facts.{facts_of, operation_refusal, sure_refusa
 ghost use Rattle.po_script.specs.SureRefusals.{RefusesBehind};
 
 use crate::units::ScriptObject;
-use po_actions::Refusal;
 use po_classic_units::ScriptUnit;
+use po_core::Refusal;
 use po_index::{EntryRef, Shape, ShapeFault};
 use po_language::Operation;
 use po_unit::Unit;

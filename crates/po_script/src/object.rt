@@ -9,8 +9,8 @@ ghost use Rattle.po_script.specs.Units.{making_of};
 
 use crate::operate::operate;
 use crate::tickets::Tickets;
-use po_actions::{Core, MakeFault, Start};
 use po_classic_units::ScriptUnit;
+use po_core::{Core, MakeFault, Start};
 use po_index::{Shape, ShapeFault};
 use po_language::{Beginning, Operation};
 use po_unit::Unit;

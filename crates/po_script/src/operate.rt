@@ -14,7 +14,7 @@ use crate::lines::{
     push_reply, push_ticket, push_value,
 };
 use crate::tickets::Tickets;
-use po_actions::{Core, Deadline, Refusal};
+use po_core::{Core, Deadline, Refusal};
 use po_index::EntryRef;
 use po_language::Operation;
 use po_unit::Unit;
@@ -82,7 +82,7 @@ fn finish<U: Unit<Value = u64>>(
 }
 
 /// Issues a call, and puts the lines that answer it into the empty reply.
-#[tactic(auto, using(crate::proofs::Refused::refused_or))]
+#[tactic(auto, using(crate::proofs::Refused::call_refused_or, crate::proofs::Refused::let_pass))]
 fn call<U: Unit<Value = u64>>(
     core: &mut Core<U>,
     tickets: &mut Tickets,
@@ -102,6 +102,7 @@ fn call<U: Unit<Value = u64>>(
 {
     tickets.reserve()?;
     core.headline();
+    core.recall_unbounded();
     match core.issue(0, entry, value, deadline) {
         Ok(ticket) => {
             tickets.keep(ticket);
@@ -182,7 +183,7 @@ fn abort<U: Unit<Value = u64>>(
 }
 
 /// Raises the clock, and puts the lines that answer it into the empty reply.
-#[tactic(auto, using(crate::proofs::Refused::refused_or))]
+#[tactic(auto, using(crate::proofs::Refused::tick_refused_or, crate::proofs::Refused::let_pass))]
 fn tick<U: Unit<Value = u64>>(
     core: &mut Core<U>,
     tickets: &mut Tickets,
@@ -198,6 +199,7 @@ fn tick<U: Unit<Value = u64>>(
     ensures knows { Knows core.new.tickets tickets.new }
     ensures collected { AreCollected core.new }
 {
+    core.recall_unbounded();
     match core.tick(time) {
         Ok(clock) => {
             let answered = push_clock(reply, clock);

@@ -5,7 +5,7 @@ ghost use Rattle.std.specs.Option.{option_map};
 ghost use Rattle.po_calls.specs.declared.ticket.Ticket.{Ticket as Named};
 ghost use Rattle.po_script.specs.Tickets.{key_of, ticket_of, HasRoom};
 
-use po_actions::Ticket;
+use po_core::Ticket;
 use std::alloc::{AllocError, Global};
 use std::collections::HashMap;
 

@@ -14,12 +14,18 @@ use std::alloc::{AllocError, Global};
 /// The units that scripts know, in the order in which a `unit` line's name is looked up: the list to which a further unit is
 /// added.
 pub type Units = OneOf<
-    Buffer,
+    Object<Buffer>,
     OneOf<
-        Signal,
+        Object<Signal>,
         OneOf<
-            Broadcast,
-            OneOf<Pulse, OneOf<Meeting, OneOf<Allocator, OneOf<Relay, Object<Trap>>>>>,
+            Object<Broadcast>,
+            OneOf<
+                Object<Pulse>,
+                OneOf<
+                    Object<Meeting>,
+                    OneOf<Object<Allocator>, OneOf<Object<Relay>, Object<Trap>>>,
+                >,
+            >,
         >,
     >,
 >;
@@ -64,9 +70,9 @@ pub trait ScriptObject: UnitList {
 
 /// The object of one unit, or of one of the others.
 #[derive(Drop)]
-pub enum OneOf<U: Unit<Value = u64>, R> {
+pub enum OneOf<O, R> {
     /// Of this unit.
-    This(Object<U>),
+    This(O),
     /// Of one of the others.
     Other(R),
 }
@@ -89,7 +95,7 @@ impl<U: ScriptUnit> UnitList for Object<U> {
     }
 }
 
-impl<U: ScriptUnit, R: UnitList> UnitList for OneOf<U, R> {
+impl<U: ScriptUnit, R: UnitList> UnitList for OneOf<Object<U>, R> {
     ghost use Rattle.po_language.specs.Units.UnitList.{before};
 
     ghost listed = { before U.known.names R.listed };
@@ -134,7 +140,7 @@ impl<U: ScriptUnit> ScriptObject for Object<U> {
     ghost lawful = { U.lawful };
 }
 
-impl<U: ScriptUnit, R: ScriptObject> ScriptObject for OneOf<U, R> {
+impl<U: ScriptUnit, R: ScriptObject> ScriptObject for OneOf<Object<U>, R> {
     ghost use Rattle.std.proofs.Common.{inl, inr, ap};
     ghost use Rattle.po_language.specs.Units.UnitList.{before as name_before};
     ghost use Rattle.po_script.specs.Units.{before};
@@ -144,7 +150,11 @@ impl<U: ScriptUnit, R: ScriptObject> ScriptObject for OneOf<U, R> {
 
     ghost object = { elim [ This it ↦ inl it.core.object | Other other ↦ inr (R.object other) ] };
 
-    fn begin(alloc: Global, number: u16, beginning: Beginning) -> Result<OneOf<U, R>, AllocError> {
+    fn begin(
+        alloc: Global,
+        number: u16,
+        beginning: Beginning,
+    ) -> Result<OneOf<Object<U>, R>, AllocError> {
         match number.checked_sub(1) {
             None => Ok(OneOf::This(Object::new(alloc, beginning)?)),
             Some(rest) => Ok(OneOf::Other(R::begin(alloc, rest, beginning)?)),

@@ -1,5 +1,5 @@
 use Rattle.po_actions.proofs.Histories.{rest_opening, issued_opening}
-use Rattle.po_core.proofs.bounded_core.Core+U+Unrecorded+U.start.Goals as goal
+use Rattle.po_core.proofs.bounded_core.Core+U+Unrecorded+U.with_capacity.Goals as goal
 
 pub invariant_of-result : goal.invariant_of-result
 invariant_of-result g c =
