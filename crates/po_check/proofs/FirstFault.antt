@@ -6,7 +6,7 @@ use Rattle.po_language.specs.declared.command.Command.TheVariants.{Begin, Operat
 use Rattle.po_language.specs.declared.command.FaultKind.{FaultKind}
 use Rattle.po_script.specs.Script.{Cut, cut, Reading, reading, with_line, line_of, whole_lines, past_limit, script_within}
 use Rattle.po_script.specs.Units.{ScriptUnits, listed}
-use Rattle.po_actions.specs.declared.refusal.Refusal.{Refusal}
+use Rattle.po_core.specs.declared.refusal.Refusal.{Refusal}
 use Rattle.po_check.specs.declared.known.Known.{Known}
 use Rattle.po_check.specs.declared.known.Known.TheVariants.{Nothing, Begun}
 use Rattle.po_check.specs.declared.claim.Claim.{Claim}

@@ -9,7 +9,7 @@ use Rattle.po_language.specs.declared.command.Command.{Command}
 use Rattle.po_language.specs.declared.command.Command.TheVariants.{Begin, Operate}
 use Rattle.po_language.specs.declared.command.Operation.{Operation}
 use Rattle.po_language.specs.declared.command.FaultKind.{FaultKind}
-use Rattle.po_actions.specs.declared.refusal.Refusal.{Refusal}
+use Rattle.po_core.specs.declared.refusal.Refusal.{Refusal}
 use Rattle.po_script.specs.AnySession.{begun_by}
 use Rattle.po_script.specs.Script.{Cut, cut, Reading, reading, with_line, prepend, line_of, begun_after, whole_lines, past_limit, script_within}
 use Rattle.po_script.specs.Ends.{state_after, answers}

@@ -6,7 +6,7 @@ use Rattle.po_language.specs.declared.command.Command.{Command}
 use Rattle.po_language.specs.declared.command.Command.TheVariants.{Begin, Operate}
 use Rattle.po_language.specs.declared.command.FaultKind.{FaultKind}
 use Rattle.po_language.specs.declared.command.FaultKind.TheVariants.{ScriptTooLong, LineTooLong}
-use Rattle.po_actions.specs.declared.refusal.Refusal.{Refusal}
+use Rattle.po_core.specs.declared.refusal.Refusal.{Refusal}
 use Rattle.po_script.specs.Script.{Cut, cut, line_of}
 use Rattle.po_script.specs.Facts.{facts_at, sure_refusal}
 use Rattle.po_script.specs.Units.{ScriptUnits, listed}

@@ -3,7 +3,7 @@ use Rattle.std.specs.Prelude.{ℕ, ◌≡◌, ◌-◌, nat_lt, List, [], ◌∷�
 use Rattle.po_language.specs.declared.command.Command.{Command}
 use Rattle.po_language.specs.declared.command.Command.TheVariants.{Operate}
 use Rattle.po_language.specs.declared.command.Operation.{Operation}
-use Rattle.po_actions.specs.declared.refusal.Refusal.{Refusal}
+use Rattle.po_core.specs.declared.refusal.Refusal.{Refusal}
 use Rattle.po_script.specs.Script.{cut, Reading, reading, script_within}
 use Rattle.po_script.specs.Ends.{state_after, answers}
 use Rattle.po_script.specs.Lines.{refused_line}

@@ -1,7 +1,7 @@
 //! What a check says of a line.
 
 use crate::known::Known;
-use po_actions::Refusal;
+use po_core::Refusal;
 use po_language::FaultKind;
 
 /// What a check says of a line, and what is known of the unit where it says that. Lines are numbered from 1.

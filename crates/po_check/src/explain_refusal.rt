@@ -3,8 +3,8 @@
 use crate::finding::Finding;
 use crate::names::names_of;
 use crate::wording::{push_nearest, push_place, push_word, push_words};
-use po_actions::Refusal;
 use po_classic_units::UnitNames;
+use po_core::Refusal;
 use po_index::{Decl, EntryRef, Shape};
 use po_language::place::place_of;
 use po_language::words::{cut_word, entry_word};

@@ -5,7 +5,7 @@ ghost use Rattle.po_check.specs.Reports.{claim_of};
 
 use crate::claim::Claim;
 use crate::known::Known;
-use po_actions::Refusal;
+use po_core::Refusal;
 use po_language::{LineFault, Operation};
 
 /// What is found in a line.
