@@ -29,7 +29,7 @@ PROGRAMS = ("pobj_run", "pobj_check", "pobj_stress", "po_c")
 
 def headline():
     """The definitions that the clauses of the headline cite, directly or through others."""
-    lines = (walk.CRATES / "po_actions" / "src" / "object_core.rt").read_text().splitlines()
+    lines = (walk.CRATES / "po_core" / "src" / "object_core.rt").read_text().splitlines()
     start = next(at for at, line in enumerate(lines) if line.startswith("    pub fn headline("))
     end = next(at for at in range(start, len(lines)) if lines[at] == "    }")
     outer = walk.imports("\n".join(line for line in lines if line.startswith("ghost use ")))
