@@ -1,36 +1,39 @@
 """Draws docs/speed.svg: how often a second both objects of pobj and GNAT's do the same work, by the numbers of the last
-`./compare speed`."""
+`./compare speed`. The picture has colours for light and for dark, as those of tools/picture have."""
 
 import json
 import math
 import statistics
+import sys
 
 import programs
 import speed
 
+sys.path.append(str(programs.TOP / "tools/picture"))
+
+import svg
+
 FILE = programs.TOP / "docs/speed.svg"
-COLOURS = {"recorded": "#1f6fb4", "bounded": "#2e8b57", "gnat": "#d9730d"}
+TITLE = "Calls a second: medians, from the lowest to the highest round"
+# Colours that are told apart on white and on black.
+COLOURS = {"recorded": "#3f8fd2", "bounded": "#2fa36b", "gnat": "#e07b1a"}
 NAMES = {"recorded": "pobj, recorded", "bounded": "pobj, bounded", "gnat": "GNAT"}
 # In pixels: the width of the names, of the plot and of the ratios, the height of a row, and the room above and below.
 LEFT, WIDTH, RIGHT, ROW, TOP, BOTTOM = 150, 560, 120, 40, 64, 40
 UNITS = {3: "1 thousand", 4: "10 thousand", 5: "100 thousand", 6: "1 million", 7: "10 million", 8: "100 million"}
 
 
-def text(x, y, words, anchor="start", size=13, colour="#222222"):
-    """A text."""
-    return f'<text x="{x:.0f}" y="{y:.0f}" text-anchor="{anchor}" font-size="{size}" fill="{colour}">{words}</text>'
+def dot(x, y, name):
+    """A dot in the colour of this object."""
+    return svg.tag("circle", {"cx": x, "cy": y, "r": 5, "fill": COLOURS[name]})
 
 
-def line(x1, y1, x2, y2, colour, width):
-    """A line."""
-    return f'<line x1="{x1:.1f}" y1="{y1:.1f}" x2="{x2:.1f}" y2="{y2:.1f}" stroke="{colour}" stroke-width="{width}"/>'
-
-
-def mark(rounds, y, colour, place):
-    """The median of the rounds as a dot, on a line from the lowest to the highest."""
-    low, high, middle = place(min(rounds)), place(max(rounds)), place(statistics.median(rounds))
-    dot = f'<circle cx="{middle:.1f}" cy="{y:.1f}" r="5" fill="{colour}"/>'
-    return line(low, y, high, y, colour, 2) + dot
+def mark(rounds, y, name, place):
+    """The median of the rounds as a dot, on a line from the lowest to the highest, with the numbers in words."""
+    low, middle, high = min(rounds), statistics.median(rounds), max(rounds)
+    attributes = {"x1": place(low), "y1": y, "x2": place(high), "y2": y, "stroke": COLOURS[name], "stroke-width": 2}
+    words = f"{NAMES[name]}: {middle:,.0f} a second, from {low:,.0f} to {high:,.0f}"
+    return svg.told(words, svg.tag("line", attributes), dot(place(middle), y, name))
 
 
 def decades(numbers):
@@ -44,37 +47,46 @@ def axis(first, last, place, bottom):
     parts = []
     for power in range(first, last + 1):
         x = place(10**power)
-        parts += [line(x, TOP - 8, x, bottom, "#dddddd", 1), text(x, bottom + 20, UNITS[power], "middle", 12, "#555555")]
+        parts += [svg.line(x, TOP - 8, x, bottom, "rule"), svg.text(x, bottom + 20, UNITS[power], "prose quiet", "middle")]
     return parts
+
+
+def times_gnat(known):
+    """How many times what GNAT does each of ours does, in words."""
+    ratios = [statistics.median(known[name]) / statistics.median(known["gnat"]) for name in speed.OURS]
+    return ", ".join(f"{ratio:.2f}" if ratio < 10 else f"{ratio:.0f}" for ratio in ratios)
+
+
+def rows(numbers, place):
+    """The rows: of each its work, its marks and its ratios. And the same in words."""
+    parts, said = [], []
+    for n, (row, known) in enumerate(numbers.items()):
+        y = TOP + ROW * n + ROW / 2
+        work, threads = row.split("/")
+        words = f"{work}, {threads} thread{'s' * (threads != '1')}"
+        parts.append(svg.text(LEFT - 12, y + 4, words, "prose", "end"))
+        parts += [mark(known[name], y + 9 * (k - 1), name, place) for k, name in enumerate(NAMES)]
+        parts.append(svg.text(LEFT + WIDTH + RIGHT - 12, y + 4, times_gnat(known), "prose", "end"))
+        said.append(f"{words}: {times_gnat(known)} times GNAT.")
+    return parts, " ".join(said)
 
 
 def picture(numbers):
     """The picture of the numbers."""
     first, last = decades(numbers)
     bottom = TOP + ROW * len(numbers)
-    whole = LEFT + WIDTH + RIGHT
 
     def place(value):
         return LEFT + WIDTH * (math.log10(value) - first) / (last - first)
 
-    parts = [f'<rect width="{whole}" height="{bottom + BOTTOM}" fill="white"/>']
-    parts += [text(LEFT, 24, "Calls a second: medians, from the lowest to the highest round", size=15)]
-    parts += axis(first, last, place, bottom)
+    parts = [svg.text(LEFT, 24, TITLE, "prose head"), *axis(first, last, place, bottom)]
     for n, name in enumerate(NAMES):
         x = LEFT + WIDTH - 330 + 130 * n
-        parts += [f'<circle cx="{x}" cy="43" r="5" fill="{COLOURS[name]}"/>', text(x + 10, 47, NAMES[name])]
-    parts += [text(whole - 12, 47, "times GNAT", "end", 12, "#555555")]
-    for n, (row, known) in enumerate(numbers.items()):
-        y = TOP + ROW * n + ROW / 2
-        work, threads = row.split("/")
-        parts += [text(LEFT - 12, y + 4, f"{work}, {threads} thread{'s' * (threads != '1')}", "end")]
-        parts += [mark(known[name], y + 9 * (k - 1), COLOURS[name], place) for k, name in enumerate(NAMES)]
-        ratios = [statistics.median(known[name]) / statistics.median(known["gnat"]) for name in speed.OURS]
-        words = ", ".join(f"{ratio:.2f}" if ratio < 10 else f"{ratio:.0f}" for ratio in ratios)
-        parts += [text(whole - 12, y + 4, words, "end")]
-    size = f'width="{whole}" height="{bottom + BOTTOM}" viewBox="0 0 {whole} {bottom + BOTTOM}"'
-    lines = "\n".join(parts)
-    return f'<svg xmlns="http://www.w3.org/2000/svg" {size} font-family="sans-serif">\n{lines}\n</svg>\n'
+        parts += [dot(x, 43, name), svg.text(x + 10, 47, NAMES[name], "prose")]
+    parts.append(svg.text(LEFT + WIDTH + RIGHT - 12, 47, "times GNAT", "prose quiet", "end"))
+    drawn, said = rows(numbers, place)
+    described = f"Recorded and bounded objects of pobj beside GNAT's. {said}"
+    return svg.picture(LEFT + WIDTH + RIGHT, bottom + BOTTOM, TITLE, described, "chart", parts + drawn)
 
 
 def draw():
