@@ -1,8 +1,8 @@
 //! Cores whose histories are cut, against values worked out by hand.
 
 use crate::transcript::{Run, Step, from, run_on, single};
-use po_actions::Order;
 use po_classic_units::{Buffer, Relay, Signal};
+use po_core::Order;
 use std::process::Abort;
 use std::test::Fail;
 

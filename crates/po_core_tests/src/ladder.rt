@@ -4,7 +4,7 @@
 ghost use Rattle.std.specs.Prelude.{◌≡◌, ◌-◌};
 
 use crate::transcript::{Run, Step, from, run_with, single};
-use po_actions::Order;
+use po_core::Order;
 use po_index::{Decl, Shape};
 use po_unit::{Outcome, Unit};
 use std::alloc::AllocError;

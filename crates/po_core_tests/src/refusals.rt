@@ -1,8 +1,8 @@
 //! The order in which refusals come, what they leave, and their texts.
 
 use crate::transcript::{Run, Step, from, run_on};
-use po_actions::{MakeFault, Order, Refusal, Start};
 use po_classic_units::Allocator;
+use po_core::{MakeFault, Order, Refusal, Start};
 use po_index::EntryRef;
 use std::fmt::Write;
 use std::process::Abort;
@@ -181,6 +181,7 @@ fn refusals_have_texts(rt: HostRuntime) -> Result<(), Fail> {
         Refusal::NumbersSpent,
         Refusal::OutOfMemory,
         Refusal::NoCall,
+        Refusal::TooManyCalls,
     ];
     let mut text = String::new(rt.alloc());
     for refusal in refusals {
@@ -198,7 +199,7 @@ fn refusals_have_texts(rt: HostRuntime) -> Result<(), Fail> {
          3 the index is missing, not wanted, or out of range; 4 the object has no such procedure or function; \
          5 no call has that number; 6 the call has ended; 7 the object is finalized; \
          8 no number is left for a call, or no place for an event; 9 out of memory; \
-         10 no call of that seat is queued; \
+         10 no call of that seat is queued; 11 too many calls; \
          the unit and its shape have different numbers of entries; out of memory"
     );
     Ok(())

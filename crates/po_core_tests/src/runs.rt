@@ -2,8 +2,8 @@
 //! an end is, and which events a run leaves.
 
 use crate::transcript::{Run, Step, from, run_on, single};
-use po_actions::{Core, MakeFault, Order, Start};
 use po_classic_units::{Buffer, Relay, ScriptUnit, Trap};
+use po_core::{Core, MakeFault, Order, Start};
 use po_index::EntryRef;
 use std::test::Fail;
 

@@ -1,8 +1,8 @@
 //! What the commands on a core answered, as text, for tests. No clause says what a command did, so a test's proof carries
 //! none of it.
 
-use po_actions::{Aborted, Core, Deadline, End, Event, Order, Place, Refusal, Start, Ticket};
 use po_classic_units::ScriptUnit;
+use po_core::{Aborted, Core, Deadline, End, Event, Order, Place, Refusal, Start, Ticket};
 use po_index::{EntryRef, Shape, ShapeFault};
 use po_unit::Unit;
 use std::alloc::Global;

@@ -1,7 +1,7 @@
 //! A unit of which no copy can be made, as if there were never memory for it.
 
-use po_actions::{Core, MakeFault, Order};
 use po_classic_units::{ScriptUnit, Signal};
+use po_core::{Core, MakeFault, Order};
 use po_unit::{Outcome, Unit};
 use std::alloc::AllocError;
 use std::marker::Model;
