@@ -489,16 +489,21 @@ impl<V: Copy> Calls<V> {
         Some(end)
     }
 
-    /// The number of the owner's earliest waiting call.
-    pub fn waiting_of(&self, owner: u16) -> Option<u64>
-        ensures { result ≡ option_map (λ x. x.number) (find (is_of owner) self.now.waiting) }
+    /// The ticket of the owner's earliest waiting call.
+    pub fn waiting_of(&self, owner: u16) -> Option<Ticket>
+        ensures number { option_map (λ t. t.number) result ≡
+            option_map (λ x. x.number) (find (is_of owner) self.now.waiting) }
+        ensures live { IfSome result (λ t. is_live self.now.tickets t ≡ true) }
     {
         self.queues.recall_invariant();
         let mut next = self.queues.oldest();
         while let Some(key) = next {
             if let Some(call) = self.table.at(key) {
                 if call.owner == owner {
-                    return Some(call.number);
+                    return Some(Ticket {
+                        key,
+                        number: call.number,
+                    });
                 }
             }
             next = self.queues.next(key);

@@ -411,7 +411,7 @@ impl<U: Unit> Core<U> {
     pub fn waiting_of(&self, owner: u16) -> Option<u64>
         ensures { result ≡ option_map (λ x. x.number) (find (is_of owner) self.now.object.state.waiting) }
     {
-        self.recorded.state().waiting_of(owner)
+        Some(self.recorded.state().waiting_of(owner)?.number)
     }
 
     /// Whether the call with number n is queued.

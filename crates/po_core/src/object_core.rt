@@ -288,7 +288,7 @@ impl<U: Unit, R: Record<U>> Core<U, R> {
     pub fn waiting_of(&self, owner: u16) -> Option<u64>
         ensures { result ≡ option_map (λ x. x.number) (find (is_of owner) self.now.object.state.waiting) }
     {
-        self.tracked.state().waiting_of(owner)
+        Some(self.tracked.state().waiting_of(owner)?.number)
     }
 
     /// The number that the next call gets.

@@ -712,9 +712,11 @@ impl<U: Unit> State<U> {
         self.calls.waiting_call(ticket)
     }
 
-    /// The number of the owner's earliest queued call.
-    pub fn waiting_of(&self, owner: u16) -> Option<u64>
-        ensures { result ≡ option_map (λ x. x.number) (find (is_of owner) self.now.state.waiting) }
+    /// The ticket of the owner's earliest queued call.
+    pub fn waiting_of(&self, owner: u16) -> Option<Ticket>
+        ensures number { option_map (λ t. t.number) result ≡
+            option_map (λ x. x.number) (find (is_of owner) self.now.state.waiting) }
+        ensures live { IfSome result (λ t. is_live self.now.tickets t ≡ true) }
     {
         self.calls.waiting_of(owner)
     }
