@@ -1,21 +1,20 @@
 //! A bounded buffer whose memory is all taken when it is made: first one thread uses it by itself, then threads share one.
 //!
-//! The one thread puts a million values into a machine and gets them, so the memory is the same after the first call and
+//! The one thread puts a million values into a core and gets them, so the memory is the same after the first call and
 //! after the last. Then two producers put 100,000 values each into an object, and two consumers get 100,000 each; the object
 //! is closed, and its closing totals are told. What is printed is the same in every run.
 #![tactic(auto)]
 
-ghost use Rattle.std.specs.Prelude.{◌≡◌, ◌≤◌, ◌+◌, IfOk};
+ghost use Rattle.std.specs.Prelude.{◌≡◌, ◌≤◌, ◌+◌, IfOk, IfSome, Some};
 
 mod alone;
 
 use anyhow::{Result, bail};
-use po_actions::{Order, Start};
-use po_bounded_object::hold::BoundedPass;
-use po_bounded_object::{BoundedClosed, BoundedObject, CallLedger};
 use po_classic_units::{Buffer, ScriptUnit};
+use po_core::{BoundedCore, Order, Start};
 use po_index::EntryRef;
-use po_machine::Machine;
+use po_object::hold::BoundedPass;
+use po_object::{BoundedClosed, BoundedObject, CallLedger};
 use std::alloc::{AllocError, Global};
 use std::io::Print;
 use std::marker::Brand;
@@ -50,21 +49,21 @@ const GET: EntryRef = EntryRef {
     index: None,
 };
 
-/// From where the machine starts: calls from 1, events from 0, and no greatest length of a queue.
+/// From where the core starts: calls from 1, events from 0, and no greatest length of a queue.
 const START: Start = Start {
     first_number: 1,
     first_place: 0,
     max_queue: None,
 };
 
-/// A machine over an empty buffer, with memory for a call of each seat.
-fn empty_buffer(alloc: Global) -> Result<Machine<Buffer>>
-    ensures { IfOk result (λ machine. machine.most ≡ MOST) }
+/// A core over an empty buffer, with memory for a call of each seat.
+fn empty_buffer(alloc: Global) -> Result<BoundedCore<Buffer>>
+    ensures { IfOk result (λ core. core.capacity ≡ Some MOST) }
 {
     let buffer = Buffer::new(alloc, CAPACITY)?;
     let shape = buffer.shape(alloc)?;
-    let machine = Machine::start(alloc, buffer, shape, Order::Textual, START, MOST)?;
-    Ok(machine)
+    let core = BoundedCore::with_capacity(alloc, buffer, shape, Order::Textual, START, MOST)?;
+    Ok(core)
 }
 
 /// Calls the entry so many times, with the values from 0 on, and gives the pass back.
@@ -144,7 +143,7 @@ fn close<C: CallLedger, P: Ledger, F: Ledger>(
     }
 }
 
-/// Opens an object over the machine, has threads call it, and closes it.
+/// Opens an object over the core, has threads call it, and closes it.
 fn use_object<
     C: CallLedger + Send + Sync + 'static,
     P: Ledger + Send + Sync + 'static,
@@ -152,20 +151,20 @@ fn use_object<
     R: Threads + Wait + AllocGlobal + Copy + Send + 'static,
 >(
     rt: R,
-    machine: Machine<Buffer>,
+    core: BoundedCore<Buffer>,
     calls: Blank,
     procedures: Blank,
     free: Blank,
 ) -> Result<BoundedClosed<Buffer>>
-    requires shape { machine.object.making.shape ≡ C.shape }
-    requires most { SEATS ≤ machine.most }
+    requires shape { core.object.making.shape ≡ C.shape }
+    requires most { IfSome core.capacity (λ most. SEATS ≤ most) }
     requires calls { (calls.name ≡ C.name) × (calls.parts ≡ C.parts) × (calls.parts ≡ SEATS + 1) }
     requires procedures { (procedures.name ≡ P.name) × (procedures.parts ≡ P.parts) × (procedures.parts ≡ SEATS + 1) }
     requires free { (free.name ≡ F.name) × (free.parts ≡ F.parts) × (free.parts ≡ SEATS + 1) }
 {
-    let opened = BoundedObject::<Buffer, C, P, F>::open(
+    let opened = BoundedObject::<Buffer, C, P, F>::open_bounded(
         rt.alloc(),
-        machine,
+        core,
         SEATS,
         calls,
         procedures,
@@ -188,12 +187,12 @@ fn counted(closed: &BoundedClosed<Buffer>) -> u64 {
 
 fn main(rt: HostRuntime) -> Result<()> {
     alone::run(&rt)?;
-    let machine = empty_buffer(rt.alloc())?;
+    let core = empty_buffer(rt.alloc())?;
     let (calls, procedures, free) = (Blank::new(PARTS), Blank::new(PARTS), Blank::new(PARTS));
     let closed = use_object::<Brand, Brand, Brand, HostRuntime>(
-        rt, machine, calls, procedures, free,
+        rt, core, calls, procedures, free,
     )?;
-    let issued = closed.machine().next().saturating_sub(START.first_number);
+    let issued = closed.core().next().saturating_sub(START.first_number);
     println!(rt;
         "{issued} calls were issued, and {} were counted",
         counted(&closed)

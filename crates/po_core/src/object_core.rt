@@ -1,6 +1,6 @@
 //! A protected object between two protected actions: its core, which carries out every operation on it.
 
-ghost use Rattle.std.specs.Prelude.{◌≡◌, ◌∷◌, ◌++◌, [], slice_index, find, option_map, None, Some, Option, true, IfOk, IfErr, IfNone, OnSome, MatchResult, OnOk, OnErr};
+ghost use Rattle.std.specs.Prelude.{◌≡◌, ◌∷◌, ◌++◌, [], slice_index, find, option_map, None, Some, Option, true, IfOk, IfErr, IfNone, IfSome, is_some, OnSome, MatchResult, OnOk, OnErr};
 ghost use Rattle.po_index.specs.Numbering.{flat_number, is_public};
 ghost use Rattle.po_accepted.specs.Tickets.{number_at, is_live, SetsTicket};
 ghost use Rattle.po_accepted.specs.WaitingCalls.{has_number, is_of};
@@ -291,6 +291,15 @@ impl<U: Unit, R: Record<U>> Core<U, R> {
         Some(self.tracked.state().waiting_of(owner)?.number)
     }
 
+    /// The ticket of the owner's earliest queued call.
+    pub fn ticket_of(&self, owner: u16) -> Option<Ticket>
+        ensures number { option_map (λ t. t.number) result ≡
+            option_map (λ x. x.number) (find (is_of owner) self.now.object.state.waiting) }
+        ensures live { IfSome result (λ t. is_live self.now.tickets t ≡ true) }
+    {
+        self.tracked.state().waiting_of(owner)
+    }
+
     /// The number that the next call gets.
     pub fn next(&self) -> u64
         ensures { result ≡ self.now.object.state.next }
@@ -372,6 +381,13 @@ impl<U: Unit, R: Record<U>> Core<U, R> {
         ensures uncut { self.now.object.base.place ≡ self.now.object.making.first_place → AreVolumes U.meaning self.now.object [] }
     {
         self.tracked.recall_invariant();
+    }
+
+    /// The number of uncollected calls is fixed exactly where the record is that of a bounded core.
+    pub fn recall_kind(&self)
+        ensures { is_some self.now.capacity ≡ R.is_bounded }
+    {
+        self.tracked.recall_kind();
     }
 
     /// The flat number of a public entry, for a call from outside.

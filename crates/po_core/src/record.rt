@@ -1,6 +1,6 @@
 //! What an object keeps of what has happened, and how an event comes into it.
 
-ghost use Rattle.std.specs.Prelude.{◌≡◌, ◌<◌, ◌+◌, ◌∷◌, ◌++◌, [], ℕ, List, None, length, OnOk, OnErr, IfErr};
+ghost use Rattle.std.specs.Prelude.{◌≡◌, ◌<◌, ◌+◌, ◌∷◌, ◌++◌, [], ℕ, Bool, List, None, length, OnOk, OnErr, IfErr};
 ghost use Rattle.po_accepted.specs.Tickets.{uncollected};
 ghost use Rattle.po_history.specs.declared.event.Event.{Event as AnEvent};
 ghost use Rattle.po_engine.specs.Pick.{owed};
@@ -27,6 +27,14 @@ pub trait Record<U: Unit> {
 
     /// The record is that of an object in this state, and has room for so many events and calls.
     ghost IsOf: { WhatWasMade U → Self → Known U U.Value → ℕ → ℕ → Type 0 };
+
+    /// Its objects take all their memory when they are made, so that the number of their uncollected calls is fixed.
+    ghost is_bounded: { Bool };
+
+    /// All memory was taken when the object was made, or some is taken for each call.
+    fn recall_kind(&self, making: &Making<U>, state: &State<U>)
+        requires { IsOf making.now self.now (known_of state.now) (owed U.meaning state.now.state) 0 }
+        ensures { state.now.is_fixed ≡ is_bounded };
 
     /// Makes room for a call on an entry of this rank, and for all events that it may bring.
     fn reserve_call(

@@ -121,6 +121,10 @@ impl<U: Unit> Record<U> for Recorded<U> {
 
     ghost IsOf = { λ making r s room calls. IsRecording making s room calls r.base r.history r.keys r.ended r.ran };
 
+    ghost is_bounded = { false };
+
+    fn recall_kind(&self, _making: &Making<U>, _state: &State<U>) {}
+
     fn reserve_call(
         &mut self,
         _making: &Making<U>,

@@ -1,6 +1,6 @@
 //! An object with its record, in the middle of a protected action or between two.
 
-ghost use Rattle.std.specs.Prelude.{◌≡◌, ◌<◌, ◌≤◌, ◌&&◌, [], find, None, Some, true, false, MatchOption, MatchBool, MatchResult, IfOk, IfErr, IfNone, OnSome, OnOk, OnErr};
+ghost use Rattle.std.specs.Prelude.{◌≡◌, ◌<◌, ◌≤◌, ◌&&◌, [], find, is_some, None, Some, true, false, MatchOption, MatchBool, MatchResult, IfOk, IfErr, IfNone, OnSome, OnOk, OnErr};
 ghost use Rattle.po_index.specs.Numbering.{entry_count, is_public};
 ghost use Rattle.po_accepted.specs.Finding.{IsFound};
 ghost use Rattle.po_accepted.specs.Tickets.{number_at, is_live, SetsTicket};
@@ -323,6 +323,13 @@ impl<U: Unit, R: Record<U>> TrackedObject<U, R> {
         ensures { IsSound U.meaning self.now.object }
     {
         let _ = &self.state;
+    }
+
+    /// The number of its uncollected calls is fixed, or it isn't.
+    pub(crate) fn recall_kind(&self)
+        ensures { is_some self.now.capacity ≡ R.is_bounded }
+    {
+        self.kept.recall_kind(&self.making, &self.state);
     }
 
     /// With what the object was made.

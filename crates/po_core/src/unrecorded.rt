@@ -37,6 +37,10 @@ impl<U: Unit> Record<U> for Unrecorded<U> {
 
     ghost IsOf = { λ making r s room calls. s.is_fixed ≡ true };
 
+    ghost is_bounded = { true };
+
+    fn recall_kind(&self, _making: &Making<U>, _state: &State<U>) {}
+
     fn reserve_call(
         &mut self,
         _making: &Making<U>,

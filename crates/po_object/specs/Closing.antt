@@ -1,6 +1,6 @@
 -- What a closed object shows (this project's own).
 use Rattle.std.specs.Prelude.{ℕ, ◌≡◌, ◌≤◌, List, length, slice_get, Some}
-use Rattle.po_actions.specs.Tickets.{CoreView}
+use Rattle.po_core.specs.Tickets.{CoreView}
 use Rattle.po_receipts.specs.Passes.{PassView}
 use Rattle.po_receipts.specs.Answers.{HasClosingTotals, HasNoOthers}
 

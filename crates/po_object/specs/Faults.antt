@@ -1,12 +1,14 @@
 -- What a fault of an opening hands back (this project's own).
 use Rattle.std.specs.Prelude.{ℕ, ◌≡◌, ◌≢◌, List}
 use Rattle.std.specs.declared.sync.ledger.Blank.{Blank}
-use Rattle.po_actions.specs.Tickets.{CoreView}
+use Rattle.po_core.specs.Tickets.{CoreView}
 use Rattle.po_actions.specs.View.{next_place}
 use Rattle.po_receipts.specs.Passes.{PassView}
 use Rattle.po_object.specs.Seats.{IsMissing}
 use Rattle.po_object.specs.declared.fault.OpenFault.{OpenFault}
 use Rattle.po_object.specs.declared.fault.OpenFault.TheVariants.{NotFresh, OutOfMemory}
+use Rattle.po_object.specs.declared.opening.Unopened.{Unopened}
+use Rattle.po_object.specs.declared.opening.Unopened.TheVariants.{NotFresh as WasUsed, OutOfMemory as WithoutMemory}
 use Rattle.po_object.specs.declared.fault.CloseFault.{CloseFault}
 use Rattle.po_object.specs.declared.fault.CloseFault.TheVariants.{PassMissing}
 
@@ -16,6 +18,11 @@ HandsBack core calls procedures (NotFresh c a b) =
     (c ≡ core) × (a ≡ calls) × (b ≡ procedures) × (next_place core.object ≢ core.object.making.first_place)
 HandsBack core calls procedures (OutOfMemory c a b) =
     (c ≡ core) × (a ≡ calls) × (b ≡ procedures) × (next_place core.object ≡ core.object.making.first_place)
+
+-- It is for this that no object is opened over the core.
+abbrev pub IsWhy : {S V : Type 0} → CoreView S V → Unopened → Type 0
+IsWhy core WasUsed = next_place core.object ≢ core.object.making.first_place
+IsWhy core WithoutMemory = next_place core.object ≡ core.object.making.first_place
 
 -- The object and the passes are handed back, with the lowest seat that hasn't exactly one pass.
 abbrev pub KeepsAll : {U C P V : Type 0} → ℕ → List (PassView V) → CloseFault U C P V → Type 0

@@ -6,3 +6,4 @@ pub mod Refused
 pub mod Replies
 pub mod Faults
 pub mod LatestCalls
+pub mod Reservations

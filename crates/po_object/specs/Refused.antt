@@ -1,30 +1,36 @@
 -- Which refusals a call of an object may meet (this project's own). What lies behind the lock isn't known, but for the
--- declarations of its entries.
-use Rattle.std.specs.Prelude.{◌≡◌, ◌⊎◌, List, Some, None}
+-- declarations of its entries, and whether the number of calls is fixed.
+use Rattle.std.specs.Prelude.{◌≡◌, ◌⊎◌, Bool, true, false, List, Some, None}
 use Rattle.po_index.specs.declared.decl.Decl.{Decl}
 use Rattle.po_index.specs.declared.decl.EntryRef.{EntryRef}
-use Rattle.po_actions.specs.Refusals.{entry_refusal}
-use Rattle.po_actions.specs.declared.refusal.Refusal.{Refusal}
-use Rattle.po_actions.specs.declared.refusal.Refusal.TheVariants.{NoSuchOperation, Finalized, NumbersSpent, OutOfMemory}
+use Rattle.po_core.specs.Refusals.{entry_refusal}
+use Rattle.po_core.specs.declared.refusal.Refusal.{Refusal}
+use Rattle.po_core.specs.declared.refusal.Refusal.TheVariants.{NoSuchOperation, Finalized, NumbersSpent, OutOfMemory}
+
+-- Memory is wanting. That is no refusal where the number of calls is fixed.
+abbrev pub IsOutOfMemory : Bool → Refusal → Type 0
+IsOutOfMemory false r = r ≡ OutOfMemory
+IsOutOfMemory true r = ⊥
 
 -- of a call on an entry: that of the entry, whatever the object's state, else of the state, or memory is wanting
-abbrev pub IsCallRefusal : List Decl → EntryRef → Refusal → Type 0
-IsCallRefusal shape entry r =
-    (r ≡ OutOfMemory)
+abbrev pub IsCallRefusal : Bool → List Decl → EntryRef → Refusal → Type 0
+IsCallRefusal bounded shape entry r =
+    IsOutOfMemory bounded r
     ⊎ (entry_refusal shape entry None ≡ Some r)
     ⊎ ((entry_refusal shape entry None ≡ None) × ((r ≡ Finalized) ⊎ (r ≡ NumbersSpent)))
 
 -- of a procedure
-abbrev pub IsProcedureRefusal : Refusal → Type 0
-IsProcedureRefusal r = (r ≡ OutOfMemory) ⊎ (r ≡ NoSuchOperation) ⊎ (r ≡ Finalized) ⊎ (r ≡ NumbersSpent)
+abbrev pub IsProcedureRefusal : Bool → Refusal → Type 0
+IsProcedureRefusal bounded r = IsOutOfMemory bounded r ⊎ (r ≡ NoSuchOperation) ⊎ (r ≡ Finalized) ⊎ (r ≡ NumbersSpent)
 
 -- of a function
 abbrev pub IsFunctionRefusal : Refusal → Type 0
 IsFunctionRefusal r = (r ≡ NoSuchOperation) ⊎ (r ≡ Finalized)
 
 -- of a tick
-abbrev pub IsTickRefusal : Refusal → Type 0
-IsTickRefusal r = (r ≡ OutOfMemory) ⊎ (r ≡ Finalized)
+abbrev pub IsTickRefusal : Bool → Refusal → Type 0
+IsTickRefusal false r = (r ≡ OutOfMemory) ⊎ (r ≡ Finalized)
+IsTickRefusal true r = (r ≡ NumbersSpent) ⊎ (r ≡ Finalized)
 
 -- of a cut
 abbrev pub IsCutRefusal : Refusal → Type 0

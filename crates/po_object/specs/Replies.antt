@@ -7,7 +7,7 @@ use Rattle.po_accepted.specs.WaitingCalls.{is_of}
 use Rattle.po_actions.specs.declared.refusal.Aborted.{Aborted}
 use Rattle.po_engine.specs.ObjectState.{ObjectState, counts_in}
 use Rattle.po_actions.specs.ProtectedAction.{after_action, abort_answer}
-use Rattle.po_actions.specs.Refusals.{finalized_refusal}
+use Rattle.po_core.specs.Refusals.{finalized_refusal}
 use Rattle.po_actions.specs.View.{View}
 
 module _ {S V : Type 0} where

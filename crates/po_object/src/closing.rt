@@ -10,20 +10,28 @@ use crate::fault::CloseFault;
 use crate::hold::{Hold, Pass};
 use crate::ledgers::{CallLedger, Division};
 use crate::object::Object;
-use po_actions::Core;
-use po_receipts::{Spent, none_pending};
+use po_core::{Core, Record, Recorded, Unrecorded};
+use po_receipts::{Receipt, Receipts, Spent, none_pending};
+use po_trace::Trace;
 use po_unit::Unit;
 use std::marker::Model;
 use std::sync::ledger::{Ledger, Share};
 
 /// An object that was closed: nobody can call it any more. Contracts see it as its core and its passes.
 #[derive(Drop)]
-pub struct Closed<U: Unit> {
-    core: Core<U>,
-    passes: Vec<Spent<U::Value>>,
+pub struct Closed<
+    U: Unit,
+    R: Record<U> = Recorded<U>,
+    Q: Receipts<<U as Unit>::Value> = Vec<Receipt<<U as Unit>::Value>>,
+> {
+    core: Core<U, R>,
+    passes: Vec<Spent<U::Value, Q>>,
 }
 
-impl<U: Unit> Model for Closed<U> {
+/// A closed object that took no memory for its calls.
+pub type BoundedClosed<U> = Closed<U, Unrecorded<U>, Trace<Receipt<<U as Unit>::Value>>>;
+
+impl<U: Unit, R: Record<U>, Q: Receipts<U::Value>> Model for Closed<U, R, Q> {
     ghost use Rattle.po_object.specs.Closing.{ClosedView, IsClosed};
 
     ghost Value = { ClosedView U U.Value };
@@ -33,16 +41,16 @@ impl<U: Unit> Model for Closed<U> {
     ghost invariant = { λ c. IsClosed (record { core = c.core; passes = c.passes.items }) };
 }
 
-impl<U: Unit> Closed<U> {
+impl<U: Unit, R: Record<U>, Q: Receipts<U::Value>> Closed<U, R, Q> {
     /// The core.
-    pub fn core(&self) -> &Core<U>
+    pub fn core(&self) -> &Core<U, R>
         ensures { result.now ≡ self.now.core }
     {
         &self.core
     }
 
     /// The passes, by rising seat.
-    pub fn passes(&self) -> &[Spent<U::Value>]
+    pub fn passes(&self) -> &[Spent<U::Value, Q>]
         ensures { result.now ≡ self.now.passes }
     {
         self.passes.as_slice()
@@ -64,11 +72,16 @@ impl<U: Unit> Closed<U> {
     }
 }
 
-impl<U: Unit, C: CallLedger, P: Ledger> Object<U, C, P> {
+impl<U: Unit, C: CallLedger, P: Ledger, F: Ledger, R: Record<U>, Q: Receipts<U::Value>>
+    Object<U, C, P, F, R, Q>
+{
     /// Closes the object, where each seat has exactly one of the passes. No memory is taken.
     ///
     /// Else the fault names the lowest seat that hasn't, and hands the object and the passes back.
-    pub fn close(self, passes: Vec<Pass<U::Value, C, P>>) -> Result<Closed<U>, CloseFault<U, C, P>>
+    pub fn close(
+        self,
+        passes: Vec<Pass<U::Value, C, P, F, Q>>,
+    ) -> Result<Closed<U, R, Q>, CloseFault<U, C, P, F, R, Q>>
         ensures one_each { OnOk result (OneEach self passes.items × (length passes.items ≡ self)) }
         ensures by_seat { IfOk result (λ closed. AreBySeat self passes.items closed.passes) }
         ensures totals { IfOk result (λ closed. HasClosingTotals closed.core closed.passes) }
@@ -95,9 +108,11 @@ impl<U: Unit, C: CallLedger, P: Ledger> Object<U, C, P> {
     }
 }
 
-impl<U: Unit, C: CallLedger, P: Ledger> Object<U, C, P> {
+impl<U: Unit, C: CallLedger, P: Ledger, F: Ledger, R: Record<U>, Q: Receipts<U::Value>>
+    Object<U, C, P, F, R, Q>
+{
     /// The lowest seat that hasn't exactly one of the passes.
-    fn missing(&mut self, passes: &Vec<Pass<U::Value, C, P>>) -> Option<u16>
+    fn missing(&mut self, passes: &Vec<Pass<U::Value, C, P, F, Q>>) -> Option<u16>
         ensures same { self.new ≡ self.old }
         ensures some { IfSome result (λ s. IsMissing self.old passes.now.items s) }
         ensures none { IfNone result (OneEach self.old passes.now.items) }
@@ -113,7 +128,10 @@ impl<U: Unit, C: CallLedger, P: Ledger> Object<U, C, P> {
 }
 
 /// Counts the passes of each seat.
-fn count<V: Copy, C: Ledger, P: Ledger>(counts: &mut Vec<usize>, passes: &Vec<Pass<V, C, P>>)
+fn count<V: Copy, C: Ledger, P: Ledger, F: Ledger, Q: Receipts<V>>(
+    counts: &mut Vec<usize>,
+    passes: &Vec<Pass<V, C, P, F, Q>>,
+)
     ensures { AreCounts (vec_len counts.old) passes.now.items counts.new.items }
 {
     counts.as_mut_slice().fill(0);
@@ -136,13 +154,13 @@ fn count_one(counts: &mut Vec<usize>, seat: u16)
 }
 
 /// Takes the core out, with the passes by rising seat.
-fn gather<U: Unit, C: CallLedger, P: Ledger>(
-    hold: Hold<U, C, P>,
-    room: Vec<Spent<U::Value>>,
-    passes: Vec<Pass<U::Value, C, P>>,
+fn gather<U: Unit, C: CallLedger, P: Ledger, F: Ledger, R: Record<U>, Q: Receipts<U::Value>>(
+    hold: Hold<U, C, P, F, R, Q>,
+    room: Vec<Spent<U::Value, Q>>,
+    passes: Vec<Pass<U::Value, C, P, F, Q>>,
     calls: &Division<C>,
     procedures: &Division<P>,
-) -> Closed<U>
+) -> Closed<U, R, Q>
     requires room { vec_len room ≡ calls.now.seats }
     requires seats { procedures.now.seats ≡ calls.now.seats }
     requires one_each { OneEach calls.now.seats passes.items }
@@ -162,13 +180,13 @@ fn gather<U: Unit, C: CallLedger, P: Ledger>(
 }
 
 /// Puts each pass into the room of its seat, and its parts of the ledgers to these.
-fn collect<V: Copy, C: Ledger, P: Ledger>(
+fn collect<V: Copy, C: Ledger, P: Ledger, F: Ledger, Q: Receipts<V>>(
     seats: u16,
-    room: Vec<Spent<V>>,
-    passes: Vec<Pass<V, C, P>>,
+    room: Vec<Spent<V, Q>>,
+    passes: Vec<Pass<V, C, P, F, Q>>,
     made: &mut Share<C>,
     ran: &mut Share<P>,
-) -> Vec<Spent<V>>
+) -> Vec<Spent<V, Q>>
     requires room { vec_len room ≡ seats }
     requires parts { (made.old.parts ≡ 1) × (ran.old.parts ≡ 1) }
     requires bound { 1 ≤ C.parts }

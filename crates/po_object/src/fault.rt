@@ -3,7 +3,8 @@
 use crate::hold::Pass;
 use crate::ledgers::CallLedger;
 use crate::object::Object;
-use po_actions::Core;
+use po_core::{Core, Record, Recorded, Unrecorded};
+use po_receipts::{Receipt, Receipts};
 use po_unit::Unit;
 use std::fmt;
 use std::sync::ledger::{Blank, Ledger};
@@ -11,16 +12,16 @@ use thiserror::Error;
 
 /// Why no object is opened, with the core and the blanks of the ledgers, as they were.
 #[derive(Drop, Error)]
-pub enum OpenFault<U: Unit> {
+pub enum OpenFault<U: Unit, R: Record<U> = Recorded<U>> {
     /// 1: the core has, or had before a cut, an event.
     #[error("the core has events already: an object is opened over a new core")]
-    NotFresh(Core<U>, Blank, Blank),
+    NotFresh(Core<U, R>, Blank, Blank),
     /// 2: memory was wanting.
     #[error("out of memory")]
-    OutOfMemory(Core<U>, Blank, Blank),
+    OutOfMemory(Core<U, R>, Blank, Blank),
 }
 
-impl<U: Unit> fmt::Debug for OpenFault<U> {
+impl<U: Unit, R: Record<U>> fmt::Debug for OpenFault<U, R> {
     fn fmt<W: fmt::Write>(&self, f: &mut fmt::Formatter<W>) -> fmt::Result {
         match self {
             OpenFault::NotFresh(..) => f.write_str("NotFresh"),
@@ -29,22 +30,47 @@ impl<U: Unit> fmt::Debug for OpenFault<U> {
     }
 }
 
+/// Why no object that takes no memory is opened, with the core and the blanks of the ledgers, as they were.
+#[derive(Drop, Error)]
+#[error("{fault}")]
+pub struct BoundedOpenFault<U: Unit, R: Record<U> = Unrecorded<U>> {
+    /// Why not, with the core and the blanks of the ledgers of calls and procedures.
+    pub fault: OpenFault<U, R>,
+    /// The blank of the ledger of free passes.
+    pub free: Blank,
+}
+
+impl<U: Unit, R: Record<U>> fmt::Debug for BoundedOpenFault<U, R> {
+    fn fmt<W: fmt::Write>(&self, f: &mut fmt::Formatter<W>) -> fmt::Result {
+        self.fault.fmt(f)
+    }
+}
+
 /// Why an object isn't closed, with the object and the passes, as they were.
 #[derive(Drop, Error)]
-pub enum CloseFault<U: Unit, C: CallLedger, P: Ledger> {
+pub enum CloseFault<
+    U: Unit,
+    C: CallLedger,
+    P: Ledger,
+    F: Ledger = C,
+    R: Record<U> = Recorded<U>,
+    Q: Receipts<<U as Unit>::Value> = Vec<Receipt<<U as Unit>::Value>>,
+> {
     /// 1: a seat hasn't exactly one of the passes.
     #[error("seat {seat} hasn't exactly one of the passes that were given back")]
     PassMissing {
         /// The lowest such seat.
         seat: u16,
         /// The object.
-        object: Object<U, C, P>,
+        object: Object<U, C, P, F, R, Q>,
         /// The passes.
-        passes: Vec<Pass<U::Value, C, P>>,
+        passes: Vec<Pass<U::Value, C, P, F, Q>>,
     },
 }
 
-impl<U: Unit, C: CallLedger, P: Ledger> fmt::Debug for CloseFault<U, C, P> {
+impl<U: Unit, C: CallLedger, P: Ledger, F: Ledger, R: Record<U>, Q: Receipts<U::Value>> fmt::Debug
+    for CloseFault<U, C, P, F, R, Q>
+{
     fn fmt<W: fmt::Write>(&self, f: &mut fmt::Formatter<W>) -> fmt::Result {
         match self {
             CloseFault::PassMissing { seat, .. } => write!(f, "PassMissing {{ seat: {seat} }}"),

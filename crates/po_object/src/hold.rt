@@ -1,55 +1,76 @@
 //! What lies behind an object's lock, with the pass by which callers come to it.
 
-ghost use Rattle.std.specs.Prelude.{ℕ, ◌≡◌, ◌≤◌, ◌+◌, ◌⊎◌, ◌∷◌, ◌++◌, [], None, Some, find, length, unwrap_or, List, IfOk, IfErr, IfSome, IfNone, IsSome, OnOk, OnErr, OnSome, MatchResult};
+ghost use Rattle.std.specs.Prelude.{ℕ, ◌≡◌, ◌≤◌, ◌+◌, ◌⊎◌, ◌∷◌, ◌++◌, [], None, Some, find, is_some, length, unwrap_or, List, IfOk, IfErr, IfSome, IfNone, IsSome, OnOk, OnErr, OnSome, MatchResult};
 ghost use Rattle.po_accepted.specs.Tickets.{number_at, SetsTicket};
 ghost use Rattle.po_accepted.specs.WaitingCalls.{is_of};
 ghost use Rattle.po_accepted.specs.Finding.{IsFound};
 ghost use Rattle.po_history.specs.Histories.{VolumeView};
 ghost use Rattle.po_history.specs.declared.event.Event.{Event};
-ghost use Rattle.po_actions.specs.Tickets.{CoreView, end_of_ticket};
+ghost use Rattle.po_core.specs.Tickets.{CoreView, end_of_ticket};
 ghost use Rattle.po_actions.specs.View.{base_state, next_place};
 ghost use Rattle.po_actions.specs.Cutting.{cut, cut_off, Leads, KeepsArrivals, KeepsVolumes, procedures_run, AreVolumes};
 ghost use Rattle.po_actions.specs.Commands.{issue_of, reply_of};
 ghost use Rattle.po_actions.specs.ProtectedAction.{IsProtectedAction, IsAbortOf, after_action, after_abort, abort_answer};
-ghost use Rattle.po_actions.specs.Refusals.{entry_of, issue_refusal, run_refusal, finalized_refusal, cut_refusal};
-ghost use Rattle.po_actions.specs.declared.refusal.Refusal.{Refusal};
+ghost use Rattle.po_actions.specs.Refusals.{entry_of};
+ghost use Rattle.po_core.specs.Refusals.{MayRefuse, issue_refusal, run_refusal, tick_refusal, finalized_refusal, cut_refusal};
+ghost use Rattle.po_core.specs.declared.refusal.Refusal.{Refusal};
 ghost use Rattle.po_receipts.specs.Passes.{PassView};
 ghost use Rattle.po_receipts.specs.Answers.{AskedBySeats};
 ghost use Rattle.po_object.specs.Filing.{IsFinished, asking, running};
 ghost use Rattle.po_object.specs.Holds.{IsCounted};
+ghost use Rattle.po_object.specs.Refused.{IsOutOfMemory};
 ghost use Rattle.po_object.specs.LatestCalls.{NoneIssued};
 
 use crate::latest::LatestCalls;
 use crate::ledgers::CallLedger;
-pub use crate::pass::Pass;
-use po_actions::{Aborted, Core, Deadline, End, Event, Refusal, Ticket, Volume};
+pub use crate::pass::{BoundedPass, Pass};
+use crate::reservation::Reservations;
+use po_core::{Aborted, Core, Deadline, End, Event, Record, Recorded, Refusal, Ticket, Unrecorded, Volume};
 use po_index::EntryRef;
-use po_receipts::{Asked, Receipt};
+use po_receipts::{Asked, Receipt, Receipts};
+use po_trace::Trace;
 use po_unit::Unit;
-use std::marker::Model;
+use std::marker::{Model, PhantomData};
 use std::sync::ledger::{Book, Ledger, Share};
 
 /// The core of an object, with the books of its ledgers. Contracts see it as its core, so the headline holds of it.
 ///
 /// A hold of the lock is one command of the core, or a look at it. In its whole history the core has issued as many calls as
-/// the passes have in their tallies, and run as many procedures; seats alone asked for them. By what is known of each seat's
-/// latest call, its waiting one is found at flat cost.
+/// the passes have in their tallies, and run as many procedures; seats alone asked for them. Where the number of calls is
+/// fixed, there is memory for one call more of each free pass. By what is known of each seat's latest call, its waiting one
+/// is found at flat cost.
 #[derive(Drop)]
-pub struct Hold<U: Unit, C: CallLedger, P: Ledger> {
-    core: Core<U>,
+pub struct Hold<
+    U: Unit,
+    C: CallLedger,
+    P: Ledger,
+    F: Ledger = C,
+    R: Record<U> = Recorded<U>,
+    Q: Receipts<<U as Unit>::Value> = Vec<Receipt<<U as Unit>::Value>>,
+> {
+    core: Core<U, R>,
     calls: Book<C>,
     procedures: Book<P>,
+    reservations: Reservations<F>,
+    receipts: PhantomData<Q>,
     last_calls: Share<C>,
     last_procedures: Share<P>,
     latest: LatestCalls,
 }
 
-impl<U: Unit, C: CallLedger, P: Ledger> Model for Hold<U, C, P> {
-    ghost use Rattle.std.specs.Prelude.{◌≡◌, ◌+◌, length};
-    ghost use Rattle.po_actions.specs.Tickets.{CoreView};
+/// The value behind the lock of an object that takes no memory.
+pub type BoundedHold<U, C, P, F> =
+    Hold<U, C, P, F, Unrecorded<U>, Trace<Receipt<<U as Unit>::Value>>>;
+
+impl<U: Unit, C: CallLedger, P: Ledger, F: Ledger, R: Record<U>, Q: Receipts<U::Value>> Model
+    for Hold<U, C, P, F, R, Q>
+{
+    ghost use Rattle.std.specs.Prelude.{◌≡◌, ◌+◌, is_some, length};
+    ghost use Rattle.po_core.specs.Tickets.{CoreView};
     ghost use Rattle.po_receipts.specs.Answers.{AskedBySeats};
     ghost use Rattle.po_object.specs.Holds.{IsCounted};
-    ghost use Rattle.po_object.specs.LatestCalls.{IsTrueOfAll};
+    ghost use Rattle.po_object.specs.LatestCalls.{KnowsLatest};
+    ghost use Rattle.po_object.specs.Reservations.{HasRoomFor};
 
     ghost Value = { CoreView U U.Value };
 
@@ -60,13 +81,17 @@ impl<U: Unit, C: CallLedger, P: Ledger> Model for Hold<U, C, P> {
       parts : (h.last_calls.parts ≡ 1) × (h.last_procedures.parts ≡ 1);
       amounts : (h.last_calls.amount ≡ 0) × (h.last_procedures.amount ≡ 0);
       shape : h.core.object.making.shape ≡ C.shape;
-      latest : IsTrueOfAll h.latest h.core.object.state;
+      latest : KnowsLatest h.latest h.core;
+      bounded : (is_some h.reservations ≡ Q.is_bounded) × (Q.is_bounded ≡ R.is_bounded);
+      room : HasRoomFor h.core h.reservations;
       seats : length h.latest + 1 ≡ C.parts;
       asked : AskedBySeats (length h.latest) h.core.object.events;
     } };
 }
 
-impl<U: Unit + Drop, C: CallLedger, P: Ledger> Hold<U, C, P> {
+impl<U: Unit + Drop, C: CallLedger, P: Ledger, F: Ledger, Q: Receipts<U::Value>>
+    Hold<U, C, P, F, Recorded<U>, Q>
+{
     /// Cuts the history, as `Core::cut` does.
     ///
     /// Refused 8 and 9, also on a finalized object.
@@ -91,15 +116,18 @@ impl<U: Unit + Drop, C: CallLedger, P: Ledger> Hold<U, C, P> {
     }
 }
 
-impl<U: Unit, C: CallLedger, P: Ledger> Hold<U, C, P> {
+impl<U: Unit, C: CallLedger, P: Ledger, F: Ledger, R: Record<U>, Q: Receipts<U::Value>>
+    Hold<U, C, P, F, R, Q>
+{
     pub(crate) fn new(
-        core: Core<U>,
+        core: Core<U, R>,
         calls: Book<C>,
         procedures: Book<P>,
+        reservations: Reservations<F>,
         last_calls: Share<C>,
         last_procedures: Share<P>,
         latest: LatestCalls,
-    ) -> Hold<U, C, P>
+    ) -> Hold<U, C, P, F, R, Q>
         requires fresh { next_place core.object ≡ core.object.making.first_place }
         requires shape { core.object.making.shape ≡ C.shape }
         requires totals { (calls.total ≡ 0) × (procedures.total ≡ 0) }
@@ -107,13 +135,19 @@ impl<U: Unit, C: CallLedger, P: Ledger> Hold<U, C, P> {
         requires amounts { (last_calls.amount ≡ 0) × (last_procedures.amount ≡ 0) }
         requires seats { length latest + 1 ≡ C.parts }
         requires latest { NoneIssued (length latest) latest }
+        requires bounded { (is_some reservations ≡ Q.is_bounded) × (Q.is_bounded ≡ R.is_bounded) }
+        // One call of each free pass has its place in memory.
+        requires room { IfSome reservations (λ n. IfSome core.capacity (λ most. n ≤ most)) }
         ensures { result ≡ core }
     {
         core.headline();
+        core.recall_kind();
         Hold {
             core,
             calls,
             procedures,
+            reservations,
+            receipts: PhantomData,
             last_calls,
             last_procedures,
             latest,
@@ -121,7 +155,7 @@ impl<U: Unit, C: CallLedger, P: Ledger> Hold<U, C, P> {
     }
 
     /// The core.
-    pub fn core(&self) -> &Core<U>
+    pub fn core(&self) -> &Core<U, R>
         ensures core { result.now ≡ self.now }
         // The ledger of calls names the declarations of the core's entries.
         ensures shape { self.now.object.making.shape ≡ C.shape }
@@ -131,10 +165,11 @@ impl<U: Unit, C: CallLedger, P: Ledger> Hold<U, C, P> {
 
     /// Issues a call from the pass's seat (9.5.3), as `Core::issue` does. It is then the pass's pending call.
     ///
-    /// Refused 9 where there is no room for a receipt, and else as the core refuses.
+    /// Refused 1, 2, 3, 7 and 8; where the number of calls isn't fixed also 9, first where there is no room for a receipt.
+    /// There is a place for it, so it is never refused 11.
     pub fn begin(
         &mut self,
-        pass: &mut Pass<U::Value, C, P>,
+        pass: &mut Pass<U::Value, C, P, F, Q>,
         entry: EntryRef,
         value: U::Value,
         deadline: Deadline,
@@ -147,6 +182,7 @@ impl<U: Unit, C: CallLedger, P: Ledger> Hold<U, C, P> {
         ensures key { IfOk result (λ ticket. number_at self.old.tickets ticket.key ≡ None) }
         ensures ticket { IfOk result (λ ticket.
             SetsTicket self.old.tickets self.new.tickets ticket.key (Some ticket.number)) }
+        ensures capacity { self.new.capacity ≡ self.old.capacity }
         ensures volumes { OnOk result (KeepsVolumes U.meaning self.old.object self.new.object) }
         ensures action { OnOk result (IsProtectedAction U.meaning self.old.object self.new.object
             (issue_of self.old.object pass.old.seat entry value deadline)) }
@@ -159,19 +195,20 @@ impl<U: Unit, C: CallLedger, P: Ledger> Hold<U, C, P> {
         // The ledger of calls names the declarations of the core's entries.
         ensures shape { self.old.object.making.shape ≡ C.shape }
         ensures allowed { OnOk result (issue_refusal self.old.object entry ≡ None) }
-        ensures refused { IfErr result (λ r. (r ≡ Refusal.OutOfMemory) ⊎ (issue_refusal self.old.object entry ≡ Some r)) }
+        ensures refused { IfErr result (λ r. IsOutOfMemory R.is_bounded r ⊎ (issue_refusal self.old.object entry ≡ Some r)) }
         ensures unchanged { OnErr result ((self.new ≡ self.old) × (pass.new ≡ pass.old)) }
     {
         let number = number_of(&self.core, entry);
-        pass.receipts.reserve(1)?;
+        pass.receipts.make_room()?;
         self.core.headline();
         let idle = self.latest.is_idle(&self.core, pass.seat);
         let ticket = self.core.issue(pass.seat, entry, value, deadline)?;
         let _next = self.core.next();
         self.calls.audit(&mut pass.made);
         self.calls.add(&mut pass.made, 1);
+        self.reservations.take(&mut pass.reservation);
         pass.calls += 1;
-        self.latest.note(pass.seat, ticket.number, idle);
+        self.latest.note(pass.seat, ticket, idle);
         pass.pending = Some(Asked {
             ticket,
             entry: number,
@@ -182,19 +219,22 @@ impl<U: Unit, C: CallLedger, P: Ledger> Hold<U, C, P> {
     }
 
     /// Collects the pass's pending call, if it has ended, and files its receipt. Else nothing changes. No memory is taken.
-    pub fn finish(&mut self, pass: &mut Pass<U::Value, C, P>) -> Option<End<U::Value>>
+    pub fn finish(&mut self, pass: &mut Pass<U::Value, C, P, F, Q>) -> Option<End<U::Value>>
         requires { IsSome pass.old.pending }
         ensures end { IfSome pass.old.pending (λ asked. result ≡ end_of_ticket self.old asked.ticket) }
         ensures object { self.new.object ≡ self.old.object }
+        ensures capacity { self.new.capacity ≡ self.old.capacity }
         ensures taken { OnSome result (IfSome pass.old.pending (λ asked.
             SetsTicket self.old.tickets self.new.tickets asked.ticket.key None)) }
         ensures filed { IfSome result (λ end. IsFinished pass.old end pass.new) }
         ensures left { IfNone result ((self.new ≡ self.old) × (pass.new ≡ pass.old)) }
     {
         let asked = pass.pending?;
+        self.core.headline();
         let end = self.core.collect(asked.ticket)?;
+        self.reservations.give(&mut pass.reservation);
         pass.pending = None;
-        pass.receipts.push_reserved(Receipt::Called {
+        pass.receipts.file(Receipt::Called {
             number: asked.ticket.number,
             entry: asked.entry,
             value: asked.value,
@@ -206,10 +246,10 @@ impl<U: Unit, C: CallLedger, P: Ledger> Hold<U, C, P> {
 
     /// Runs a procedure from the pass's seat (9.5.1), as `Core::run` does, and files its receipt.
     ///
-    /// Refused 9 where there is no room for a receipt, and else as the core refuses.
+    /// Refused 4, 7 and 8; where the number of calls isn't fixed also 9, first where there is no room for a receipt.
     pub fn run(
         &mut self,
-        pass: &mut Pass<U::Value, C, P>,
+        pass: &mut Pass<U::Value, C, P, F, Q>,
         op: u16,
         value: U::Value,
     ) -> Result<Result<U::Value, u32>, Refusal>
@@ -223,23 +263,22 @@ impl<U: Unit, C: CallLedger, P: Ledger> Hold<U, C, P> {
             IsProtectedAction U.meaning self.old.object self.new.object (Event.Ran pass.old.seat op value reply)) }
         ensures filed { IfOk result (λ reply. pass.new ≡ running pass.old op value reply) }
         ensures allowed { OnOk result (run_refusal U.meaning self.old.object op ≡ None) }
-        ensures refused { IfErr result (λ r. (r ≡ Refusal.OutOfMemory) ⊎ (run_refusal U.meaning self.old.object op ≡ Some r)) }
+        ensures refused { IfErr result (λ r. IsOutOfMemory R.is_bounded r ⊎ (run_refusal U.meaning self.old.object op ≡ Some r)) }
         ensures unchanged { OnErr result ((self.new ≡ self.old) × (pass.new ≡ pass.old)) }
     {
-        pass.receipts.reserve(1)?;
+        pass.receipts.make_room()?;
+        self.core.headline();
         let reply = self.core.run(pass.seat, op, value)?;
-        let _run = self.core.procedures_run();
         self.procedures.audit(&mut pass.ran);
         self.procedures.add(&mut pass.ran, 1);
         pass.procedures += 1;
-        pass.receipts
-            .push_reserved(Receipt::Ran { op, value, reply });
+        pass.receipts.file(Receipt::Ran { op, value, reply });
         Ok(reply)
     }
 
     /// Raises the clock to t, if it is lower, and answers the clock, as `Core::tick` does.
     ///
-    /// Refused 7 and 9.
+    /// Refused 7; where the number of calls is fixed 8, and else 9.
     pub fn tick(&mut self, t: u64) -> Result<u64, Refusal>
         ensures after { OnOk result (self.new ≡ record self.old {
           object = after_action U.meaning self.old.object (Event.Tick t);
@@ -249,11 +288,13 @@ impl<U: Unit, C: CallLedger, P: Ledger> Hold<U, C, P> {
         ensures volumes { OnOk result (KeepsVolumes U.meaning self.old.object self.new.object) }
         ensures action { OnOk result (
             IsProtectedAction U.meaning self.old.object self.new.object (Event.Tick t)) }
-        ensures allowed { OnOk result (finalized_refusal self.old.object ≡ None) }
-        ensures refused { IfErr result (λ r.
-            r ≡ unwrap_or (finalized_refusal self.old.object) Refusal.OutOfMemory) }
+        ensures allowed { OnOk result (tick_refusal self.old ≡ None) }
+        ensures refused { IfErr result (MayRefuse self.old.capacity (tick_refusal self.old)) }
+        // The number of calls is fixed exactly where the record is that of a bounded core.
+        ensures kind { is_some self.old.capacity ≡ R.is_bounded }
         ensures unchanged { OnErr result (self.new ≡ self.old) }
     {
+        self.core.recall_kind();
         let clock = self.core.tick(t)?;
         Ok(clock)
     }
@@ -278,7 +319,7 @@ impl<U: Unit, C: CallLedger, P: Ledger> Hold<U, C, P> {
         Ok(())
     }
 
-    /// Attempts to cancel the seat's earliest queued call (9.5.3, 9.5.4), as `Core::abort` does. No memory is taken.
+    /// Attempts to cancel the seat's earliest queued call (9.5.3, 9.5.4), as `Core::cancel` does. No memory is taken.
     ///
     /// Refused 10, where no call of the seat is queued.
     pub fn abort_seat(&mut self, seat: u16) -> Result<Aborted, Refusal>
@@ -292,15 +333,15 @@ impl<U: Unit, C: CallLedger, P: Ledger> Hold<U, C, P> {
         ensures unchanged { OnErr result (self.new ≡ self.old) }
     {
         self.core.headline();
-        let Some(number) = self.latest.waiting_of(&self.core, seat) else {
+        let Some(ticket) = self.latest.waiting_of(&self.core, seat) else {
             return Err(Refusal::NoCall);
         };
-        let aborted = self.core.abort(number)?;
+        let aborted = self.core.cancel(ticket)?;
         Ok(aborted)
     }
 
     /// The core, and the parts of the ledgers that no pass holds.
-    pub(crate) fn take_apart(self) -> (Core<U>, Book<C>, Book<P>, Share<C>, Share<P>)
+    pub(crate) fn take_apart(self) -> (Core<U, R>, Book<C>, Book<P>, Share<C>, Share<P>)
         ensures core { result.0 ≡ self }
         ensures totals { IsCounted result.0.object result.1.total result.2.total }
         ensures parts { (result.3.parts ≡ 1) × (result.4.parts ≡ 1) }
@@ -311,6 +352,8 @@ impl<U: Unit, C: CallLedger, P: Ledger> Hold<U, C, P> {
             core,
             calls,
             procedures,
+            reservations: _reservations,
+            receipts: _receipts,
             last_calls,
             last_procedures,
             latest: _latest,
@@ -320,7 +363,7 @@ impl<U: Unit, C: CallLedger, P: Ledger> Hold<U, C, P> {
 }
 
 /// The flat number of the entry that an accepted call names.
-fn number_of<U: Unit>(core: &Core<U>, entry: EntryRef) -> u16
+fn number_of<U: Unit, R: Record<U>>(core: &Core<U, R>, entry: EntryRef) -> u16
     ensures { result ≡ entry_of core.now.object.making.shape entry }
 {
     core.shape().flat(entry).unwrap_or(0)

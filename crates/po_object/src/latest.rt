@@ -1,10 +1,14 @@
 //! What is known of the waiting calls of each seat, so that the call of one is found without a walk over those of all.
 
-ghost use Rattle.std.specs.Prelude.{◌≡◌, ◌<◌, IfOk, None, option_map, find, length, slice_set, true, if◌then◌else◌};
+ghost use Rattle.std.specs.Prelude.{◌≡◌, ◌≢◌, ◌<◌, IfOk, IfSome, None, option_map, find, length, slice_set, true, false, if◌then◌else◌};
+ghost use Rattle.po_calls.specs.declared.end.Place.TheVariants.{Waiting};
 ghost use Rattle.po_accepted.specs.WaitingCalls.{is_of};
-ghost use Rattle.po_object.specs.LatestCalls.{latest_of, IsTrueOfAll, NoneIssued};
+ghost use Rattle.po_accepted.specs.Tickets.{is_live};
+ghost use Rattle.po_actions.specs.View.{IsInOnePlace};
+ghost use Rattle.po_core.specs.Tickets.{place_of_ticket};
+ghost use Rattle.po_object.specs.LatestCalls.{latest_of, KnowsLatest, NoneIssued};
 
-use po_actions::Core;
+use po_core::{Core, Place, Record, Ticket};
 use po_unit::Unit;
 use std::alloc::{AllocError, Global};
 use std::marker::Model;
@@ -14,8 +18,8 @@ use std::marker::Model;
 pub(crate) enum Latest {
     /// None waits.
     Never,
-    /// Where one waits, it is the one with this number, which the seat issued last.
-    Number(u64),
+    /// Where one waits, it is the one of this ticket, which the seat issued last.
+    Only(Ticket),
     /// Others may wait beside the one that the seat issued last.
     Several,
 }
@@ -57,39 +61,55 @@ impl LatestCalls {
             .unwrap_or(Latest::Never)
     }
 
-    /// The number of the seat's earliest queued call.
-    pub(crate) fn waiting_of<U: Unit>(&self, core: &Core<U>, seat: u16) -> Option<u64>
-        requires { IsTrueOfAll self.now core.now.object.state }
-        ensures { result ≡ option_map (λ x. x.number) (find (is_of seat) core.now.object.state.waiting) }
+    /// The ticket of the seat's earliest queued call.
+    pub(crate) fn waiting_of<U: Unit, R: Record<U>>(
+        &self,
+        core: &Core<U, R>,
+        seat: u16,
+    ) -> Option<Ticket>
+        requires { KnowsLatest self.now core.now }
+        ensures number { option_map (λ t. t.number) result ≡
+            option_map (λ x. x.number) (find (is_of seat) core.now.object.state.waiting) }
+        ensures live { IfSome result (λ t. is_live core.now.tickets t ≡ true) }
     {
         match self.of_seat(seat) {
             Latest::Never => None,
-            Latest::Number(n) => core.is_waiting(n).then_some(n),
-            Latest::Several => core.waiting_of(seat),
+            Latest::Only(ticket) => waits(core, ticket).then_some(ticket),
+            Latest::Several => core.ticket_of(seat),
         }
     }
 
     /// Whether it is known that no call of the seat waits.
-    pub(crate) fn is_idle<U: Unit>(&self, core: &Core<U>, seat: u16) -> bool
-        requires { IsTrueOfAll self.now core.now.object.state }
+    pub(crate) fn is_idle<U: Unit, R: Record<U>>(&self, core: &Core<U, R>, seat: u16) -> bool
+        requires { KnowsLatest self.now core.now }
         ensures { result ≡ true → find (is_of seat) core.now.object.state.waiting ≡ None }
     {
         match self.of_seat(seat) {
             Latest::Never => true,
-            Latest::Number(n) => !core.is_waiting(n),
+            Latest::Only(ticket) => !waits(core, ticket),
             Latest::Several => false,
         }
     }
 
-    /// The seat has issued the call with this number, where `idle` says whether it was known that none of it waited.
-    pub(crate) fn note(&mut self, seat: u16, number: u64, idle: bool)
+    /// The seat has issued the call of this ticket, where `idle` says whether it was known that none of it waited.
+    pub(crate) fn note(&mut self, seat: u16, ticket: Ticket, idle: bool)
         requires { seat < length self.old }
-        ensures { self.new ≡ slice_set self.old seat (if idle then Latest.Number number else Latest.Several) }
+        ensures { self.new ≡ slice_set self.old seat (if idle then Latest.Only ticket else Latest.Several) }
     {
         self.by_seat[seat as usize] = if idle {
-            Latest::Number(number)
+            Latest::Only(ticket)
         } else {
             Latest::Several
         };
     }
+}
+
+/// Whether the call of the ticket waits.
+fn waits<U: Unit, R: Record<U>>(core: &Core<U, R>, ticket: Ticket) -> bool
+    ensures waits { result ≡ true → place_of_ticket core.now ticket ≡ Waiting }
+    ensures placed { IsInOnePlace core.now.object.making.first_number core.now.object.state }
+    ensures not { result ≡ false → place_of_ticket core.now ticket ≢ Waiting }
+{
+    core.headline();
+    matches!(core.end_of(ticket), Place::Waiting)
 }

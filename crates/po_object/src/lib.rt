@@ -10,11 +10,12 @@ mod object;
 mod opening;
 mod pass;
 mod reconciliation;
+mod reservation;
 pub mod seat;
 
-pub use closing::Closed;
-pub use fault::{CloseFault, OpenFault};
+pub use closing::{BoundedClosed, Closed};
+pub use fault::{BoundedOpenFault, CloseFault, OpenFault};
 pub use ledgers::CallLedger;
-pub use object::Object;
-pub use po_receipts::{Agreed, Asked, Receipt, ReconcileFault, Spent};
+pub use object::{BoundedObject, Object};
+pub use po_receipts::{Agreed, Asked, Receipt, Receipts, ReconcileFault, Spent};
 pub use reconciliation::{every_answer, reconcile};

@@ -3,8 +3,9 @@
 ghost use Rattle.std.specs.Prelude.{◌≡◌, ◌+◌, ◌≤◌, None, Some, IfOk, IfErr, IfSome, OnOk, OnErr, IsSome};
 ghost use Rattle.po_index.specs.Numbering.{flat_number};
 ghost use Rattle.po_calls.specs.declared.call.Deadline.TheVariants.{Never, At};
-ghost use Rattle.po_actions.specs.Refusals.{entry_of, entry_refusal, if_unindexed};
-ghost use Rattle.po_actions.specs.declared.refusal.Refusal.{Refusal};
+ghost use Rattle.po_actions.specs.Refusals.{entry_of};
+ghost use Rattle.po_core.specs.Refusals.{entry_refusal, if_unindexed};
+ghost use Rattle.po_core.specs.declared.refusal.Refusal.{Refusal};
 ghost use Rattle.po_receipts.specs.Answers.{AskedBySeats};
 ghost use Rattle.po_object.specs.Filing.{IsFinished, IsCalled, running};
 ghost use Rattle.po_object.specs.Replies.{IsFunctionReply, IsProcedureReply, IsTickReply, IsFinalReply, IsAbortReply, IsCountReply};
@@ -14,9 +15,10 @@ use crate::hold::{Hold, Pass};
 use crate::ledgers::{CallLedger, Division};
 use crate::seat::{Seat, Sleepers};
 use crossbeam_utils::Backoff;
-use po_actions::{Aborted, Deadline, End, Place, Refusal, Volume};
+use po_core::{Aborted, Deadline, End, Place, Record, Recorded, Refusal, Unrecorded, Volume};
 use po_index::EntryRef;
-use po_receipts::Spent;
+use po_receipts::{Receipt, Receipts, Spent};
+use po_trace::Trace;
 use po_unit::Unit;
 use std::marker::Model;
 use std::sync::ledger::Ledger;
@@ -31,16 +33,30 @@ const TRIES: u32 = 64;
 /// Each call takes the lock for one command of the core, and holds nothing while its caller waits. Functions are read side by
 /// side (9.5.1). Who ends calls of others tells the waiting places of their seats, and of no one else.
 #[derive(Drop)]
-pub struct Object<U: Unit, C: CallLedger, P: Ledger> {
-    pub(crate) hold: RwLock<Hold<U, C, P>>,
+pub struct Object<
+    U: Unit,
+    C: CallLedger,
+    P: Ledger,
+    F: Ledger = C,
+    R: Record<U> = Recorded<U>,
+    Q: Receipts<<U as Unit>::Value> = Vec<Receipt<<U as Unit>::Value>>,
+> {
+    pub(crate) hold: RwLock<Hold<U, C, P, F, R, Q>>,
     pub(crate) seats: Vec<Seat>,
     pub(crate) calls: Division<C>,
     pub(crate) procedures: Division<P>,
-    pub(crate) room: Vec<Spent<U::Value>>,
+    pub(crate) room: Vec<Spent<U::Value, Q>>,
     pub(crate) counts: Vec<usize>,
 }
 
-impl<U: Unit, C: CallLedger, P: Ledger> Model for Object<U, C, P> {
+/// An object all of whose memory is taken when it is opened: none of its calls takes any, and history and receipts are known
+/// to proofs alone.
+pub type BoundedObject<U, C, P, F> =
+    Object<U, C, P, F, Unrecorded<U>, Trace<Receipt<<U as Unit>::Value>>>;
+
+impl<U: Unit, C: CallLedger, P: Ledger, F: Ledger, R: Record<U>, Q: Receipts<U::Value>> Model
+    for Object<U, C, P, F, R, Q>
+{
     ghost use Rattle.std.specs.Prelude.{◌≡◌, ℕ, vec_len};
 
     ghost Value = { ℕ };
@@ -55,11 +71,13 @@ impl<U: Unit, C: CallLedger, P: Ledger> Model for Object<U, C, P> {
     } };
 }
 
-impl<U: Unit + Drop, C: CallLedger, P: Ledger> Object<U, C, P> {
+impl<U: Unit + Drop, C: CallLedger, P: Ledger, F: Ledger, Q: Receipts<U::Value>>
+    Object<U, C, P, F, Recorded<U>, Q>
+{
     /// Cuts the history, as `Core::cut` does.
     ///
     /// Refused 8 and 9, also on a finalized object.
-    pub fn cut<R: Wait>(&self, rt: &R) -> Result<Volume<U::Value>, Refusal>
+    pub fn cut<W: Wait>(&self, rt: &W) -> Result<Volume<U::Value>, Refusal>
         // Seats of this object alone asked for the calls and procedures that are in the volume.
         ensures asked { IfOk result (λ volume. AskedBySeats self.now volume.events) }
         ensures refused { IfErr result IsCutRefusal }
@@ -71,7 +89,9 @@ impl<U: Unit + Drop, C: CallLedger, P: Ledger> Object<U, C, P> {
     }
 }
 
-impl<U: Unit, C: CallLedger, P: Ledger> Object<U, C, P> {
+impl<U: Unit, C: CallLedger, P: Ledger, F: Ledger, R: Record<U>, Q: Receipts<U::Value>>
+    Object<U, C, P, F, R, Q>
+{
     /// How many seats the object was opened with.
     pub fn seats(&self) -> u16
         ensures { result ≡ self.now }
@@ -82,17 +102,17 @@ impl<U: Unit, C: CallLedger, P: Ledger> Object<U, C, P> {
     /// Calls an entry (9.5.3), and waits for the end of the call.
     ///
     /// Refused as `Core::issue` is. Where there is no room for a receipt, that is answered before the other refusals.
-    pub fn call<R: Wait>(
+    pub fn call<W: Wait>(
         &self,
-        rt: &R,
-        pass: &mut Pass<U::Value, C, P>,
+        rt: &W,
+        pass: &mut Pass<U::Value, C, P, F, Q>,
         entry: EntryRef,
         value: U::Value,
     ) -> Result<End<U::Value>, Refusal>
         requires { pass.old.pending ≡ None }
         ensures called { IfOk result (λ end. IsCalled pass.old (entry_of C.shape entry) value Never end pass.new) }
         ensures allowed { OnOk result (entry_refusal C.shape entry None ≡ None) }
-        ensures refused { IfErr result (IsCallRefusal C.shape entry) }
+        ensures refused { IfErr result (IsCallRefusal R.is_bounded C.shape entry) }
         ensures unchanged { OnErr result (pass.new ≡ pass.old) }
     {
         self.ask(rt, pass, entry, value, Deadline::Never)
@@ -101,17 +121,17 @@ impl<U: Unit, C: CallLedger, P: Ledger> Object<U, C, P> {
     /// Calls an entry, and gives the call up where it isn't selected at once: a conditional entry call (9.7.3).
     ///
     /// Refused as `call` is.
-    pub fn conditional<R: Wait>(
+    pub fn conditional<W: Wait>(
         &self,
-        rt: &R,
-        pass: &mut Pass<U::Value, C, P>,
+        rt: &W,
+        pass: &mut Pass<U::Value, C, P, F, Q>,
         entry: EntryRef,
         value: U::Value,
     ) -> Result<End<U::Value>, Refusal>
         requires { pass.old.pending ≡ None }
         ensures called { IfOk result (λ end. IsCalled pass.old (entry_of C.shape entry) value (At 0) end pass.new) }
         ensures allowed { OnOk result (entry_refusal C.shape entry None ≡ None) }
-        ensures refused { IfErr result (IsCallRefusal C.shape entry) }
+        ensures refused { IfErr result (IsCallRefusal R.is_bounded C.shape entry) }
         ensures unchanged { OnErr result (pass.new ≡ pass.old) }
     {
         self.ask(rt, pass, entry, value, Deadline::At(0))
@@ -121,10 +141,10 @@ impl<U: Unit, C: CallLedger, P: Ledger> Object<U, C, P> {
     /// entry call (9.7.2).
     ///
     /// Refused as `call` is.
-    pub fn timed<R: Wait>(
+    pub fn timed<W: Wait>(
         &self,
-        rt: &R,
-        pass: &mut Pass<U::Value, C, P>,
+        rt: &W,
+        pass: &mut Pass<U::Value, C, P, F, Q>,
         entry: EntryRef,
         value: U::Value,
         deadline: u64,
@@ -132,7 +152,7 @@ impl<U: Unit, C: CallLedger, P: Ledger> Object<U, C, P> {
         requires { pass.old.pending ≡ None }
         ensures called { IfOk result (λ end. IsCalled pass.old (entry_of C.shape entry) value (At deadline) end pass.new) }
         ensures allowed { OnOk result (entry_refusal C.shape entry None ≡ None) }
-        ensures refused { IfErr result (IsCallRefusal C.shape entry) }
+        ensures refused { IfErr result (IsCallRefusal R.is_bounded C.shape entry) }
         ensures unchanged { OnErr result (pass.new ≡ pass.old) }
     {
         self.ask(rt, pass, entry, value, Deadline::At(deadline))
@@ -141,17 +161,17 @@ impl<U: Unit, C: CallLedger, P: Ledger> Object<U, C, P> {
     /// Runs a protected procedure (9.5.1). The reply is a value, or the number of the exception that it propagates.
     ///
     /// Refused as `Core::run` is. Where there is no room for a receipt, that is answered before the other refusals.
-    pub fn procedure<R: Wait>(
+    pub fn procedure<W: Wait>(
         &self,
-        rt: &R,
-        pass: &mut Pass<U::Value, C, P>,
+        rt: &W,
+        pass: &mut Pass<U::Value, C, P, F, Q>,
         op: u16,
         value: U::Value,
     ) -> Result<Result<U::Value, u32>, Refusal>
         requires { pass.old.pending ≡ None }
         ensures reply { IfOk result (λ reply. IsProcedureReply U.meaning op value reply) }
         ensures ran { IfOk result (λ reply. pass.new ≡ running pass.old op value reply) }
-        ensures refused { IfErr result IsProcedureRefusal }
+        ensures refused { IfErr result (IsProcedureRefusal R.is_bounded) }
         ensures unchanged { OnErr result (pass.new ≡ pass.old) }
     {
         let mut hold = self.change(rt);
@@ -165,9 +185,9 @@ impl<U: Unit, C: CallLedger, P: Ledger> Object<U, C, P> {
     /// What a protected function replies (9.5.1). Functions are read side by side. No memory is taken.
     ///
     /// Refused as `Core::read` is.
-    pub fn function<R: Wait>(
+    pub fn function<W: Wait>(
         &self,
-        rt: &R,
+        rt: &W,
         op: u16,
         value: U::Value,
     ) -> Result<Result<U::Value, u32>, Refusal>
@@ -180,10 +200,10 @@ impl<U: Unit, C: CallLedger, P: Ledger> Object<U, C, P> {
     /// Raises the clock to t, if it is lower, and answers the clock.
     ///
     /// Refused as `Core::tick` is.
-    pub fn tick<R: Wait>(&self, rt: &R, t: u64) -> Result<u64, Refusal>
+    pub fn tick<W: Wait>(&self, rt: &W, t: u64) -> Result<u64, Refusal>
         ensures raised { IfOk result (λ clock. t ≤ clock) }
         ensures reply { IfOk result (λ clock. IsTickReply U.meaning t clock) }
-        ensures refused { IfErr result IsTickRefusal }
+        ensures refused { IfErr result (IsTickRefusal R.is_bounded) }
     {
         let mut hold = self.change(rt);
         let clock = hold.tick(t)?;
@@ -196,7 +216,7 @@ impl<U: Unit, C: CallLedger, P: Ledger> Object<U, C, P> {
     /// Finalizes the object: Program_Error is raised at each queued call (9.4). No memory is taken.
     ///
     /// Refused as `Core::finalize` is.
-    pub fn finalize<R: Wait>(&self, rt: &R) -> Result<(), Refusal>
+    pub fn finalize<W: Wait>(&self, rt: &W) -> Result<(), Refusal>
         ensures reply { OnOk result (IsFinalReply U.meaning) }
         ensures refused { IfErr result (λ r. r ≡ Refusal.Finalized) }
     {
@@ -211,7 +231,7 @@ impl<U: Unit, C: CallLedger, P: Ledger> Object<U, C, P> {
     /// Attempts to cancel the seat's earliest queued call (9.5.3, 9.5.4). No memory is taken.
     ///
     /// Refused 10, where no call of the seat is queued.
-    pub fn abort_seat<R: Wait>(&self, rt: &R, seat: u16) -> Result<Aborted, Refusal>
+    pub fn abort_seat<W: Wait>(&self, rt: &W, seat: u16) -> Result<Aborted, Refusal>
         ensures reply { IfOk result (λ aborted. IsAbortReply U.meaning seat aborted) }
         ensures refused { IfErr result (λ r. r ≡ Refusal.NoCall) }
     {
@@ -246,7 +266,7 @@ impl<U: Unit, C: CallLedger, P: Ledger> Object<U, C, P> {
     }
 
     /// Takes the lock for a change. It is tried for several times before it is waited for, since sleeping is dear.
-    fn change<R: Wait>(&self, rt: &R) -> RwLockWriteGuard<'_, Hold<U, C, P>> {
+    fn change<W: Wait>(&self, rt: &W) -> RwLockWriteGuard<'_, Hold<U, C, P, F, R, Q>> {
         let backoff = Backoff::new();
         for _ in 0..TRIES {
             if let Some(hold) = self.hold.try_write() {
@@ -258,15 +278,15 @@ impl<U: Unit, C: CallLedger, P: Ledger> Object<U, C, P> {
     }
 
     /// Takes the lock for a look.
-    fn look<R: Wait>(&self, rt: &R) -> RwLockReadGuard<'_, Hold<U, C, P>> {
+    fn look<W: Wait>(&self, rt: &W) -> RwLockReadGuard<'_, Hold<U, C, P, F, R, Q>> {
         self.hold.read(rt)
     }
 
     /// Issues a call, and waits for its end.
-    fn ask<R: Wait>(
+    fn ask<W: Wait>(
         &self,
-        rt: &R,
-        pass: &mut Pass<U::Value, C, P>,
+        rt: &W,
+        pass: &mut Pass<U::Value, C, P, F, Q>,
         entry: EntryRef,
         value: U::Value,
         deadline: Deadline,
@@ -274,7 +294,7 @@ impl<U: Unit, C: CallLedger, P: Ledger> Object<U, C, P> {
         requires { pass.old.pending ≡ None }
         ensures called { IfOk result (λ end. IsCalled pass.old (entry_of C.shape entry) value deadline end pass.new) }
         ensures allowed { OnOk result (entry_refusal C.shape entry None ≡ None) }
-        ensures refused { IfErr result (IsCallRefusal C.shape entry) }
+        ensures refused { IfErr result (IsCallRefusal R.is_bounded C.shape entry) }
         ensures unchanged { OnErr result (pass.new ≡ pass.old) }
     {
         let mut hold = self.change(rt);
@@ -292,7 +312,7 @@ impl<U: Unit, C: CallLedger, P: Ledger> Object<U, C, P> {
     }
 
     /// Waits for the end of the pending call. Nothing is locked in the meantime.
-    fn wait<R: Wait>(&self, rt: &R, pass: &mut Pass<U::Value, C, P>) -> End<U::Value>
+    fn wait<W: Wait>(&self, rt: &W, pass: &mut Pass<U::Value, C, P, F, Q>) -> End<U::Value>
         requires { IsSome pass.old.pending }
         ensures { IsFinished pass.old result pass.new }
     {
@@ -312,7 +332,7 @@ impl<U: Unit, C: CallLedger, P: Ledger> Object<U, C, P> {
     }
 
     /// Whether the pending call has ended.
-    fn has_ended<R: Wait>(&self, rt: &R, pass: &Pass<U::Value, C, P>) -> bool {
+    fn has_ended<W: Wait>(&self, rt: &W, pass: &Pass<U::Value, C, P, F, Q>) -> bool {
         match pass.asked() {
             Some(asked) => matches!(self.look(rt).core().end_of(asked.ticket), Place::Ended(_)),
             None => false,
@@ -335,7 +355,7 @@ impl<U: Unit, C: CallLedger, P: Ledger> Object<U, C, P> {
     }
 
     /// Tells the waiting places of the calls that this hold ended, but for the caller's own, and answers who sleeps there.
-    fn tell(&self, hold: &Hold<U, C, P>, own: Option<u16>) -> Sleepers {
+    fn tell(&self, hold: &Hold<U, C, P, F, R, Q>, own: Option<u16>) -> Sleepers {
         let mut sleepers = Sleepers::new();
         for ended in hold.core().ended_now() {
             if Some(ended.owner) != own {

@@ -1,111 +1,182 @@
 //! How an object is opened.
 
-ghost use Rattle.std.specs.Prelude.{◌≡◌, ◌+◌, ◌≤◌, [], IfOk, IfErr, OnOk, vec_len, vec_capacity};
+ghost use Rattle.std.specs.Prelude.{◌≡◌, ◌≢◌, ◌+◌, ◌≤◌, [], true, false, IfOk, IfErr, IfSome, OnOk, MatchResult, is_some, option_map, vec_len, vec_capacity};
 ghost use Rattle.po_actions.specs.View.{next_place};
 ghost use Rattle.po_object.specs.Seats.{AreFresh};
-ghost use Rattle.po_object.specs.Faults.{HandsBack};
+ghost use Rattle.po_object.specs.Faults.{HandsBack, IsWhy};
 ghost use Rattle.po_object.specs.LatestCalls.{NoneIssued};
+ghost use Rattle.po_object.specs.Reservations.{reserved};
 
-use crate::fault::OpenFault;
+use crate::fault::{BoundedOpenFault, OpenFault};
 use crate::hold::{Hold, Pass};
 use crate::latest::LatestCalls;
 use crate::ledgers::{CallLedger, Division};
 use crate::object::Object;
+use crate::reservation::{Reservations, Unreserved};
 use crate::seat::Seat;
 use crossbeam_utils::sync::Parker;
-use po_actions::Core;
-use po_receipts::Spent;
+use po_core::{Core, Record};
+use po_receipts::{Receipts, Spent};
 use po_unit::Unit;
 use std::alloc::{AllocError, Global};
 use std::marker::PhantomData;
 use std::sync::RwLock;
 use std::sync::ledger::{Blank, Ledger, Share};
 
-impl<U: Unit, C: CallLedger, P: Ledger> Object<U, C, P> {
+impl<U: Unit, C: CallLedger, P: Ledger, F: Ledger, R: Record<U>, Q: Receipts<U::Value>>
+    Object<U, C, P, F, R, Q>
+{
     /// Opens an object over a core that has no event, with so many seats, and hands out a pass for each.
     ///
     /// A fault hands the core and the blanks back: 1 where the core has, or had before a cut, an event, and 2.
     pub fn open(
         alloc: Global,
-        core: Core<U>,
+        core: Core<U, R>,
         seats: u16,
         calls: Blank,
         procedures: Blank,
-    ) -> Result<(Object<U, C, P>, Vec<Pass<U::Value, C, P>>), OpenFault<U>>
+    ) -> Result<(Object<U, C, P, F, R, Q>, Vec<Pass<U::Value, C, P, F, Q>>), OpenFault<U, R>>
         // Each ledger has a part for each seat, and one for the object.
         requires calls { (calls.name ≡ C.name) × (calls.parts ≡ C.parts) × (calls.parts ≡ seats + 1) }
         requires procedures { (procedures.name ≡ P.name) × (procedures.parts ≡ P.parts) × (procedures.parts ≡ seats + 1) }
         requires shape { core.object.making.shape ≡ C.shape }
+        // Memory is taken for each call.
+        requires unbounded { (Q.is_bounded ≡ false) × (R.is_bounded ≡ false) }
         ensures seats { IfOk result (λ r. r.0 ≡ seats) }
         ensures fresh { IfOk result (λ r. AreFresh seats r.1.items) }
         ensures core { OnOk result (next_place core.object ≡ core.object.making.first_place) }
         ensures fault { IfErr result (λ fault. HandsBack core calls procedures fault) }
     {
-        core.headline();
-        if core.place() != u128::from(core.first_place()) {
-            return Err(OpenFault::NotFresh(core, calls, procedures));
+        match Places::make(alloc, &core, seats) {
+            Ok(places) => {
+                let free = Reservations::without();
+                Ok(open_over(alloc, core, seats, calls, procedures, free, places))
+            }
+            Err(why) => Err(why.with(core, calls, procedures)),
         }
-        let Ok(places) = make_places(alloc, seats) else {
-            return Err(OpenFault::OutOfMemory(core, calls, procedures));
-        };
-        let Places {
-            parkers,
-            places,
-            room,
-            counts,
-            passes,
-            latest,
-        } = places;
-        let (calls, mut last_calls) = calls.open::<C>();
-        let (procedures, mut last_procedures) = procedures.open::<P>();
-        let passes = hand_out(
-            alloc,
-            seats,
-            parkers,
-            passes,
-            &mut last_calls,
-            &mut last_procedures,
-        );
-        let hold = Hold::new(core, calls, procedures, last_calls, last_procedures, latest);
-        let object = Object {
-            hold: RwLock::new(hold),
-            seats: places,
-            calls: Division {
-                seats,
-                of: PhantomData,
-            },
-            procedures: Division {
-                seats,
-                of: PhantomData,
-            },
-            room,
-            counts,
-        };
-        Ok((object, passes))
+    }
+
+    /// Opens an object over a core that has no event and takes no memory, with so many seats, and hands out a pass for each.
+    /// No call of the object takes memory later.
+    ///
+    /// A fault hands the core and the blanks back: 1 where the core has an event, and 2.
+    pub fn open_bounded(
+        alloc: Global,
+        core: Core<U, R>,
+        seats: u16,
+        calls: Blank,
+        procedures: Blank,
+        free: Blank,
+    ) -> Result<
+        (Object<U, C, P, F, R, Q>, Vec<Pass<U::Value, C, P, F, Q>>),
+        BoundedOpenFault<U, R>,
+    >
+        // Each ledger has a part for each seat, and one for the object.
+        requires calls { (calls.name ≡ C.name) × (calls.parts ≡ C.parts) × (calls.parts ≡ seats + 1) }
+        requires procedures { (procedures.name ≡ P.name) × (procedures.parts ≡ P.parts) × (procedures.parts ≡ seats + 1) }
+        requires free { (free.name ≡ F.name) × (free.parts ≡ F.parts) × (free.parts ≡ seats + 1) }
+        requires shape { core.object.making.shape ≡ C.shape }
+        // All memory was taken before, and there is some for a call of each seat.
+        requires bounded { (Q.is_bounded ≡ true) × (R.is_bounded ≡ true) }
+        requires room { IfSome core.capacity (λ most. seats ≤ most) }
+        ensures seats { IfOk result (λ r. r.0 ≡ seats) }
+        ensures fresh { IfOk result (λ r. AreFresh seats r.1.items) }
+        ensures core { OnOk result (next_place core.object ≡ core.object.making.first_place) }
+        ensures fault { IfErr result (λ fault. HandsBack core calls procedures fault.fault × (fault.free ≡ free)) }
+    {
+        match Places::make(alloc, &core, seats) {
+            Ok(places) => {
+                let free = Reservations::open(free);
+                Ok(open_over(alloc, core, seats, calls, procedures, free, places))
+            }
+            Err(why) => Err(BoundedOpenFault {
+                fault: why.with(core, calls, procedures),
+                free,
+            }),
+        }
+    }
+}
+
+/// Why no object is opened.
+#[derive(Clone, Copy)]
+enum Unopened {
+    /// The core has, or had before a cut, an event.
+    NotFresh,
+    /// Memory was wanting.
+    OutOfMemory,
+}
+
+impl From<AllocError> for Unopened {
+    fn from(_fault: AllocError) -> Unopened
+        ensures { result ≡ Unopened.OutOfMemory }
+    {
+        Unopened::OutOfMemory
+    }
+}
+
+impl Unopened {
+    /// The fault, which hands all back.
+    fn with<U: Unit, R: Record<U>>(
+        self,
+        core: Core<U, R>,
+        calls: Blank,
+        procedures: Blank,
+    ) -> OpenFault<U, R>
+        requires { IsWhy core self }
+        ensures { HandsBack core calls procedures result }
+    {
+        match self {
+            Unopened::NotFresh => OpenFault::NotFresh(core, calls, procedures),
+            Unopened::OutOfMemory => OpenFault::OutOfMemory(core, calls, procedures),
+        }
     }
 }
 
 /// What an opening takes memory for.
-struct Places<V: Copy, C: Ledger, P: Ledger> {
+struct Places<V: Copy, C: Ledger, P: Ledger, F: Ledger, Q: Receipts<V>> {
     /// The callers' ends of the waiting places, those of the highest seats first.
     parkers: Vec<Parker>,
     /// The object's ends.
     places: Vec<Seat>,
     /// Room for the spent passes.
-    room: Vec<Spent<V>>,
+    room: Vec<Spent<V, Q>>,
     /// Room for how many passes each seat has.
     counts: Vec<usize>,
     /// Room for the passes.
-    passes: Vec<Pass<V, C, P>>,
+    passes: Vec<Pass<V, C, P, F, Q>>,
     /// That no seat has issued a call.
     latest: LatestCalls,
 }
 
+impl<V: Copy, C: Ledger, P: Ledger, F: Ledger, Q: Receipts<V>> Places<V, C, P, F, Q> {
+    /// Takes all memory that an object with so many seats over this core needs, if the core has no event.
+    fn make<U: Unit, R: Record<U>>(
+        alloc: Global,
+        core: &Core<U, R>,
+        seats: u16,
+    ) -> Result<Places<V, C, P, F, Q>, Unopened>
+        ensures fresh { OnOk result (next_place core.now.object ≡ core.now.object.making.first_place) }
+        ensures parkers { IfOk result (λ p. vec_len p.parkers ≡ seats) }
+        ensures places { IfOk result (λ p. vec_len p.places ≡ seats) }
+        ensures room { IfOk result (λ p. (vec_len p.room ≡ seats) × (vec_len p.counts ≡ seats)) }
+        ensures passes { IfOk result (λ p. (p.passes.items ≡ []) × (seats ≤ vec_capacity p.passes)) }
+        ensures latest { IfOk result (λ p. NoneIssued seats p.latest) }
+        ensures fault { IfErr result (λ why. IsWhy core.now why) }
+    {
+        core.headline();
+        if core.place() != u128::from(core.first_place()) {
+            return Err(Unopened::NotFresh);
+        }
+        let places = make_places(alloc, seats)?;
+        Ok(places)
+    }
+}
+
 /// Takes all memory that an object with so many seats needs.
-fn make_places<V: Copy, C: Ledger, P: Ledger>(
+fn make_places<V: Copy, C: Ledger, P: Ledger, F: Ledger, Q: Receipts<V>>(
     alloc: Global,
     seats: u16,
-) -> Result<Places<V, C, P>, AllocError>
+) -> Result<Places<V, C, P, F, Q>, AllocError>
     ensures parkers { IfOk result (λ p. vec_len p.parkers ≡ seats) }
     ensures places { IfOk result (λ p. vec_len p.places ≡ seats) }
     ensures room { IfOk result (λ p. (vec_len p.room ≡ seats) × (vec_len p.counts ≡ seats)) }
@@ -123,7 +194,7 @@ fn make_places<V: Copy, C: Ledger, P: Ledger>(
         let parker = Parker::new(alloc)?;
         places.push(Seat::new(parker.unparker().clone()?))?;
         parkers.push(parker)?;
-        room.push(Spent::new(0, 0, 0, None, Vec::new(alloc)))?;
+        room.push(Spent::new(0, 0, 0, None, Q::none(alloc)))?;
         counts.push(0)?;
     }
     parkers.reverse();
@@ -137,23 +208,115 @@ fn make_places<V: Copy, C: Ledger, P: Ledger>(
     })
 }
 
-/// Makes a pass for each seat, with a part of each ledger.
-fn hand_out<V: Copy, C: Ledger, P: Ledger>(
+/// Opens the object, for which all memory is there.
+fn open_over<U: Unit, C: CallLedger, P: Ledger, F: Ledger, R: Record<U>, Q: Receipts<U::Value>>(
+    alloc: Global,
+    core: Core<U, R>,
+    seats: u16,
+    calls: Blank,
+    procedures: Blank,
+    free: (Reservations<F>, Unreserved<F>),
+    places: Places<U::Value, C, P, F, Q>,
+) -> (Object<U, C, P, F, R, Q>, Vec<Pass<U::Value, C, P, F, Q>>)
+    requires fresh { next_place core.object ≡ core.object.making.first_place }
+    requires calls { (calls.name ≡ C.name) × (calls.parts ≡ C.parts) × (calls.parts ≡ seats + 1) }
+    requires procedures { (procedures.name ≡ P.name) × (procedures.parts ≡ P.parts) × (procedures.parts ≡ seats + 1) }
+    requires shape { core.object.making.shape ≡ C.shape }
+    requires bounded { Q.is_bounded ≡ R.is_bounded }
+    requires free { (free.0 ≡ reserved Q.is_bounded 0) × (free.1 ≡ reserved Q.is_bounded (seats + 1)) }
+    requires capacity { IfSome core.capacity (λ most. seats ≤ most) }
+    requires parkers { vec_len places.parkers ≡ seats }
+    requires places { vec_len places.places ≡ seats }
+    requires room { (vec_len places.room ≡ seats) × (vec_len places.counts ≡ seats) }
+    requires passes { (places.passes.items ≡ []) × (seats ≤ vec_capacity places.passes) }
+    requires latest { NoneIssued seats places.latest }
+    ensures seats { result.0 ≡ seats }
+    ensures fresh { AreFresh seats result.1.items }
+{
+    let Places {
+        parkers,
+        places,
+        room,
+        counts,
+        passes,
+        latest,
+    } = places;
+    let (calls, mut last_calls) = calls.open::<C>();
+    let (procedures, mut last_procedures) = procedures.open::<P>();
+    let (mut reservations, mut unreserved) = free;
+    let passes = hand_out(
+        alloc,
+        seats,
+        parkers,
+        passes,
+        &mut last_calls,
+        &mut last_procedures,
+        &mut reservations,
+        &mut unreserved,
+    );
+    let hold = Hold::new(
+        core,
+        calls,
+        procedures,
+        reservations,
+        last_calls,
+        last_procedures,
+        latest,
+    );
+    (object_over(hold, seats, places, room, counts), passes)
+}
+
+/// An object with this value behind its lock, these waiting places, and the room that its closing needs.
+fn object_over<U: Unit, C: CallLedger, P: Ledger, F: Ledger, R: Record<U>, Q: Receipts<U::Value>>(
+    hold: Hold<U, C, P, F, R, Q>,
+    seats: u16,
+    places: Vec<Seat>,
+    room: Vec<Spent<U::Value, Q>>,
+    counts: Vec<usize>,
+) -> Object<U, C, P, F, R, Q>
+    requires calls { C.parts ≡ seats + 1 }
+    requires procedures { P.parts ≡ seats + 1 }
+    requires places { vec_len places ≡ seats }
+    requires room { (vec_len room ≡ seats) × (vec_len counts ≡ seats) }
+    ensures { result ≡ seats }
+{
+    Object {
+        hold: RwLock::new(hold),
+        seats: places,
+        calls: Division {
+            seats,
+            of: PhantomData,
+        },
+        procedures: Division {
+            seats,
+            of: PhantomData,
+        },
+        room,
+        counts,
+    }
+}
+
+/// Makes a pass for each seat, with a part of each ledger. Each is free.
+fn hand_out<V: Copy, C: Ledger, P: Ledger, F: Ledger, Q: Receipts<V>>(
     alloc: Global,
     seats: u16,
     parkers: Vec<Parker>,
-    room: Vec<Pass<V, C, P>>,
+    room: Vec<Pass<V, C, P, F, Q>>,
     last_calls: &mut Share<C>,
     last_procedures: &mut Share<P>,
-) -> Vec<Pass<V, C, P>>
+    reservations: &mut Reservations<F>,
+    unreserved: &mut Unreserved<F>,
+) -> Vec<Pass<V, C, P, F, Q>>
     requires parkers { vec_len parkers ≡ seats }
     requires room { (room.items ≡ []) × (seats ≤ vec_capacity room) }
     requires parts { (last_calls.old.parts ≡ seats + 1) × (last_procedures.old.parts ≡ seats + 1) }
     requires amounts { (last_calls.old.amount ≡ 0) × (last_procedures.old.amount ≡ 0) }
+    requires free { (reservations.old ≡ reserved Q.is_bounded 0) × (unreserved.old ≡ reserved Q.is_bounded (seats + 1)) }
     requires seats { C.parts ≡ seats + 1 }
     ensures passes { AreFresh seats result.items }
     ensures parts { (last_calls.new.parts ≡ 1) × (last_procedures.new.parts ≡ 1) }
     ensures amounts { (last_calls.new.amount ≡ 0) × (last_procedures.new.amount ≡ 0) }
+    ensures free { reservations.new ≡ reserved Q.is_bounded seats }
 {
     let mut parkers = parkers;
     let mut passes = room;
@@ -163,7 +326,8 @@ fn hand_out<V: Copy, C: Ledger, P: Ledger>(
         };
         let made = last_calls.split_off(1, 0);
         let ran = last_procedures.split_off(1, 0);
-        passes.push_reserved(Pass::new(seat, made, ran, place, alloc));
+        let own = reservations.reserve(unreserved);
+        passes.push_reserved(Pass::new(seat, made, ran, own, place, alloc));
     }
     passes
 }

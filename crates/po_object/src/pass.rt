@@ -2,30 +2,44 @@
 
 ghost use Rattle.std.specs.Prelude.{◌≡◌, ◌<◌, ◌≤◌, ◌+◌, ◌↔◌, true, IsSome};
 ghost use Rattle.po_receipts.specs.Passes.{PassView, IsTallied, fresh};
+ghost use Rattle.po_object.specs.Reservations.{reserved};
 
+use crate::reservation::Reservation;
 use crossbeam_utils::sync::Parker;
-use po_receipts::{Asked, Receipt, Spent};
+use po_receipts::{Asked, Receipt, Receipts, Spent};
+use po_trace::Trace;
 use std::alloc::Global;
 use std::marker::Model;
 use std::sync::Wait;
 use std::sync::ledger::{Ledger, Share};
 
-/// The right to call an object from one seat: `Object::open` hands out one for each. It files a receipt of each call and
-/// each procedure that was accepted, and can't be copied.
+/// The right to call an object from one seat: the opening of the object hands out one for each. It files a receipt of each
+/// call and each procedure that was accepted, in memory or for proofs alone, and can't be copied.
 #[derive(Drop)]
-pub struct Pass<V: Copy, C: Ledger, P: Ledger> {
+pub struct Pass<
+    V: Copy,
+    C: Ledger,
+    P: Ledger,
+    F: Ledger = C,
+    Q: Receipts<V> = Vec<Receipt<V>>,
+> {
     pub(crate) seat: u16,
     pub(crate) calls: u64,
     pub(crate) procedures: u64,
     pub(crate) made: Share<C>,
     pub(crate) ran: Share<P>,
+    pub(crate) reservation: Reservation<F>,
     pub(crate) pending: Option<Asked<V>>,
-    pub(crate) receipts: Vec<Receipt<V>>,
+    pub(crate) receipts: Q,
     pub(crate) place: Parker,
 }
 
-impl<V: Copy, C: Ledger, P: Ledger> Model for Pass<V, C, P> {
-    ghost use Rattle.std.specs.Prelude.{◌≡◌, ◌<◌, ◌+◌, IsSome, vec_len, vec_capacity};
+/// A pass whose receipts are known to proofs alone.
+pub type BoundedPass<V, C, P, F> = Pass<V, C, P, F, Trace<Receipt<V>>>;
+
+impl<V: Copy, C: Ledger, P: Ledger, F: Ledger, Q: Receipts<V>> Model for Pass<V, C, P, F, Q> {
+    ghost use Rattle.std.specs.Prelude.{◌≡◌, ◌<◌, ◌+◌, IsSome};
+    ghost use Rattle.po_object.specs.Reservations.{reserved_for};
     ghost use Rattle.po_receipts.specs.Passes.{PassView, IsTallied};
 
     ghost Value = { PassView V };
@@ -35,7 +49,7 @@ impl<V: Copy, C: Ledger, P: Ledger> Model for Pass<V, C, P> {
       calls = p.calls;
       procedures = p.procedures;
       pending = p.pending;
-      receipts = p.receipts.items;
+      receipts = Q.items p.receipts;
     } };
 
     ghost invariant = { λ p. record {
@@ -44,25 +58,28 @@ impl<V: Copy, C: Ledger, P: Ledger> Model for Pass<V, C, P> {
         calls = p.calls;
         procedures = p.procedures;
         pending = p.pending;
-        receipts = p.receipts.items;
+        receipts = Q.items p.receipts;
       });
       parts : (p.made.parts ≡ 1) × (p.ran.parts ≡ 1);
       amounts : (p.made.amount ≡ p.calls) × (p.ran.amount ≡ p.procedures);
-      room : IsSome p.pending → vec_len p.receipts < vec_capacity p.receipts;
+      room : IsSome p.pending → Q.HasRoom p.receipts;
+      reservation : p.reservation ≡ reserved_for Q.is_bounded p.pending;
       seat : p.seat + 1 < C.parts;
     } };
 }
 
-impl<V: Copy, C: Ledger, P: Ledger> Pass<V, C, P> {
+impl<V: Copy, C: Ledger, P: Ledger, F: Ledger, Q: Receipts<V>> Pass<V, C, P, F, Q> {
     pub(crate) fn new(
         seat: u16,
         made: Share<C>,
         ran: Share<P>,
+        reservation: Reservation<F>,
         place: Parker,
         alloc: Global,
-    ) -> Pass<V, C, P>
+    ) -> Pass<V, C, P, F, Q>
         requires parts { (made.parts ≡ 1) × (ran.parts ≡ 1) }
         requires amounts { (made.amount ≡ 0) × (ran.amount ≡ 0) }
+        requires reservation { reservation ≡ reserved Q.is_bounded 1 }
         // The ledger has a part for each seat, and one more.
         requires seat { seat + 1 < C.parts }
         ensures { result ≡ fresh seat }
@@ -73,8 +90,9 @@ impl<V: Copy, C: Ledger, P: Ledger> Pass<V, C, P> {
             procedures: 0,
             made,
             ran,
+            reservation,
             pending: None,
-            receipts: Vec::new(alloc),
+            receipts: Q::none(alloc),
             place,
         }
     }
@@ -100,13 +118,6 @@ impl<V: Copy, C: Ledger, P: Ledger> Pass<V, C, P> {
         self.procedures
     }
 
-    /// The receipts, in the order in which they were filed.
-    pub fn receipts(&self) -> &[Receipt<V>]
-        ensures { result.now ≡ self.now.receipts }
-    {
-        self.receipts.as_slice()
-    }
-
     /// Whether a call was accepted that has no receipt yet. None is pending between two calls of an `Object`.
     pub fn pending(&self) -> bool
         ensures { (result ≡ true) ↔ IsSome self.now.pending }
@@ -129,7 +140,7 @@ impl<V: Copy, C: Ledger, P: Ledger> Pass<V, C, P> {
     }
 
     /// Puts the pass's parts of the ledgers to these, and keeps the rest.
-    pub(crate) fn spend(self, made: &mut Share<C>, ran: &mut Share<P>) -> Spent<V>
+    pub(crate) fn spend(self, made: &mut Share<C>, ran: &mut Share<P>) -> Spent<V, Q>
         ensures same { result ≡ self }
         ensures calls { (made.new.parts ≡ made.old.parts + 1) × (made.new.amount ≡ made.old.amount + self.calls) }
         ensures procedures { (ran.new.parts ≡ ran.old.parts + 1) × (ran.new.amount ≡ ran.old.amount + self.procedures) }
@@ -141,6 +152,7 @@ impl<V: Copy, C: Ledger, P: Ledger> Pass<V, C, P> {
             procedures,
             made: own_made,
             ran: own_ran,
+            reservation: _reservation,
             pending,
             receipts,
             place: _place,
@@ -151,7 +163,16 @@ impl<V: Copy, C: Ledger, P: Ledger> Pass<V, C, P> {
     }
 
     /// Sleeps until the seat's waiting place is told, or for no reason.
-    pub(crate) fn sleep<R: Wait>(&self, rt: &R) {
+    pub(crate) fn sleep<W: Wait>(&self, rt: &W) {
         self.place.park(rt);
+    }
+}
+
+impl<V: Copy, C: Ledger, P: Ledger, F: Ledger> Pass<V, C, P, F, Vec<Receipt<V>>> {
+    /// The receipts, in the order in which they were filed.
+    pub fn receipts(&self) -> &[Receipt<V>]
+        ensures { result.now ≡ self.now.receipts }
+    {
+        self.receipts.as_slice()
     }
 }

@@ -8,7 +8,7 @@ ghost use Rattle.po_receipts.specs.Answers.{AnswersAreOwn, HasNoOthers, NonePend
 ghost use Rattle.po_receipts.specs.declared.fault.ReconcileFault.{ReconcileFault as Fault};
 
 use crate::closing::Closed;
-use po_actions::Volume;
+use po_core::Volume;
 use po_receipts::{Agreed, ReconcileFault, compare};
 use po_unit::Unit;
 

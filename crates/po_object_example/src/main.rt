@@ -8,7 +8,7 @@
 ghost use Rattle.std.specs.Prelude.{◌≡◌, ◌+◌};
 
 use anyhow::{Result, bail};
-use po_actions::{Aborted, Core, End, Order};
+use po_core::{Aborted, Core, End, Order};
 use po_classic_units::{Buffer, ScriptUnit};
 use po_index::EntryRef;
 use po_object::hold::Pass;

@@ -12,7 +12,7 @@ use Rattle.po_receipts.specs.declared.fault.ReconcileFault.TheVariants.{Gap, Mis
 use Rattle.po_receipts.specs.Receipts.{receipts_due}
 use Rattle.po_receipts.specs.Passes.{PassView}
 use Rattle.po_receipts.specs.Agreement.{IsFirstDifference, IsMismatch, gap, history_of, IsAgreed, IsFaultOf}
-use Rattle.po_actions.specs.Tickets.{CoreView}
+use Rattle.po_core.specs.Tickets.{CoreView}
 use Rattle.po_receipts.proofs.Rounds.{mismatch_disagrees}
 
 some_none : {X : Type 0} (x : X) → Some x ≡ None → ⊥

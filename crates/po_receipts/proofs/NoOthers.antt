@@ -19,7 +19,7 @@ use Rattle.po_actions.specs.View.{View}
 use Rattle.po_engine.specs.ObjectState.{ObjectState, opening_state}
 use Rattle.po_engine.specs.Step.{replay, IsLegal}
 use Rattle.po_actions.specs.Public.{NamesPublic}
-use Rattle.po_actions.specs.Tickets.{CoreView}
+use Rattle.po_core.specs.Tickets.{CoreView}
 use Rattle.po_actions.specs.Cutting.{AreVolumes, Leads}
 use Rattle.po_actions.specs.Headline.{Headline}
 use Rattle.po_actions.proofs.Runs.{replay-append, legal-append}

@@ -3,7 +3,7 @@ use Rattle.std.specs.Prelude.{ℕ, ◌≡◌, ◌<◌, ◌+◌, List, All, lengt
 use Rattle.po_history.specs.declared.event.Event.{Event}
 use Rattle.po_history.specs.declared.event.Event.TheVariants.{Issue, Ran}
 use Rattle.po_accepted.specs.declared.ended.Ended.{Ended}
-use Rattle.po_actions.specs.Tickets.{CoreView}
+use Rattle.po_core.specs.Tickets.{CoreView}
 use Rattle.po_actions.specs.Cutting.{procedures_run}
 use Rattle.po_receipts.specs.declared.receipt.Receipt.{Receipt}
 use Rattle.po_receipts.specs.Passes.{PassView}

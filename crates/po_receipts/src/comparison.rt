@@ -7,7 +7,7 @@ ghost use Rattle.po_receipts.specs.declared.fault.ReconcileFault.{ReconcileFault
 use crate::fault::ReconcileFault;
 use crate::round::{SEATS, difference_in_round};
 use crate::spent::Spent;
-use po_actions::{Core, Volume};
+use po_core::{Core, Volume};
 use po_unit::Unit;
 
 /// The receipts of all seats are those that the history gives.

@@ -4,7 +4,7 @@ ghost use Rattle.std.specs.Prelude.{◌≡◌, ◌==◌, ◌↔◌, ℕ, MatchOp
 ghost use Rattle.po_receipts.specs.Receipts.{is_asked_by, receipt_of};
 
 use crate::receipt::Receipt;
-use po_actions::{Core, Event};
+use po_core::{Core, Event};
 use po_unit::Unit;
 
 /// The seat that asked for the event, if it is a call or a procedure.

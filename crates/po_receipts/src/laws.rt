@@ -8,8 +8,9 @@ ghost use Rattle.po_receipts.specs.Passes.{IsTallied};
 ghost use Rattle.po_receipts.specs.Agreement.{IsAgreed, history_of};
 ghost use Rattle.po_receipts.specs.Answers.{AnswersAreOwn, HasClosingTotals, HasNoOthers, NonePending};
 
+use crate::receipts::Receipts;
 use crate::spent::Spent;
-use po_actions::{Core, Volume};
+use po_core::{Core, Volume};
 use po_unit::Unit;
 
 /// Where receipts and history agree, every answer that a caller got is the history's answer to that caller's own call,
@@ -49,7 +50,7 @@ pub fn every_answer<U: Unit>(
 }
 
 /// Whether no pass has a call that was accepted and has no receipt yet.
-pub fn none_pending<V: Copy>(passes: &[Spent<V>]) -> bool
+pub fn none_pending<V: Copy, Q: Receipts<V>>(passes: &[Spent<V, Q>]) -> bool
     ensures { (result ≡ true) ↔ NonePending passes.now }
 {
     for pass in passes {

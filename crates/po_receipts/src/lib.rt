@@ -8,6 +8,7 @@ mod fault;
 mod laws;
 mod mark;
 mod receipt;
+mod receipts;
 mod round;
 mod spent;
 
@@ -16,4 +17,5 @@ pub use comparison::{Agreed, compare};
 pub use fault::ReconcileFault;
 pub use laws::{closing_counts, every_answer, none_pending, own_answers};
 pub use receipt::Receipt;
+pub use receipts::Receipts;
 pub use spent::Spent;

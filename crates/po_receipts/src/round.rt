@@ -11,7 +11,7 @@ ghost use Rattle.po_receipts.specs.Marks.{AreMarks};
 use crate::due::{receipt_of, seat_of};
 use crate::mark::{Mark, advanced, first_difference};
 use crate::spent::Spent;
-use po_actions::{Core, Event, Volume};
+use po_core::{Core, Event, Volume};
 use po_unit::Unit;
 
 /// For how many seats a round has room.

@@ -5,19 +5,20 @@ ghost use Rattle.po_receipts.specs.Passes.{PassView, IsTallied};
 
 use crate::asked::Asked;
 use crate::receipt::Receipt;
+use crate::receipts::Receipts;
 use std::marker::Model;
 
 /// A pass with which nobody can call any more. Contracts see it as they saw the pass.
 #[derive(Debug, Drop)]
-pub struct Spent<V: Copy> {
+pub struct Spent<V: Copy, Q: Receipts<V> = Vec<Receipt<V>>> {
     seat: u16,
     calls: u64,
     procedures: u64,
     pending: Option<Asked<V>>,
-    receipts: Vec<Receipt<V>>,
+    receipts: Q,
 }
 
-impl<V: Copy> Model for Spent<V> {
+impl<V: Copy, Q: Receipts<V>> Model for Spent<V, Q> {
     ghost use Rattle.po_receipts.specs.Passes.{PassView, IsTallied};
 
     ghost Value = { PassView V };
@@ -27,7 +28,7 @@ impl<V: Copy> Model for Spent<V> {
       calls = s.calls;
       procedures = s.procedures;
       pending = s.pending;
-      receipts = s.receipts.items;
+      receipts = Q.items s.receipts;
     } };
 
     ghost invariant = { λ s. IsTallied (record {
@@ -35,11 +36,11 @@ impl<V: Copy> Model for Spent<V> {
       calls = s.calls;
       procedures = s.procedures;
       pending = s.pending;
-      receipts = s.receipts.items;
+      receipts = Q.items s.receipts;
     }) };
 }
 
-impl<V: Copy> Spent<V> {
+impl<V: Copy, Q: Receipts<V>> Spent<V, Q> {
     /// The pass of this seat, with so many accepted calls and procedures, the call that has no receipt yet, and the
     /// receipts of all others.
     pub fn new(
@@ -47,10 +48,10 @@ impl<V: Copy> Spent<V> {
         calls: u64,
         procedures: u64,
         pending: Option<Asked<V>>,
-        receipts: Vec<Receipt<V>>,
-    ) -> Spent<V>
-        requires { IsTallied (record { seat = seat; calls = calls; procedures = procedures; pending = pending; receipts = receipts.items }) }
-        ensures { result ≡ record { seat = seat; calls = calls; procedures = procedures; pending = pending; receipts = receipts.items } }
+        receipts: Q,
+    ) -> Spent<V, Q>
+        requires { IsTallied (record { seat = seat; calls = calls; procedures = procedures; pending = pending; receipts = Q.items receipts }) }
+        ensures { result ≡ record { seat = seat; calls = calls; procedures = procedures; pending = pending; receipts = Q.items receipts } }
     {
         Spent {
             seat,
@@ -89,17 +90,19 @@ impl<V: Copy> Spent<V> {
         self.pending
     }
 
-    /// The receipts, in the order in which they were filed.
-    pub fn receipts(&self) -> &[Receipt<V>]
-        ensures { result.now ≡ self.now.receipts }
-    {
-        self.receipts.as_slice()
-    }
-
     /// There are as many receipts of calls as calls, but for one that is pending, and as many of procedures as procedures.
     pub fn recall_invariant(&self)
         ensures { IsTallied self.now }
     {
         let _ = &self.receipts;
+    }
+}
+
+impl<V: Copy> Spent<V, Vec<Receipt<V>>> {
+    /// The receipts, in the order in which they were filed.
+    pub fn receipts(&self) -> &[Receipt<V>]
+        ensures { result.now ≡ self.now.receipts }
+    {
+        self.receipts.as_slice()
     }
 }
