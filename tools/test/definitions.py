@@ -1,5 +1,5 @@
 #!/usr/bin/env python3
-"""Whether docs/DEFINITIONS.md has each definition that a public clause of the core, the machine, the objects, the driven object
+"""Whether docs/DEFINITIONS.md has each definition that a public clause of the core, the objects, the driven object
 and the library for C cites, directly or through others, and no name that isn't there. Prints what is wanting, by file, and at the
 end 'N passed, M failed'. With --list it prints the definitions by file, and those that the page hasn't are marked."""
 
@@ -11,7 +11,7 @@ sys.dont_write_bytecode = True
 import walk
 
 PAGE = walk.TOP / "docs" / "DEFINITIONS.md"
-PRODUCT = ("po_core", "po_actions", "po_machine", "po_object", "po_bounded_object", "po_driven", "po_c")
+PRODUCT = ("po_core", "po_actions", "po_object", "po_bounded_object", "po_driven", "po_c")
 
 
 def files_of(heading):

@@ -8,20 +8,18 @@ use Rattle.std.proofs.lemmas.Bool.Decides.{nat_tests}
 use Rattle.po_unit.specs.Meaning.{Meaning, IsLawful}
 use Rattle.po_index.specs.Numbering.{entry_count}
 use Rattle.po_calls.specs.declared.call.Call.{Call}
-use Rattle.po_history.specs.Histories.{HistoryView, VolumeView, joined}
+use Rattle.po_history.specs.Histories.{VolumeView, joined}
 use Rattle.po_history.proofs.Volumes.{run_on-append, joined-append}
 use Rattle.po_engine.specs.ObjectState.{opening_state}
 use Rattle.po_accepted.specs.WaitingCalls.{has_number}
 use Rattle.po_engine.specs.Step.{replay, IsLegal}
 use Rattle.po_actions.specs.Base.{Base, opening_base, state_with, state_at, arrived, arrived_among, is_ran}
 use Rattle.po_actions.specs.Public.{NamesPublic}
-use Rattle.po_actions.specs.Making.{Making}
 use Rattle.po_engine.specs.Pick.{last_from}
 use Rattle.po_actions.specs.View.{View, Replays, IsInOnePlace, base_state, next_place}
 use Rattle.po_engine.specs.Arrival.{Rises, AreAt}
 use Rattle.po_actions.specs.Arrival.{arrival}
-use Rattle.po_engine.specs.StateView.{StateView}
-use Rattle.po_actions.specs.History.{IsBase, IsHistory, IsKept}
+use Rattle.po_actions.specs.History.{IsBase, IsHistory}
 use Rattle.po_actions.specs.Cutting.{present_base, cut, cut_off, Leads, AreVolumes, KeepsArrivals, procedures_run}
 use Rattle.po_actions.proofs.Counting.{replay-next, counted-apart}
 use Rattle.po_actions.proofs.Runs.{replay-append, legal-append}
@@ -29,7 +27,6 @@ use Rattle.po_actions.proofs.Wells.{well, well_base}
 use Rattle.po_actions.proofs.Orders.{Ordered, ordered_all}
 use Rattle.po_actions.proofs.Falls.{emptied, IsEmptied}
 use Rattle.po_engine.proofs.Absent.{eq_self}
-use Rattle.po_actions.proofs.PlacesKept.{arrivals_are_places}
 
 -- a list of no length is empty
 nothing : {X : Type 0} (xs : List X) → length xs ≡ 0 → xs ≡ []
@@ -70,7 +67,7 @@ module _ {V : Type 0} where
   before_by : (f g : ℕ → ℕ) (k : ℕ) (xs : List (Call V)) → Agree f g xs → All (λ y. f y.number < k) xs → All (λ y. g y.number < k) xs
   before_by f g k xs a h = λ i d lt. rw (a i d lt) (h i d lt)
 
-  at_by : (f g : ℕ → ℕ) (xs : List (Call V)) (places : List ℕ) → Agree f g xs → AreAt f xs places → AreAt g xs places
+  pub at_by : (f g : ℕ → ℕ) (xs : List (Call V)) (places : List ℕ) → Agree f g xs → AreAt f xs places → AreAt g xs places
   at_by f g [] [] a h = tt
   at_by f g [] (k ∷ places) a h = absurd h
   at_by f g (x ∷ xs) [] a h = absurd h
@@ -78,7 +75,7 @@ module _ {V : Type 0} where
       (All-head (λ y. g y.number ≡ f y.number) x xs a ∙ h.0, at_by f g xs places (All-tail (λ y. g y.number ≡ f y.number) x xs a) h.1)
 
 -- bases are equal by their parts
-same_base : {S V : Type 0} (a b : Base S V) → a.unit ≡ b.unit → a.waiting ≡ b.waiting → a.arrivals ≡ b.arrivals → a.ended ≡ b.ended → a.next ≡ b.next → a.clock ≡ b.clock → a.finalized ≡ b.finalized → a.place ≡ b.place → a.ran ≡ b.ran → a.last ≡ b.last → a ≡ b
+pub same_base : {S V : Type 0} (a b : Base S V) → a.unit ≡ b.unit → a.waiting ≡ b.waiting → a.arrivals ≡ b.arrivals → a.ended ≡ b.ended → a.next ≡ b.next → a.clock ≡ b.clock → a.finalized ≡ b.finalized → a.place ≡ b.place → a.ran ≡ b.ran → a.last ≡ b.last → a ≡ b
 same_base {S} {V} a b unit waiting arrivals ended next clock finalized place ran last =
     parts a.unit b.unit a.waiting b.waiting a.arrivals b.arrivals a.ended b.ended a.next b.next a.clock b.clock a.finalized b.finalized a.place b.place a.ran b.ran a.last b.last unit waiting arrivals ended next clock finalized place ran last
   where
@@ -177,50 +174,3 @@ module _ {S V : Type 0} (m : Meaning S V) where
         counted = counted_so_far view h;
         opened = opened_so_far view h;
       }
-
-module _ {S V : Type 0} (m : Meaning S V) (making : Making S) (b : Base S V) (s : StateView S V) (h : HistoryView V) (served : Option ℕ) (procedures before : ℕ) where
-  abbrev pub viewed : View S V
-  viewed = record { making = making; base = b; events = h.events; state = s.state; ended_before = before }
-
-  -- The base has the parts of the present picture.
-  pub record IsPicture (new : Base S V) : Type 0 where
-    pub unit : new.unit ≡ s.state.unit
-    pub waiting : new.waiting ≡ s.state.waiting
-    pub arrivals : new.arrivals ≡ s.places
-    pub ended : new.ended ≡ length s.state.ended
-    pub next : new.next ≡ s.state.next
-    pub clock : new.clock ≡ s.state.clock
-    pub finalized : new.finalized ≡ s.state.finalized
-    pub place : new.place ≡ h.place + length h.events
-    pub ran : new.ran ≡ procedures
-    pub last : new.last ≡ served
-
-  pub is_present : (new : Base S V) → IsKept m making b s h served procedures before → IsPicture new → new ≡ present_base m viewed
-  is_present new k is =
-      let arrivals : new.arrivals ≡ map (λ x. arrival m viewed x.number) s.state.waiting = is.arrivals ∙ sym (arrivals_are_places (arrival m viewed) s.state.waiting s.places k.placed) in
-      same_base new (present_base m viewed) is.unit is.waiting arrivals is.ended is.next is.clock is.finalized (is.place ∙ ap (λ p. p + length h.events) k.place) (is.ran ∙ k.ran) (is.last ∙ k.last)
-
-  -- what an object keeps after a cut
-  pub kept_cut : IsLawful m → (new : Base S V) (rest : HistoryView V) → IsKept m making b s h served procedures before → new ≡ present_base m viewed → rest ≡ record h { place = h.place + length h.events; events = [] } → IsKept m making new s rest served procedures before
-  kept_cut law new rest k is_new is_rest =
-      let base = present_base m viewed in
-      let f = arrival m viewed in
-      let at_cut : IsKept m making base s (record h { place = h.place + length h.events; events = [] }) served procedures before = record {
-        history = record {
-          base = present_is_base m law viewed k.history;
-          legal = tt;
-          leads = present_state m viewed;
-          public = All-nil (NamesPublic making.shape);
-        };
-        counted = k.counted;
-        last = k.last;
-        ran = omega (arith, k.ran);
-        shown = k.shown;
-        placed = at_by f (arrived base) s.state.waiting s.places (keeps_arrivals m viewed) k.placed;
-        outcomes = k.outcomes;
-        numbered = k.numbered;
-        first = k.first;
-        place = ap (λ p. p + length h.events) k.place;
-        idle = k.idle;
-      } in
-      subst (λ p. IsKept m making p s rest served procedures before) (sym is_new) (subst (λ p. IsKept m making base s p served procedures before) (sym is_rest) at_cut)

@@ -6,16 +6,13 @@ pub mod Falls
 pub mod Finds
 pub mod FirstDue
 pub mod Histories
-pub mod Noted
 pub mod Orders
 pub mod Picks
 pub mod PlacesKept
-pub mod Recorded
 pub mod Remaining
 pub mod Runs
 pub mod Settling
 pub mod Soundness
-pub mod TicketLemmas
 pub mod Trails
 pub mod VolumesStay
 pub mod Wells

@@ -5,15 +5,13 @@ use Rattle.std.proofs.lemmas.List.Elements.{All-nil, All-cons, All-head, All-tai
 use Rattle.po_unit.specs.Meaning.{Meaning, IsLawful}
 use Rattle.po_calls.specs.declared.call.Call.{Call}
 use Rattle.po_history.specs.declared.event.Event.{Event}
-use Rattle.po_history.specs.Histories.{HistoryView, next_place}
 use Rattle.po_index.specs.Numbering.{entry_count}
 use Rattle.po_engine.specs.ObjectState.{ObjectState}
 use Rattle.po_engine.specs.Step.{step, replay}
 use Rattle.po_actions.specs.Making.{Making}
 use Rattle.po_actions.specs.Base.{Base, state_at, arrived}
 use Rattle.po_engine.specs.Arrival.{AreAt, noted, call_of, arrivals}
-use Rattle.po_actions.specs.History.{IsHistory, IsKept}
-use Rattle.po_engine.specs.StateView.{StateView}
+use Rattle.po_actions.specs.History.{IsHistory}
 use Rattle.po_actions.proofs.Wells.{well_base}
 use Rattle.po_actions.proofs.Orders.{ordered_all}
 
@@ -77,8 +75,3 @@ module _ {S V : Type 0} (m : Meaning S V) (making : Making S) where
       let limit = making.max_queue in
       subst (λ p. All (λ x. arrived_by b s es x.number < b.place + length es) p.waiting) h.leads
       (ordered_all m law limit (entry_count making.shape) making.first_number (arrived b) b.place (state_at b s.ended) es h.legal (well_base m law making b s.ended h.base) (record { rises = h.base.rises; before = h.base.before })).before
-
-  pub kept_later : (law : IsLawful m) (b : Base S V) (s : StateView S V) (h : HistoryView V) (last : Option ℕ) (ran before : ℕ) → IsKept m making b s h last ran before → All (λ k. k < next_place h) s.places
-  kept_later law b s h last ran before kept =
-      subst (λ i. All (λ k. k < i + length h.events) s.places) (sym kept.place)
-      (places_all (λ k. k < b.place + length h.events) (arrived_by b s.state h.events) s.state.waiting s.places kept.placed (arrived_earlier law b s.state h.events kept.history))

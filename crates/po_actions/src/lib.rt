@@ -1,22 +1,12 @@
-//! Protected actions: calls and their history, and the core that carries out the operations of one protected object.
+//! Protected actions: what an object is made with, and the definitions and lemmas of its history and of what its commands do.
 #![tactic(auto)]
 
-mod base;
+mod aborted;
 mod fault;
 mod making;
-mod noting;
-mod object_core;
-mod recorded_object;
-mod refusal;
 mod start;
 
-pub use base::Base;
+pub use aborted::Aborted;
 pub use fault::MakeFault;
 pub use making::Making;
-pub use object_core::Core;
-pub use po_accepted::{Arrival, Ended};
-pub use po_barriers::Order;
-pub use po_calls::{Call, Deadline, End, Place, Ticket};
-pub use po_history::{Event, Volume};
-pub use refusal::{Aborted, Refusal};
 pub use start::Start;

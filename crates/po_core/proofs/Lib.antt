@@ -1,4 +1,6 @@
 pub mod Cuts
+pub mod Keys
+pub mod Noted
 pub mod Recordings
 pub mod Refusing
 pub mod TicketLemmas

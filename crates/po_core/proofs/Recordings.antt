@@ -1,5 +1,5 @@
 -- What a record in memory keeps goes on by an event that follows.
-use Rattle.std.proofs.Common.{◌≡◌, ◌∙◌, sym, ap, subst, ℕ, ◌<◌, ◌≤◌, ◌+◌, ◌-◌, List, [], ◌∷◌, ◌++◌, Bool, true, false, Option, None, Some, refl, arith, length, length-append, get_or, cond, nat_lt, nat_le, ◌&&◌, if◌then◌else◌, Vec, vec_len, vec_capacity, option_map}
+use Rattle.std.proofs.Common.{◌≡◌, ◌∙◌, sym, ap, subst, ℕ, ◌<◌, ◌≤◌, ◌+◌, ◌-◌, List, [], ◌∷◌, ◌++◌, Bool, true, false, Option, None, Some, refl, arith, length, length-append, take, get_or, cond, nat_lt, nat_le, ◌&&◌, if◌then◌else◌, Vec, vec_len, vec_capacity, option_map}
 use Rattle.std.specs.List.{All, count_by, find}
 use Rattle.po_calls.specs.declared.end.End.{End}
 use Rattle.std.proofs.Math.Seq.{take-length}
@@ -18,18 +18,52 @@ use Rattle.po_actions.specs.Making.{Making}
 use Rattle.po_actions.specs.Base.{Base, is_ran}
 use Rattle.po_engine.specs.Pick.{owed}
 use Rattle.po_actions.specs.View.{IsInOnePlace}
-use Rattle.po_actions.specs.Outcomes.{AreOutcomes}
+use Rattle.po_core.specs.Outcomes.{AreOutcomes, IsCallOf}
 use Rattle.po_engine.specs.StateView.{StateView}
 use Rattle.po_actions.proofs.Ends.{ended_on, ends_stay}
-use Rattle.po_actions.proofs.Histories.{MayNote, history_goes_on}
-use Rattle.po_actions.proofs.Noted.{counted_at, outcomes_reserved}
+use Rattle.po_actions.proofs.Histories.{history_goes_on}
+use Rattle.po_core.proofs.Noted.{counted_at, outcomes_reserved}
 use Rattle.po_actions.proofs.Picks.{bit_le}
 use Rattle.po_engine.proofs.Absent.{eq_self}
-use Rattle.po_actions.proofs.Recorded.{IsNotable, notable}
 use Rattle.po_engine.proofs.Sums.{sum_by-push}
 use Rattle.po_actions.proofs.Wells.{well}
 use Rattle.po_core.specs.Recording.{IsRecording}
 use Rattle.po_core.specs.Noting.{Follows, Known, known_of, calls_of, keys_on}
+
+-- The history may take the calls that the event ended which led from p to r: it has room for the outcome of each, and each
+-- ends but once.
+pub record IsOpenFor {S V : Type 0} (p r : ObjectState S V) (h : HistoryView V) : Type 0 where
+  pub before : length p.ended ≤ length r.ended
+  pub shown : p.ended ≡ take (length p.ended) r.ended
+  pub once : (n : ℕ) → count_by (has_ended n) r.ended ≤ 1
+  pub calls : All (λ x. IsCallOf h x.number) r.ended
+  pub outcomes : AreOutcomes h p.ended
+
+module _ {S V B : Type 0} where
+  -- What noting needs to know of the recorded ends, where so many are noted that the command brought.
+  pub record IsNotable (r : StateView S V) (h : HistoryView V) (ended : Vec (Ended V) B) (noted : ℕ) : Type 0 where
+    pub hand : r.hand ≡ None
+    pub noted_so_far : r.before + noted ≡ vec_len ended
+    pub shown : ended.items ≡ take (vec_len ended) r.state.ended
+    pub for_all : length r.keys ≤ vec_capacity ended
+    pub before : vec_len ended ≤ length r.state.ended
+    pub once : (n : ℕ) → count_by (has_ended n) r.state.ended ≤ 1
+    pub calls : All (λ x. IsCallOf h x.number) r.state.ended
+    pub outcomes : AreOutcomes h ended.items
+
+  notable : (p r : StateView S V) (h : HistoryView V) (ended : Vec (Ended V) B) (noted : ℕ) → ended.items ≡ p.state.ended
+      → r.hand ≡ None → length r.keys ≤ vec_capacity ended → r.before + noted ≡ length p.state.ended → IsOpenFor p.state r.state h → IsNotable r h ended noted
+  notable p r h ended noted is hand for_all so_far may =
+      let len : vec_len ended ≡ length p.state.ended = omega (arith, ended.ok.0, ap (λ (l : List (Ended V)). length l) is) in record {
+        hand = hand;
+        noted_so_far = omega (arith, so_far, len);
+        shown = is ∙ may.shown ∙ ap (λ n. take n r.state.ended) (sym len);
+        for_all = for_all;
+        before = omega (arith, len, may.before);
+        once = may.once;
+        calls = may.calls;
+        outcomes = subst (AreOutcomes h) (sym is) may.outcomes;
+      }
 
 keys_len : (keys : List ℕ) (ticket : Option Ticket) → length (keys_on keys ticket) ≡ length keys + calls_of ticket
 keys_len keys None = omega arith
@@ -46,7 +80,7 @@ module _ {S V : Type 0} (m : Meaning S V) (making : Making S) where
       in_range making.first_number r.next x.number (count_by (has_number x.number) r.waiting + count_by (has_ended x.number) r.ended) (omega (arith, some)) (placed x.number)
 
   may_be_noted : IsLawful m → (b : Base S V) (es : List (Event V)) (p r : StateView S V) (e : Event V) (noted : ℕ) (ticket : Option Ticket) (h : HistoryView V) → Follows m making b es p r e noted ticket
-      → h.first_number ≡ making.first_number → AreOutcomes h p.state.ended → making.first_number + length h.outcomes ≡ p.state.next + calls_of ticket → MayNote m making p.state r.state h
+      → h.first_number ≡ making.first_number → AreOutcomes h p.state.ended → making.first_number + length h.outcomes ≡ p.state.next + calls_of ticket → IsOpenFor p.state r.state h
   may_be_noted law b es p r e noted ticket h f from ends numbered =
       let w = well m law making b r.state (es ++ e ∷ []) (history_goes_on m making b p.state r.state es e f.history f.need f.named f.is) in
       let range = ended_range r.state w.placed in record {
@@ -61,7 +95,7 @@ module _ {S V : Type 0} (m : Meaning S V) (making : Making S) where
   pub recording_notable : {A B : Type 0} → IsLawful m → (b : Base S V) (p r : StateView S V) (e : Event V) (noted room : ℕ) (ticket : Option Ticket) (h : HistoryView V) (keys : Vec ℕ A) (ends : Vec (Ended V) B) (ran : ℕ)
       → IsRecording making (known_of p) room (calls_of ticket) b h keys ends ran → {es : List (Event V)} → Follows m making b es p r e noted ticket → IsNotable r h ends noted
   recording_notable law b p r e noted room ticket h keys ends ran k {es} f =
-      notable m making p r h ends noted k.ended f.hand
+      notable p r h ends noted k.ended f.hand
       (omega (arith, ap (λ (l : List ℕ). length l) f.keys, keys_len p.keys ticket, ap (λ (l : List ℕ). length l) k.keys, keys.ok.0, k.for_ends)) f.so_far
       (may_be_noted law b es p r e noted ticket h f k.first_number k.outcomes k.numbered)
 

@@ -1,11 +1,12 @@
--- Tickets are of issued calls, also after a command.
-use Rattle.std.proofs.Common.{◌≡◌, ℕ, ◌<◌, ◌≤◌, List, Option, Some, None, refl, sym, ap, subst, arith, inl, inr, ◌∙◌, OnSome, IfNone}
+-- Tickets are of issued calls, at first and after each command.
+use Rattle.std.proofs.Common.{◌≡◌, ℕ, ◌<◌, ◌≤◌, List, [], Option, Some, None, refl, sym, ap, subst, arith, inl, inr, ◌∙◌, OnSome, IfNone}
 use Rattle.std.proofs.lemmas.Bool.{cases_eq}
 use Rattle.po_unit.specs.Meaning.{Meaning, IsLawful}
 use Rattle.po_calls.specs.declared.call.Deadline.{Deadline}
 use Rattle.po_history.specs.declared.event.Event.{Event}
 use Rattle.po_history.specs.declared.event.Event.TheVariants.{Issue}
-use Rattle.po_actions.specs.View.{View}
+use Rattle.po_actions.specs.Making.{Making}
+use Rattle.po_actions.specs.View.{View, opening_view}
 use Rattle.po_actions.specs.Progress.{Begins, Settles, IsSameCommand}
 use Rattle.po_core.specs.Tickets.{CoreView, AreIssued}
 use Rattle.po_accepted.specs.Tickets.{number_at, SetsTicket}
@@ -41,6 +42,13 @@ module _ {S V : Type 0} (m : Meaning S V) (law : IsLawful m) where
   -- the number of a new call
   pub issued_new : (s t u : View S V) (n owner e : ℕ) (v : V) (d : Deadline) → Begins m s t (Issue n owner e v d) → Settles m t u → s.state.next < u.state.next
   issued_new s t u n owner e v d b h = omega (arith, next_settled t u h, ap (λ p. p.next) b.happens.state, next-issue m law s.making.max_queue 0 s.state n owner e v d)
+
+-- an object that was just made has no ticket
+pub issued_opening : {S : Type 0} (V : Type 0) (making : Making S) (capacity : Option ℕ) → AreIssued {V = V} (record { object = opening_view making; tickets = []; capacity = capacity })
+issued_opening V making capacity = λ key n is. absurd (none key n is)
+  where
+    none : (key n : ℕ) → number_at [] key ≡ Some n → ⊥
+    none key n e = cc
 
 -- with one more ticket
 pub issued_with : {S V : Type 0} (u : View S V) (old new : List (Option ℕ)) (key n : ℕ) → u.making.first_number ≤ n → n < u.state.next → SetsTicket old new key (Some n) → AreIssued (record { object = u; tickets = old; capacity = None }) → AreIssued (record { object = u; tickets = new; capacity = None })

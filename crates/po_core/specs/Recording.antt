@@ -4,7 +4,7 @@ use Rattle.po_history.specs.Histories.{HistoryView}
 use Rattle.po_accepted.specs.declared.ended.Ended.{Ended}
 use Rattle.po_actions.specs.Making.{Making}
 use Rattle.po_actions.specs.Base.{Base, is_ran}
-use Rattle.po_actions.specs.Outcomes.{AreOutcomes}
+use Rattle.po_core.specs.Outcomes.{AreOutcomes}
 use Rattle.po_core.specs.Noting.{Known}
 
 -- The history has room for so many events, and there is room for so many calls; outcomes, keys and ends are those that the

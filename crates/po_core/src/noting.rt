@@ -3,7 +3,7 @@
 ghost use Rattle.std.specs.Prelude.{◌≡◌, ◌<◌, ◌≤◌, ◌+◌, ◌-◌, ◌∷◌, ◌++◌, ℕ, [], None, All, count_by, length, take, vec_len, vec_capacity};
 ghost use Rattle.po_accepted.specs.Ending.{has_ended};
 ghost use Rattle.po_engine.specs.Pick.{owed};
-ghost use Rattle.po_actions.specs.Outcomes.{AreOutcomes, IsCallOf};
+ghost use Rattle.po_core.specs.Outcomes.{AreOutcomes, IsCallOf};
 
 use po_accepted::Ended;
 use po_engine::State;

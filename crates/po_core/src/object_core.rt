@@ -7,8 +7,7 @@ ghost use Rattle.po_accepted.specs.WaitingCalls.{has_number, is_of};
 ghost use Rattle.po_engine.specs.ObjectState.{counts_in};
 ghost use Rattle.po_actions.specs.View.{ended_now, next_place};
 ghost use Rattle.po_actions.specs.ProtectedAction.{IsProtectedAction, IsAbortOf, after_action, after_abort, abort_answer};
-ghost use Rattle.po_actions.specs.Refusals.{entry_of};
-ghost use Rattle.po_actions.specs.Commands.{issue_of, reply_of};
+ghost use Rattle.po_actions.specs.Commands.{entry_of, issue_of, reply_of};
 ghost use Rattle.po_actions.specs.Headline.{Headline};
 ghost use Rattle.po_actions.specs.Cutting.{KeepsVolumes, AreVolumes};
 ghost use Rattle.po_core.specs.Tickets.{place_of_ticket, end_of_ticket, AreIssued};
@@ -297,7 +296,7 @@ impl<U: Unit, R: Record<U>> Core<U, R> {
             option_map (λ x. x.number) (find (is_of owner) self.now.object.state.waiting) }
         ensures live { IfSome result (λ t. is_live self.now.tickets t ≡ true) }
     {
-        self.tracked.state().waiting_of(owner)
+        self.tracked.ticket_of(owner)
     }
 
     /// The number that the next call gets.

@@ -1,10 +1,10 @@
 //! An object with its record, in the middle of a protected action or between two.
 
-ghost use Rattle.std.specs.Prelude.{◌≡◌, ◌<◌, ◌≤◌, ◌&&◌, [], find, is_some, None, Some, true, false, MatchOption, MatchBool, MatchResult, IfOk, IfErr, IfNone, OnSome, OnOk, OnErr};
+ghost use Rattle.std.specs.Prelude.{◌≡◌, ◌<◌, ◌≤◌, ◌&&◌, [], find, is_some, option_map, None, Some, true, false, MatchOption, MatchBool, MatchResult, IfOk, IfErr, IfNone, IfSome, OnSome, OnOk, OnErr};
 ghost use Rattle.po_index.specs.Numbering.{entry_count, is_public};
 ghost use Rattle.po_accepted.specs.Finding.{IsFound};
 ghost use Rattle.po_accepted.specs.Tickets.{number_at, is_live, SetsTicket};
-ghost use Rattle.po_accepted.specs.WaitingCalls.{has_number};
+ghost use Rattle.po_accepted.specs.WaitingCalls.{has_number, is_of};
 ghost use Rattle.po_engine.specs.ObjectState.{IsAtRest, counts_in, opening_state};
 ghost use Rattle.po_engine.specs.Step.{MayBegin};
 ghost use Rattle.po_engine.specs.Pick.{pick, weight};
@@ -316,6 +316,15 @@ impl<U: Unit, R: Record<U>> TrackedObject<U, R> {
         ensures { result ≡ place_of_ticket self.now ticket }
     {
         self.state.place(ticket)
+    }
+
+    /// The ticket of the owner's earliest queued call.
+    pub(crate) fn ticket_of(&self, owner: u16) -> Option<Ticket>
+        ensures number { option_map (λ t. t.number) result ≡
+            option_map (λ x. x.number) (find (is_of owner) self.now.object.state.waiting) }
+        ensures live { IfSome result (λ t. is_live self.now.tickets t ≡ true) }
+    {
+        self.state.waiting_of(owner)
     }
 
     /// What every history keeps. It replays from its base.

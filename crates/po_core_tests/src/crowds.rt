@@ -1,7 +1,7 @@
 //! A run with very many waiting calls, and a cut of very many events.
 
-use po_actions::{Core, Deadline, End, Event, Order};
 use po_classic_units::{Broadcast, ScriptUnit};
+use po_core::{Core, Deadline, End, Event, Order};
 use po_index::EntryRef;
 use std::process::Abort;
 use std::test::Fail;

@@ -4,7 +4,7 @@ ghost use Rattle.std.specs.Prelude.{[], IfOk, OnOk};
 ghost use Rattle.po_classic_units.specs.Buffer.{buffer_meaning};
 ghost use Rattle.po_actions.specs.Cutting.{AreVolumes, KeepsVolumes};
 
-use po_actions::{Core, Deadline, End, Order};
+use po_core::{Core, Deadline, End, Order};
 use po_index::{EntryRef, Shape, ShapeFault};
 use po_unit::Unit;
 use po_units::{

@@ -130,7 +130,7 @@ impl Unit for Latch {
 #[cfg(test)]
 mod tests {
     use super::*;
-    use po_actions::{Core, Deadline, End, Order, Place};
+    use po_core::{Core, Deadline, End, Order, Place};
     use po_index::EntryRef;
     use std::process::Abort;
     use std::test::Fail;

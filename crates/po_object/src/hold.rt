@@ -11,7 +11,7 @@ ghost use Rattle.po_actions.specs.View.{base_state, next_place};
 ghost use Rattle.po_actions.specs.Cutting.{cut, cut_off, Leads, KeepsArrivals, KeepsVolumes, procedures_run, AreVolumes};
 ghost use Rattle.po_actions.specs.Commands.{issue_of, reply_of};
 ghost use Rattle.po_actions.specs.ProtectedAction.{IsProtectedAction, IsAbortOf, after_action, after_abort, abort_answer};
-ghost use Rattle.po_actions.specs.Refusals.{entry_of};
+ghost use Rattle.po_actions.specs.Commands.{entry_of};
 ghost use Rattle.po_core.specs.Refusals.{MayRefuse, issue_refusal, run_refusal, tick_refusal, finalized_refusal, cut_refusal};
 ghost use Rattle.po_core.specs.declared.refusal.Refusal.{Refusal};
 ghost use Rattle.po_receipts.specs.Passes.{PassView};

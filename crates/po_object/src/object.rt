@@ -3,7 +3,7 @@
 ghost use Rattle.std.specs.Prelude.{◌≡◌, ◌+◌, ◌≤◌, None, Some, IfOk, IfErr, IfSome, OnOk, OnErr, IsSome};
 ghost use Rattle.po_index.specs.Numbering.{flat_number};
 ghost use Rattle.po_calls.specs.declared.call.Deadline.TheVariants.{Never, At};
-ghost use Rattle.po_actions.specs.Refusals.{entry_of};
+ghost use Rattle.po_actions.specs.Commands.{entry_of};
 ghost use Rattle.po_core.specs.Refusals.{entry_refusal, if_unindexed};
 ghost use Rattle.po_core.specs.declared.refusal.Refusal.{Refusal};
 ghost use Rattle.po_receipts.specs.Answers.{AskedBySeats};

@@ -7,7 +7,7 @@ ghost use Rattle.po_readers_example.specs.Exclusion.{WritersAreAlone};
 ghost use Rattle.po_readers_example.specs.ReadersWriters.{new_readers_writers, readers_writers_meaning};
 
 use crate::readers_writers::ReadersWriters;
-use po_actions::{Core, Volume};
+use po_core::{Core, Volume};
 
 /// In the history of every object of readers and writers that was made as a new one, at each point: at most one writer is
 /// inside, and while one is, no reader is.

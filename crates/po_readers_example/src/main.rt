@@ -13,7 +13,7 @@ mod readers_writers;
 
 use anyhow::Result;
 use law::exclusion_law;
-use po_actions::{Core, Deadline, Order};
+use po_core::{Core, Deadline, Order};
 use po_index::EntryRef;
 use readers_writers::{READ, READ_DONE, ReadersWriters, WRITE, WRITE_DONE};
 use std::alloc::Global;

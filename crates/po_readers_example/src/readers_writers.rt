@@ -226,7 +226,7 @@ impl Unit for ReadersWriters {
 #[cfg(test)]
 mod tests {
     use super::*;
-    use po_actions::{Aborted, Core, Deadline, End, Order, Place};
+    use po_core::{Aborted, Core, Deadline, End, Order, Place};
     use po_index::EntryRef;
     use std::process::Abort;
     use std::test::Fail;

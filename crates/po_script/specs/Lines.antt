@@ -6,8 +6,8 @@ use Rattle.po_accepted.specs.declared.ended.Ended.{Ended}
 use Rattle.po_calls.specs.declared.end.End.{End}
 use Rattle.po_calls.specs.declared.end.End.TheVariants.{Completed, Raised, Cancelled, ProgramError}
 use Rattle.po_core.specs.declared.refusal.Refusal.{Refusal}
-use Rattle.po_actions.specs.declared.refusal.Aborted.{Aborted}
-use Rattle.po_actions.specs.declared.refusal.Aborted.TheVariants.{Kept, Cancelled as CallCancelled}
+use Rattle.po_actions.specs.declared.aborted.Aborted.{Aborted}
+use Rattle.po_actions.specs.declared.aborted.Aborted.TheVariants.{Kept, Cancelled as CallCancelled}
 use Rattle.po_core.specs.RefusalNumbers.{refusal_number}
 
 -- the line of the call with number n, which ended in this way

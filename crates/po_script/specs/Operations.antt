@@ -7,8 +7,7 @@ use Rattle.po_history.specs.declared.event.Event.TheVariants.{Ran, Tick as TickE
 use Rattle.po_core.specs.declared.refusal.Refusal.{Refusal}
 use Rattle.po_core.specs.declared.refusal.Refusal.TheVariants.{OutOfMemory}
 use Rattle.po_engine.specs.ObjectState.{counts_in}
-use Rattle.po_actions.specs.Commands.{issue_of, reply_of}
-use Rattle.po_actions.specs.Refusals.{entry_of}
+use Rattle.po_actions.specs.Commands.{entry_of, issue_of, reply_of}
 use Rattle.po_actions.specs.View.{View, ended_now}
 use Rattle.po_actions.specs.ProtectedAction.{after_action, after_abort, abort_answer}
 use Rattle.po_core.specs.Refusals.{issue_refusal, run_refusal, read_refusal, abort_refusal, finalized_refusal}

@@ -14,15 +14,15 @@ ghost use Rattle.po_units.specs.BufferLaw.{BufferIsFifo};
 ghost use Rattle.po_units.specs.MeetingLaw.{MeetingGathers};
 ghost use Rattle.po_units.specs.PulseLaw.{PulseReleasesAll};
 
-use po_actions::{Core, Volume};
 use po_classic_units::{Allocator, Buffer, Meeting, Pulse};
+use po_core::{Core, Record, Volume};
 
 /// The law of the buffer, first in, first out: in the history of every object of a buffer that was made as a new one, at
 /// each point, the values that Gets completed with are the first of those that Puts completed with, in their order, and
 /// at most as many more Puts than Gets have completed as the buffer has room for.
 ///
 /// The history is that of the volumes that were cut off, all of them in order, and the present events behind them.
-pub fn buffer_law(core: &Core<Buffer>, volumes: &[Volume<u64>])
+pub fn buffer_law<R: Record<Buffer>>(core: &Core<Buffer, R>, volumes: &[Volume<u64>])
     requires new { IsNewBuffer core.now.object.making.opening }
     requires volumes { AreVolumes buffer_meaning core.now.object volumes.now }
     ensures law { BufferIsFifo core.now.object.making (joined volumes.now ++ core.now.object.events) }
@@ -34,7 +34,7 @@ pub fn buffer_law(core: &Core<Buffer>, volumes: &[Volume<u64>])
 /// private, at each point, what calls were granted less what was released is from 0 to the allocator's size.
 ///
 /// The history is that of the volumes that were cut off, all of them in order, and the present events behind them.
-pub fn allocator_law(core: &Core<Allocator>, volumes: &[Volume<u64>])
+pub fn allocator_law<R: Record<Allocator>>(core: &Core<Allocator, R>, volumes: &[Volume<u64>])
     requires new { IsNewAllocator core.now.object.making.opening }
     requires volumes { AreVolumes allocator_meaning core.now.object volumes.now }
     ensures law { AllocatorStaysWithin core.now.object.making (joined volumes.now ++ core.now.object.events) }
@@ -47,7 +47,7 @@ pub fn allocator_law(core: &Core<Allocator>, volumes: &[Volume<u64>])
 /// otherwise.
 ///
 /// The history is that of the volumes that were cut off, all of them in order, and the present events behind them.
-pub fn pulse_law(core: &Core<Pulse>, volumes: &[Volume<u64>])
+pub fn pulse_law<R: Record<Pulse>>(core: &Core<Pulse, R>, volumes: &[Volume<u64>])
     requires new { IsNewPulse core.now.object.making.opening }
     requires volumes { AreVolumes pulse_meaning core.now.object volumes.now }
     ensures law { PulseReleasesAll core.now.object.making (joined volumes.now ++ core.now.object.events) }
@@ -59,7 +59,7 @@ pub fn pulse_law(core: &Core<Pulse>, volumes: &[Volume<u64>])
 /// together, as many as the meeting is of, in order of arrival, the one that was issued last coming last.
 ///
 /// The history is that of the volumes that were cut off, all of them in order, and the present events behind them.
-pub fn meeting_law(core: &Core<Meeting>, volumes: &[Volume<u64>])
+pub fn meeting_law<R: Record<Meeting>>(core: &Core<Meeting, R>, volumes: &[Volume<u64>])
     requires new { IsNewMeeting core.now.object.making.opening }
     requires volumes { AreVolumes meeting_meaning core.now.object volumes.now }
     ensures law { MeetingGathers core.now.object.making (joined volumes.now ++ core.now.object.events) }

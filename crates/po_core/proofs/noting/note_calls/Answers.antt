@@ -2,8 +2,8 @@
 use Rattle.std.proofs.Common.{◌≡◌, ◌≤◌, ◌-◌, ◌++◌, length, take, drop, vec_len, ap₂, ◌∙◌, sym, subst}
 use Rattle.std.specs.List.{All, count_by}
 use Rattle.po_accepted.specs.Ending.{has_ended}
-use Rattle.po_actions.specs.Outcomes.{AreOutcomes, IsCallOf}
-use Rattle.po_actions.proofs.Noted.{rest_noted}
+use Rattle.po_core.specs.Outcomes.{AreOutcomes, IsCallOf}
+use Rattle.po_core.proofs.Noted.{rest_noted}
 use Rattle.po_core.proofs.noting.note_calls.Goals as goal
 
 pub note_ends-requires-clause-once : goal.note_ends-requires-clause-once

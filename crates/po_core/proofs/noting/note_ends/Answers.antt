@@ -2,8 +2,8 @@ use Rattle.std.proofs.Common.{◌≡◌, ◌+◌, ◌∷◌, ◌++◌, [], None,
 use Rattle.std.specs.List.{find}
 use Rattle.std.proofs.lemmas.List.{take_more}
 use Rattle.po_accepted.specs.Ending.{has_ended}
-use Rattle.po_actions.specs.Outcomes.{AreOutcomes, IsCallOf}
-use Rattle.po_actions.proofs.Noted.{not_before, later_holds, outcomes_push}
+use Rattle.po_core.specs.Outcomes.{AreOutcomes, IsCallOf}
+use Rattle.po_core.proofs.Noted.{not_before, later_holds, outcomes_push}
 use Rattle.po_core.proofs.noting.note_ends.Goals as goal
 
 pub set_outcome-requires-clause-issued : goal.set_outcome-requires-clause-issued

@@ -1,5 +1,5 @@
 use Rattle.std.proofs.Common.{◌≡◌, ◌+◌, ◌++◌, length, take, vec_len, vec_capacity}
-use Rattle.po_actions.specs.Outcomes.{AreOutcomes}
+use Rattle.po_core.specs.Outcomes.{AreOutcomes}
 use Rattle.po_core.proofs.noting.note_ends.Given as goal
 
 abbrev pub invariant-loop-call : goal.invariant-loop-call

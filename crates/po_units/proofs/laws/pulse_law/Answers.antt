@@ -4,7 +4,7 @@ use Rattle.po_units.proofs.PulseLawLemmas as lemmas
 use Rattle.po_units.proofs.laws.pulse_law.Goals as goal
 
 pub returns : goal.returns
-returns c =
+returns g c =
     let view = c.args.core.now.object in
     let volumes = c.args.volumes.now in
     let headline = c.headline.ensures.headline in

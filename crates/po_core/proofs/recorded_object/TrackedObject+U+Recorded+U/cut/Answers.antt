@@ -1,7 +1,6 @@
 use Rattle.std.proofs.Common.{◌≡◌, List, refl, ap, ◌∙◌, arith, length, vec_len}
 use Rattle.po_accepted.specs.declared.ended.Ended.{Ended}
-use Rattle.po_actions.proofs.CutLemmas.{IsPicture}
-use Rattle.po_core.proofs.Cuts.{is_picture, tracked_cut, recording_cut}
+use Rattle.po_core.proofs.Cuts.{IsPicture, is_picture, tracked_cut, recording_cut}
 use Rattle.po_core.proofs.recorded_object.TrackedObject+U+Recorded+U.cut.Goals as goal
 
 pub invariant_of-self-2 : goal.invariant_of-self-2
@@ -10,7 +9,7 @@ invariant_of-self-2 g c =
     let a = c.self.inside in
     let r = c.self.invariant.has in
     let len : vec_len a.kept.ended ≡ length a.state.state.ended = omega (arith, a.kept.ended.ok.0, ap (λ (l : List (Ended g.row.U-Value.Denot)). length l) r.ended) in
-    let is : IsPicture m a.making a.kept.base a.state a.kept.history a.last a.kept.ran a.state.before _ = record {
+    let is : IsPicture a.state a.kept.history a.last a.kept.ran _ = record {
       unit = c.in_ok-unit.ensures ∙ c.unit.ensures;
       waiting = c.in_ok-waiting.ensures.calls;
       arrivals = c.in_ok-waiting.ensures.places;

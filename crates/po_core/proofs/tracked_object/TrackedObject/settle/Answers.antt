@@ -3,8 +3,8 @@ use Rattle.po_engine.specs.Pick.{pick}
 use Rattle.po_actions.specs.Progress.{Happens}
 use Rattle.po_actions.specs.View.{last_served}
 use Rattle.po_actions.proofs.Settling.{settles_by, same_on}
-use Rattle.po_actions.proofs.Trails.{settled_there}
-use Rattle.po_core.proofs.Views.{core_of, same_view, same_cores}
+use Rattle.po_actions.proofs.Trails.{settled_at}
+use Rattle.po_core.proofs.Views.{same_object, with_object}
 use Rattle.po_core.proofs.tracked_object.TrackedObject.settle.Goals as goal
 
 pub loop-preserved : goal.loop-preserved
@@ -14,7 +14,7 @@ loop-preserved g c =
     let now = c.loop.self.object in
     let o = pick m now.making.order (last_served now) now.state in
     record {
-      settles = settles_by m first (core_of c.loop.self) (core_of c.step.new.self) o refl c.loop.invariant.same (same_cores o true c.loop.self c.step.new.self (λ e. (true ≡ true) × Happens m now c.step.new.self.object e) c.loop-test.ensures.step) c.loop-test.ensures.falls c.loop.invariant.settles;
+      settles = settles_by m (c.step.new.self ≡ c.loop.self) first now c.step.new.self.object o refl c.loop.invariant.same c.loop-test.ensures.step c.loop-test.ensures.falls c.loop.invariant.settles;
       same = same_on m first now c.step.new.self.object c.loop.invariant.same c.step.ensures.same;
       tickets = c.step.ensures.tickets ∙ c.loop.invariant.tickets;
       capacity = c.step.ensures.capacity ∙ c.loop.invariant.capacity;
@@ -23,8 +23,11 @@ loop-preserved g c =
 pub returns-clause-exact : goal.returns-clause-exact
 returns-clause-exact g c =
     let m = g.U.Unit.meaning in
+    let first = c.args.self.now.object in
     let now = c.loop.self.object in
     let o = pick m now.making.order (last_served now) now.state in
-    same_view c.step.new.self _
-    (settled_there m (core_of c.args.self.now) (core_of c.loop.self) (core_of c.step.new.self) o (same_cores o false c.loop.self c.step.new.self (λ e. (false ≡ true) × Happens m now c.step.new.self.object e) c.loop-test.ensures.step) c.loop.invariant.settles c.loop-test.ensures.falls c.loop.invariant.same (c.step.ensures.tickets ∙ c.loop.invariant.tickets))
+    let step = same_object o false c.loop.self c.step.new.self (λ e. (false ≡ true) × Happens m now c.step.new.self.object e) c.loop-test.ensures.step in
+    with_object c.args.self.now c.step.new.self _
+    (settled_at m first now c.step.new.self.object o step c.loop.invariant.settles c.loop-test.ensures.falls c.loop.invariant.same)
+    (c.step.ensures.tickets ∙ c.loop.invariant.tickets)
     (c.step.ensures.capacity ∙ c.loop.invariant.capacity)

@@ -1,6 +1,6 @@
 use Rattle.std.proofs.Common.{◌∙◌, ap, slice_index}
 use Rattle.po_engine.specs.ObjectState.{counts_in}
-use Rattle.po_actions.specs.Refusals.{entry_of}
+use Rattle.po_actions.specs.Commands.{entry_of}
 use Rattle.po_object.proofs.object.Object.try_count.Goals as goal
 
 pub returns-in_ok-count-in-Some-clause-reply : goal.returns-in_ok-count-in-Some-clause-reply

@@ -1,7 +1,0 @@
-use Rattle.po_actions.proofs.VolumesStay.{volumes_begun}
-use Rattle.po_history.specs.declared.event.Event.TheVariants.{Final}
-use Rattle.po_actions.proofs.object_core.Core.finalize.Goals as goal
-
-pub returns-clause-volumes : goal.returns-clause-volumes
-returns-clause-volumes g c =
-    rw (← c.self.view_is) (volumes_begun g.U.Unit.meaning c.self.inside.recorded.object c.finalize.new.self.object Final c.recall_invariant.ensures.based c.finalize.ensures.begins)

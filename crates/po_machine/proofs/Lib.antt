@@ -1,2 +1,0 @@
-pub mod MachineHistories
-pub mod Views

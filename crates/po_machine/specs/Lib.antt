@@ -1,3 +1,0 @@
-pub mod MachineHistory
-pub mod MachineView
-pub mod MachineRefusals
