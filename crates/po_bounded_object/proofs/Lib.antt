@@ -1,4 +1,0 @@
-pub mod Finals
-pub mod LatestKept
-pub mod Rooms
-pub mod Shared
