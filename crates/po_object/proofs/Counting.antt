@@ -3,7 +3,7 @@ use Rattle.std.proofs.Common.{◌≡◌, ℕ, ◌+◌, ap, sym, arith, subst, re
 use Rattle.po_unit.specs.Meaning.{Meaning}
 use Rattle.po_calls.specs.declared.call.Call.{Call}
 use Rattle.po_calls.specs.declared.call.Deadline.{Deadline}
-use Rattle.po_history.specs.declared.event.Event.TheVariants.{Issue, Ran, Abort, Tick}
+use Rattle.po_history.specs.declared.event.Event.TheVariants.{Issue, Ran, Abort, Tick, Final}
 use Rattle.po_accepted.specs.Finding.{IsFound}
 use Rattle.po_actions.specs.View.{View}
 use Rattle.po_actions.specs.ProtectedAction.{IsProtectedAction, IsAbortOfCall, without_event}
@@ -67,3 +67,10 @@ module _ {S V : Type 0} (m : Meaning S V) where
   pub abort-shape : (old new : View S V) (n : ℕ) (o : Option (Call V)) → IsFound (IsAbortOfCall m old new n) o → new.making.shape ≡ old.making.shape
   abort-shape old new n None a = absurd a
   abort-shape old new n (Some x) a = ap (λ made. made.shape) (mark-making old new n x x.sealed x.aborted refl refl a)
+
+  -- a finalization changes neither count
+  pub counted-final : (old new : View S V) (calls procedures : ℕ) → IsProtectedAction m old new Final → IsCounted old calls procedures → IsCounted new calls procedures
+  counted-final old new calls procedures a h = record {
+    issued = omega (arith, action-next m old new Final a, h.issued, ap (λ made. made.first_number) a.making);
+    ran = omega (arith, action-ran m old new Final a, h.ran);
+  }

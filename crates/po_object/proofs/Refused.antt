@@ -1,9 +1,54 @@
 -- What a refusal of the core says.
-use Rattle.std.proofs.Common.{◌≡◌, ◌⊎◌, inl, inr, ap, sym, Option, Some, None, unwrap_or}
-use Rattle.po_actions.specs.declared.refusal.Refusal.{Refusal}
-use Rattle.po_actions.specs.declared.refusal.Refusal.TheVariants.{OutOfMemory}
+use Rattle.std.proofs.Common.{◌≡◌, ◌⊎◌, ℕ, ◌+◌, ◌≤◌, inl, inr, ap, sym, ◌∙◌, subst, refl, arith, Bool, true, false, List, Option, Some, None, is_some, nat_le, if◌then◌else◌}
+use Rattle.std.specs.Prelude.{IfSome}
+use Rattle.std.proofs.lemmas.Bool.Decides.{nat_tests}
+use Rattle.po_accepted.specs.Tickets.{uncollected}
+use Rattle.po_core.specs.declared.refusal.Refusal.{Refusal}
+use Rattle.po_core.specs.declared.refusal.Refusal.TheVariants.{OutOfMemory, TooManyCalls}
+use Rattle.po_core.specs.Tickets.{CoreView}
+use Rattle.po_core.specs.Refusals.{MayRefuse, if_full, or_else}
+use Rattle.po_object.specs.Reservations.{HasRoomFor}
+use Rattle.po_object.specs.Refused.{IsOutOfMemory}
 
--- it is of the command, or memory was wanting
-pub refused-either : (o : Option Refusal) (r : Refusal) → r ≡ unwrap_or o OutOfMemory → (r ≡ OutOfMemory) ⊎ (o ≡ Some r)
-refused-either None r h = inl h
-refused-either (Some x) r h = inr (ap (λ y. Some y) (sym h))
+-- memory may be wanting
+pub out-of-memory : (bounded : Bool) → bounded ≡ false → IsOutOfMemory bounded OutOfMemory
+out-of-memory bounded is = subst (λ b. IsOutOfMemory b OutOfMemory) (sym is) refl
+
+not_full : (most taken free : ℕ) → taken + free ≤ most → 1 ≤ free → nat_le most taken ≡ false
+not_full most taken free fits some = grind (arith, nat_tests)
+
+module _ {S V : Type 0} (core : CoreView S V) where
+  -- there is a place for a call of a free pass
+  pub has-place : (o : Option ℕ) → HasRoomFor core o → IfSome o (λ n. 1 ≤ n) → if_full core.capacity core.tickets ≡ None
+  has-place None room some = ap (λ capacity. if_full capacity core.tickets) room
+  has-place (Some n) room some =
+      ap (λ capacity. if_full capacity core.tickets) room.1.0 ∙ ap (λ b. if b then Some TooManyCalls else None) (not_full room.0 (uncollected core.tickets) n room.1.1 some)
+
+  grows : (o : Option ℕ) → HasRoomFor core o → core.capacity ≡ None → is_some o ≡ false
+  grows None room is = refl
+  grows (Some n) room is = let bad : None ≡ Some room.0 = sym is ∙ room.1.0 in cc
+
+  either : (o : Option ℕ) (bounded : Bool) → is_some o ≡ bounded → HasRoomFor core o → (refusal : Option Refusal) (r : Refusal) → MayRefuse core.capacity refusal r → IsOutOfMemory bounded r ⊎ (refusal ≡ Some r)
+  either o bounded is room None r may = inl (subst (λ x. IsOutOfMemory bounded x) (sym may.1) (out-of-memory bounded (sym is ∙ grows o room may.0)))
+  either o bounded is room (Some why) r may = inr (ap (λ x. Some x) (sym may))
+
+  -- it is of the command, or memory was wanting
+  pub refused-either : (o : Option ℕ) (filed bounded : Bool) → is_some o ≡ filed → filed ≡ bounded → HasRoomFor core o → (refusal : Option Refusal) (r : Refusal) → MayRefuse core.capacity refusal r → IsOutOfMemory bounded r ⊎ (refusal ≡ Some r)
+  refused-either o filed bounded same is room refusal r may = either o bounded (same ∙ is) room refusal r may
+
+  or_none : (refusal full : Option Refusal) → full ≡ None → or_else refusal full ≡ refusal
+  or_none None full is = is
+  or_none (Some why) full is = refl
+
+  -- and so it is of a call of a free pass
+  pub call-refused : (o : Option ℕ) (filed bounded : Bool) → is_some o ≡ filed → filed ≡ bounded → HasRoomFor core o → IfSome o (λ n. 1 ≤ n) → (refusal : Option Refusal) (r : Refusal) → MayRefuse core.capacity (or_else refusal (if_full core.capacity core.tickets)) r → IsOutOfMemory bounded r ⊎ (refusal ≡ Some r)
+  call-refused o filed bounded same is room some refusal r may =
+      refused-either o filed bounded same is room refusal r (subst (λ why. MayRefuse core.capacity why r) (or_none refusal (if_full core.capacity core.tickets) (has-place o room some)) may)
+
+  allowed_or : (refusal full : Option Refusal) → or_else refusal full ≡ None → refusal ≡ None
+  allowed_or None full is = refl
+  allowed_or (Some why) full is = cc
+
+  -- a call that is accepted isn't refused
+  pub call-allowed : (refusal : Option Refusal) → or_else refusal (if_full core.capacity core.tickets) ≡ None → refusal ≡ None
+  call-allowed refusal is = allowed_or refusal (if_full core.capacity core.tickets) is

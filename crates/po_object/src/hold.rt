@@ -201,6 +201,7 @@ impl<U: Unit, C: CallLedger, P: Ledger, F: Ledger, R: Record<U>, Q: Receipts<U::
         let number = number_of(&self.core, entry);
         pass.receipts.make_room()?;
         self.core.headline();
+        self.reservations.audit(&mut pass.reservation);
         let idle = self.latest.is_idle(&self.core, pass.seat);
         let ticket = self.core.issue(pass.seat, entry, value, deadline)?;
         let _next = self.core.next();

@@ -1,6 +1,6 @@
 //! The places in memory that are reserved for the next call of each free pass.
 
-ghost use Rattle.std.specs.Prelude.{◌≡◌, ◌+◌, ◌<◌, Some, None, IfSome, is_some, option_map};
+ghost use Rattle.std.specs.Prelude.{◌≡◌, ◌+◌, ◌<◌, ◌≤◌, Some, None, IfSome, is_some, option_map};
 ghost use Rattle.po_object.specs.Reservations.{reserved};
 
 use std::marker::Model;
@@ -87,6 +87,19 @@ impl<F: Ledger> Reservations<F> {
             }
         }
         Reservation { share: None }
+    }
+
+    /// The pass's place is one of them.
+    pub(crate) fn audit(&mut self, own: &mut Reservation<F>)
+        requires { own.old ≡ option_map (λ _. 1) self.old }
+        ensures same { (self.new ≡ self.old) × (own.new ≡ own.old) }
+        ensures some { IfSome self.old (λ n. 1 ≤ n) }
+    {
+        if let Some(book) = &mut self.book {
+            if let Some(share) = &mut own.share {
+                book.audit(share);
+            }
+        }
     }
 
     /// The pass's place is used.

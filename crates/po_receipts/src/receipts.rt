@@ -1,6 +1,6 @@
 //! Where the receipts of a pass are filed: in memory, or for proofs alone.
 
-ghost use Rattle.std.specs.Prelude.{◌≡◌, ◌∷◌, ◌++◌, [], Bool, true, false, List, IfOk, OnOk, OnErr, vec_len, vec_capacity};
+ghost use Rattle.std.specs.Prelude.{◌≡◌, ◌<◌, ◌∷◌, ◌++◌, [], Bool, true, false, List, IfOk, OnOk, OnErr, vec_len, vec_capacity};
 ghost use Rattle.po_receipts.specs.declared.receipt.Receipt.{Receipt as Filed};
 
 use crate::receipt::Receipt;
@@ -49,7 +49,10 @@ impl<V: Copy> Receipts<V> for Vec<Receipt<V>> {
         self.reserve(1)
     }
 
-    fn file(&mut self, receipt: Receipt<V>) {
+    fn file(&mut self, receipt: Receipt<V>)
+        requires { vec_len self.old < vec_capacity self.old }
+        ensures { self.new.items ≡ self.old.items ++ receipt ∷ [] }
+    {
         self.push_reserved(receipt);
     }
 }
@@ -69,7 +72,9 @@ impl<V: Copy> Receipts<V> for Trace<Receipt<V>> {
         Ok(())
     }
 
-    fn file(&mut self, receipt: Receipt<V>) {
+    fn file(&mut self, receipt: Receipt<V>)
+        ensures { self.new.items ≡ self.old.items ++ receipt ∷ [] }
+    {
         *self = self.then(&receipt);
     }
 }

@@ -1,9 +1,11 @@
-use Rattle.std.proofs.Common.{sym, ◌∙◌, ap, not}
-use Rattle.po_object.proofs.LatestKept.{never-waits, ended-waits}
+use Rattle.std.proofs.Common.{◌≡◌, true, false, not}
+use Rattle.po_object.proofs.LatestKept.{never-waits, only-ended}
 use Rattle.po_object.proofs.latest.LatestCalls.is_idle.Goals as goal
 
 pub returns-in-Never : goal.returns-in-Never
 returns-in-Never g c = λ _. never-waits _ _ c.args.seat c.requires c.in-Never.ensures
 
-pub returns-in-Number : goal.returns-in-Number
-returns-in-Number g c = λ ended. ended-waits _ _ c.args.seat c.in-Number.n c.requires c.in-Number.ensures (ap not (sym c.is_waiting.ensures) ∙ ended)
+pub returns-in-Only : goal.returns-in-Only
+returns-in-Only g c = λ idle.
+    let ended : c.waits.result ≡ false = cc in
+    only-ended _ _ c.args.seat c.requires c.in-Only.ticket c.in-Only.ensures _ c.waits.ensures.placed (c.waits.ensures.not ended)

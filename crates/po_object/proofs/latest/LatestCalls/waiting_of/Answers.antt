@@ -1,14 +1,24 @@
-use Rattle.std.proofs.Common.{sym, ◌∙◌, ap}
-use Rattle.std.specs.Bool.{then_some}
+use Rattle.std.proofs.Common.{sym, ◌∙◌, ◌≡◌, ap, true, false, inl, inr}
 use Rattle.std.specs.Option.{option_map}
-use Rattle.po_object.proofs.LatestKept.{never-waits, found_by_number, number_found}
+use Rattle.std.proofs.lemmas.Bool.{cases_Bool}
+use Rattle.po_object.proofs.LatestKept.{never-waits, only-waits, only-ended}
 use Rattle.po_object.proofs.latest.LatestCalls.waiting_of.Goals as goal
 
-pub returns-in-Never : goal.returns-in-Never
-returns-in-Never g c = ap (option_map (λ x. x.number)) (sym (never-waits _ _ c.args.seat c.requires c.in-Never.ensures))
+pub returns-in-Never-clause-number : goal.returns-in-Never-clause-number
+returns-in-Never-clause-number g c = ap (option_map (λ x. x.number)) (sym (never-waits _ _ c.args.seat c.requires c.in-Never.ensures))
 
-pub returns-in-Number : goal.returns-in-Number
-returns-in-Number g c =
-    c.then_some.ensures ∙ (ap (λ b. then_some b c.in-Number.n) c.is_waiting.ensures
-    ∙ (number_found c.in-Number.n c.args.core.now.object.state.waiting
-    ∙ ap (option_map (λ x. x.number)) (sym (found_by_number _ _ c.args.seat c.requires c.in-Number.n c.in-Number.ensures))))
+pub returns-in-Only-clause-number : goal.returns-in-Only-clause-number
+returns-in-Only-clause-number g c =
+    let t = c.in-Only.ticket in
+    elim (cases_Bool c.waits.result) [
+      | inl yes ↦ rw (c.then_some.ensures, yes) (only-waits _ _ c.args.seat c.requires t c.in-Only.ensures (c.waits.ensures.waits yes)).1
+      | inr no ↦ rw (c.then_some.ensures, no) (ap (option_map (λ x. x.number)) (sym (only-ended _ _ c.args.seat c.requires t c.in-Only.ensures _ c.waits.ensures.placed (c.waits.ensures.not no))))
+    ]
+
+pub returns-in-Only-clause-live : goal.returns-in-Only-clause-live
+returns-in-Only-clause-live g c =
+    let t = c.in-Only.ticket in
+    elim (cases_Bool c.waits.result) [
+      | inl yes ↦ rw (c.then_some.ensures, yes) (only-waits _ _ c.args.seat c.requires t c.in-Only.ensures (c.waits.ensures.waits yes)).0
+      | inr no ↦ rw (c.then_some.ensures, no) tt
+    ]

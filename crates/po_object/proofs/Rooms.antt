@@ -1,0 +1,69 @@
+-- There is memory for one call more of each free pass: at first, after each command, and where a call is refused.
+use Rattle.std.proofs.Common.{◌≡◌, ℕ, ◌+◌, ◌≤◌, Bool, true, false, List, [], ◌∷◌, length, refl, sym, ap, subst, ◌∙◌, arith, Option, Some, None, is_some}
+use Rattle.std.specs.Option.{option_map}
+use Rattle.std.specs.Prelude.{IfSome}
+use Rattle.po_calls.specs.declared.ticket.Ticket.{Ticket}
+use Rattle.po_calls.specs.declared.end.End.{End}
+use Rattle.po_accepted.specs.Tickets.{number_at, SetsTicket, uncollected}
+use Rattle.po_accepted.proofs.TicketCounts.{none-held, one-more, one-less}
+use Rattle.po_receipts.specs.declared.asked.Asked.{Asked}
+use Rattle.po_core.specs.Tickets.{CoreView, AreIssued}
+use Rattle.po_object.specs.Reservations.{reserved, reserved_for, HasRoomFor}
+
+-- a pass without a pending call has a place reserved
+pub is-free : (o : Option ℕ) (bounded : Bool) → is_some o ≡ bounded → reserved bounded 1 ≡ option_map (λ n. 1) o
+is-free None bounded is = ap (λ b. reserved b 1) (sym is)
+is-free (Some n) bounded is = ap (λ b. reserved b 1) (sym is)
+
+-- and one with a pending call has none
+pub is-used : (o : Option ℕ) (bounded : Bool) → is_some o ≡ bounded → reserved bounded 0 ≡ option_map (λ n. 0) o
+is-used None bounded is = ap (λ b. reserved b 0) (sym is)
+is-used (Some n) bounded is = ap (λ b. reserved b 0) (sym is)
+
+-- the number of places is counted, or not, as before
+pub stays-free : (old new : Option ℕ) → old ≡ option_map (λ n. n + 1) new → is_some new ≡ is_some old
+stays-free old None is = ap is_some (sym is)
+stays-free old (Some n) is = ap is_some (sym is)
+
+pub gives-free : (old new : Option ℕ) → new ≡ option_map (λ n. n + 1) old → is_some new ≡ is_some old
+gives-free None new is = ap is_some is
+gives-free (Some n) new is = ap is_some is
+
+module _ {S V : Type 0} (old new : CoreView S V) (ticket : Ticket) where
+  -- after a call that used the place of its pass
+  pub room-issued : (before after : Option ℕ) → before ≡ option_map (λ n. n + 1) after → new.capacity ≡ old.capacity → number_at old.tickets ticket.key ≡ None → SetsTicket old.tickets new.tickets ticket.key (Some ticket.number) → HasRoomFor old before → HasRoomFor new after
+  room-issued before None is capacity vacant sets room = capacity ∙ subst (HasRoomFor old) is room
+  room-issued before (Some n) is capacity vacant sets room =
+      let r = subst (HasRoomFor old) is room in
+      let more = one-more old.tickets new.tickets ticket.key ticket.number vacant sets in
+      (r.0, (capacity ∙ r.1.0, omega (arith, r.1.1, more)))
+
+  -- after a call was collected, whose pass has its place again
+  pub room-collected : (before after : Option ℕ) → after ≡ option_map (λ n. n + 1) before → new.capacity ≡ old.capacity → number_at old.tickets ticket.key ≡ Some ticket.number → SetsTicket old.tickets new.tickets ticket.key None → HasRoomFor old before → HasRoomFor new after
+  room-collected None after is capacity there sets room = subst (HasRoomFor new) (sym is) (capacity ∙ room)
+  room-collected (Some n) after is capacity there sets room =
+      let less = one-less old.tickets new.tickets ticket.key ticket.number there sets in
+      subst (HasRoomFor new) (sym is) (room.0, (capacity ∙ room.1.0, omega (arith, room.1.1, less)))
+
+-- where tickets and capacity are the same
+pub room-same : {S V : Type 0} (old new : CoreView S V) (o : Option ℕ) → new.tickets ≡ old.tickets → new.capacity ≡ old.capacity → HasRoomFor old o → HasRoomFor new o
+room-same old new None tickets capacity room = capacity ∙ room
+room-same old new (Some n) tickets capacity room = (room.0, (capacity ∙ room.1.0, subst (λ list. uncollected list + n ≤ room.0) (sym tickets) room.1.1))
+
+none_at : (o : Option ℕ) → ((n : ℕ) → o ≡ Some n → ⊥) → o ≡ None
+none_at None h = refl
+none_at (Some n) h = absurd (h n refl)
+
+-- where none was issued, none is uncollected
+pub none-open : {S V : Type 0} (core : CoreView S V) → core.object.state.next ≡ core.object.making.first_number → AreIssued core → uncollected core.tickets ≡ 0
+none-open core none issued = none-held core.tickets (λ k. none_at (number_at core.tickets k) (λ n is. let i = issued k n is in omega (arith, i.0, i.1, none)))
+
+room_by : {S V : Type 0} (core : CoreView S V) (o capacity : Option ℕ) → capacity ≡ core.capacity → is_some o ≡ is_some capacity → uncollected core.tickets ≡ 0 → IfSome o (λ n. IfSome capacity (λ most. n ≤ most)) → HasRoomFor core o
+room_by core None None is same none room = sym is
+room_by core None (Some most) is same none room = cc
+room_by core (Some n) None is same none room = cc
+room_by core (Some n) (Some most) is same none room = (most, (sym is, omega (arith, none, room)))
+
+-- at first
+pub room-first : {S V : Type 0} (core : CoreView S V) (o : Option ℕ) → is_some o ≡ is_some core.capacity → uncollected core.tickets ≡ 0 → IfSome o (λ n. IfSome core.capacity (λ most. n ≤ most)) → HasRoomFor core o
+room-first core o same none room = room_by core o core.capacity refl same none room
