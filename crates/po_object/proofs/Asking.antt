@@ -11,7 +11,7 @@ use Rattle.po_accepted.specs.Finding.{IsFound}
 use Rattle.po_engine.specs.Step.{step}
 use Rattle.po_engine.specs.Pick.{last_from}
 use Rattle.po_actions.specs.View.{View}
-use Rattle.po_actions.specs.Tickets.{CoreView}
+use Rattle.po_core.specs.Tickets.{CoreView}
 use Rattle.po_actions.specs.ProtectedAction.{IsProtectedAction, IsAbortOfCall}
 use Rattle.po_actions.specs.Cutting.{cut}
 use Rattle.po_actions.proofs.Counting.{is_neither, picks-neither}

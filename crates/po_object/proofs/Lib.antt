@@ -7,3 +7,4 @@ pub mod Seating
 pub mod Shared
 pub mod Totals
 pub mod Waits
+mod Rooms

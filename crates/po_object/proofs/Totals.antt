@@ -1,7 +1,7 @@
 -- What a closed object has in sum, and where its passes stand.
 use Rattle.std.proofs.Common.{subst, sym, ◌≡◌, ℕ, ◌≤◌, List, length, sum_by, ◌∙◌, arith}
 use Rattle.po_receipts.specs.Passes.{PassView}
-use Rattle.po_actions.specs.Tickets.{CoreView}
+use Rattle.po_core.specs.Tickets.{CoreView}
 use Rattle.po_object.specs.Holds.{IsCounted}
 use Rattle.po_object.specs.Seats.{OneEach, ArePlaced}
 use Rattle.po_receipts.specs.Answers.{HasClosingTotals, AskedBySeats}

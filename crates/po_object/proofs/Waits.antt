@@ -1,14 +1,7 @@
 -- What one test finds, another finds and counts too.
 use Rattle.std.proofs.Common.{◌≡◌, ℕ, ◌+◌, ◌≤◌, ◌==◌, List, [], ◌∷◌, refl, ap, sym, ◌∙◌, arith, cond, Bool, true, false, ◌&&◌, ◌||◌, nat_le, nat_lt, Option, Some, None, if◌then◌else◌, is_some}
 use Rattle.std.specs.List.{find, count_by}
-use Rattle.std.specs.Option.{option_map}
-use Rattle.std.proofs.lemmas.Bool.Decides.{nat_tests}
 use Rattle.std.proofs.lemmas.List.Sums.{sum_by-cons}
-use Rattle.po_calls.specs.declared.call.Call.{Call}
-use Rattle.po_accepted.specs.WaitingCalls.{has_number}
-use Rattle.po_accepted.specs.Ending.{has_ended}
-use Rattle.po_actions.specs.View.{View, IsInOnePlace}
-use Rattle.po_actions.specs.Refusals.{abort_refusal}
 
 module _ {X : Type 0} (p q : X → Bool) where
   found-here : (b c : Bool) (x y : X) (xs : List X) → q y ≡ c → cond b (Some y) (find p xs) ≡ Some x → q x ≡ true → (find p xs ≡ Some x → is_some (find q xs) ≡ true) → is_some (cond c (Some y) (find q xs)) ≡ true

@@ -4,7 +4,7 @@ use Rattle.po_unit.specs.Meaning.{Meaning}
 use Rattle.po_history.specs.declared.event.Event.TheVariants.{Tick}
 use Rattle.po_accepted.specs.Finding.{IsFound}
 use Rattle.po_accepted.specs.WaitingCalls.{is_of}
-use Rattle.po_actions.specs.declared.refusal.Aborted.{Aborted}
+use Rattle.po_actions.specs.declared.aborted.Aborted.{Aborted}
 use Rattle.po_engine.specs.ObjectState.{ObjectState, counts_in}
 use Rattle.po_actions.specs.ProtectedAction.{after_action, abort_answer}
 use Rattle.po_core.specs.Refusals.{finalized_refusal}

@@ -18,7 +18,7 @@ returns-in_err-aborted-clause-refused g c =
 pub invariant_of-self-2 : goal.invariant_of-self-2
 invariant_of-self-2 g c =
     let old = c.self.inside.core in
-    let new = c.cancel-aborted.new.self in
+    let new = c.cancel.new.self in
     let k = c.in_ok-aborted.ensures in
     record {
       counted = counted-abort_of g.U.Unit.meaning _ _ _ _ _ _ k.action c.self.invariant.counted;

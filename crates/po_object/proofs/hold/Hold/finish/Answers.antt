@@ -8,7 +8,7 @@ use Rattle.po_object.proofs.hold.Hold.finish.Goals as goal
 pub invariant_of-self-2 : goal.invariant_of-self-2
 invariant_of-self-2 g c =
     let old = c.self.inside.core in
-    let new = c.collect-end.new.self in
+    let new = c.collect.new.self in
     let ticket = c.in_ok-asked.asked.ticket in
     let k = c.in_ok-end.ensures in
     record {

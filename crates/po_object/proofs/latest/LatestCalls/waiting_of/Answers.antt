@@ -11,14 +11,14 @@ pub returns-in-Only-clause-number : goal.returns-in-Only-clause-number
 returns-in-Only-clause-number g c =
     let t = c.in-Only.ticket in
     elim (cases_Bool c.waits.result) [
-      | inl yes ↦ rw (c.then_some.ensures, yes) (only-waits _ _ c.args.seat c.requires t c.in-Only.ensures (c.waits.ensures.waits yes)).1
-      | inr no ↦ rw (c.then_some.ensures, no) (ap (option_map (λ x. x.number)) (sym (only-ended _ _ c.args.seat c.requires t c.in-Only.ensures _ c.waits.ensures.placed (c.waits.ensures.not no))))
+      | inl here ↦ rw (c.then_some.ensures, here) (only-waits _ _ c.args.seat c.requires t c.in-Only.ensures (c.waits.ensures.waits here)).1
+      | inr gone ↦ rw (c.then_some.ensures, gone) (ap (option_map (λ x. x.number)) (sym (only-ended _ _ c.args.seat c.requires t c.in-Only.ensures _ c.waits.ensures.placed (c.waits.ensures.not gone))))
     ]
 
 pub returns-in-Only-clause-live : goal.returns-in-Only-clause-live
 returns-in-Only-clause-live g c =
     let t = c.in-Only.ticket in
     elim (cases_Bool c.waits.result) [
-      | inl yes ↦ rw (c.then_some.ensures, yes) (only-waits _ _ c.args.seat c.requires t c.in-Only.ensures (c.waits.ensures.waits yes)).0
-      | inr no ↦ rw (c.then_some.ensures, no) tt
+      | inl here ↦ rw (c.then_some.ensures, here) (only-waits _ _ c.args.seat c.requires t c.in-Only.ensures (c.waits.ensures.waits here)).0
+      | inr gone ↦ rw (c.then_some.ensures, gone) tt
     ]
