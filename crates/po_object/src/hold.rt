@@ -267,8 +267,8 @@ impl<U: Unit, C: CallLedger, P: Ledger, F: Ledger, R: Record<U>, Q: Receipts<U::
         ensures refused { IfErr result (λ r. IsOutOfMemory R.is_bounded r ⊎ (run_refusal U.meaning self.old.object op ≡ Some r)) }
         ensures unchanged { OnErr result ((self.new ≡ self.old) × (pass.new ≡ pass.old)) }
     {
-        pass.receipts.make_room()?;
         self.core.headline();
+        pass.receipts.make_room()?;
         let reply = self.core.run(pass.seat, op, value)?;
         self.procedures.audit(&mut pass.ran);
         self.procedures.add(&mut pass.ran, 1);

@@ -6,7 +6,7 @@ pub returns-in-Never : goal.returns-in-Never
 returns-in-Never g c = λ _. never-waits _ _ c.args.seat c.requires c.in-Never.ensures
 
 not_true : (b : Bool) → not b ≡ true → b ≡ false
-not_true true h = h
+not_true true h = cc
 not_true false h = refl
 
 pub returns-in-Only : goal.returns-in-Only
