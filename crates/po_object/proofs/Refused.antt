@@ -4,11 +4,12 @@ use Rattle.std.specs.Prelude.{IfSome}
 use Rattle.std.proofs.lemmas.Bool.Decides.{nat_tests}
 use Rattle.po_accepted.specs.Tickets.{uncollected}
 use Rattle.po_core.specs.declared.refusal.Refusal.{Refusal}
-use Rattle.po_core.specs.declared.refusal.Refusal.TheVariants.{OutOfMemory, TooManyCalls}
+use Rattle.po_core.specs.declared.refusal.Refusal.TheVariants.{OutOfMemory, TooManyCalls, Finalized, NumbersSpent}
+use Rattle.po_actions.specs.View.{next_place}
 use Rattle.po_core.specs.Tickets.{CoreView}
-use Rattle.po_core.specs.Refusals.{MayRefuse, if_full, or_else}
+use Rattle.po_core.specs.Refusals.{MayRefuse, if_full, or_else, if_uncounted, tick_refusal, finalized_refusal}
 use Rattle.po_object.specs.Reservations.{HasRoomFor}
-use Rattle.po_object.specs.Refused.{IsOutOfMemory}
+use Rattle.po_object.specs.Refused.{IsOutOfMemory, IsTickRefusal}
 
 -- memory may be wanting
 pub out-of-memory : (bounded : Bool) → bounded ≡ false → IsOutOfMemory bounded OutOfMemory
@@ -52,3 +53,25 @@ module _ {S V : Type 0} (core : CoreView S V) where
   -- a call that is accepted isn't refused
   pub call-allowed : (refusal : Option Refusal) → or_else refusal (if_full core.capacity core.tickets) ≡ None → refusal ≡ None
   call-allowed refusal is = allowed_or refusal (if_full core.capacity core.tickets) is
+
+  tick_or : (finalized : Option Refusal) (other : Option Refusal) → or_else finalized other ≡ None → finalized ≡ None
+  tick_or None other is = refl
+  tick_or (Some why) other is = cc
+
+  -- a tick that is accepted wasn't refused for being finalized
+  pub tick-allowed : tick_refusal core ≡ None → finalized_refusal core.object ≡ None
+  tick-allowed is = tick_or (finalized_refusal core.object) (if_uncounted core.capacity (next_place core.object)) is
+
+  tick_by : (capacity : Option ℕ) (finalized : Bool) (place : ℕ) (r : Refusal) → MayRefuse capacity (or_else (if finalized then Some Finalized else None) (if_uncounted capacity place)) r → IsTickRefusal (is_some capacity) r
+  tick_by None true place r may = inr may
+  tick_by None false place r may = inl may.1
+  tick_by (Some most) true place r may = inr may
+  tick_by (Some most) false place r may = uncounted (nat_le 18_446_744_073_709_551_615 place) may
+    where
+      uncounted : (b : Bool) → MayRefuse (Some most) (if b then Some NumbersSpent else None) r → (r ≡ NumbersSpent) ⊎ (r ≡ Finalized)
+      uncounted true h = inl h
+      uncounted false h = let bad : None ≡ Some most = sym h.0 in cc
+
+  -- which refusals a tick may meet
+  pub tick-refused : (bounded : Bool) → is_some core.capacity ≡ bounded → (r : Refusal) → MayRefuse core.capacity (tick_refusal core) r → IsTickRefusal bounded r
+  tick-refused bounded is r may = subst (λ b. IsTickRefusal b r) is (tick_by core.capacity core.object.state.finalized (next_place core.object) r may)

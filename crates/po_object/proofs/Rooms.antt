@@ -1,5 +1,5 @@
 -- There is memory for one call more of each free pass: at first, after each command, and where a call is refused.
-use Rattle.std.proofs.Common.{◌≡◌, ℕ, ◌+◌, ◌≤◌, Bool, true, false, List, [], ◌∷◌, length, refl, sym, ap, subst, ◌∙◌, arith, Option, Some, None, is_some}
+use Rattle.std.proofs.Common.{◌≡◌, ℕ, ◌+◌, ◌≤◌, ◌<◌, Bool, true, false, List, [], ◌∷◌, length, refl, sym, ap, subst, ◌∙◌, arith, Option, Some, None, is_some}
 use Rattle.std.specs.Option.{option_map}
 use Rattle.std.specs.Prelude.{IfSome}
 use Rattle.po_calls.specs.declared.ticket.Ticket.{Ticket}
@@ -67,3 +67,58 @@ room_by core (Some n) (Some most) is same none room = (most, (sym is, omega (ari
 -- at first
 pub room-first : {S V : Type 0} (core : CoreView S V) (o : Option ℕ) → is_some o ≡ is_some core.capacity → uncollected core.tickets ≡ 0 → IfSome o (λ n. IfSome core.capacity (λ most. n ≤ most)) → HasRoomFor core o
 room-first core o same none room = room_by core o core.capacity refl same none room
+
+some_same : (a b : ℕ) → Some a ≡ Some b → a ≡ b
+some_same a b e = cc
+
+-- A place is reserved for one pass after the other: so many have one, and so many parts are left.
+module _ (bounded : Bool) (all : ℕ) where
+  both_by : (b : Bool) (before : ℕ) (free rest : Option ℕ) → free ≡ reserved b before → option_map (λ n. n + before) rest ≡ reserved b all → is_some rest ≡ is_some free
+  both_by false before free None free_is rest_is = ap is_some (sym free_is)
+  both_by false before free (Some n) free_is rest_is = cc
+  both_by true before free None free_is rest_is = cc
+  both_by true before free (Some n) free_is rest_is = ap is_some (sym free_is)
+
+  -- both are counted, or neither is
+  pub reserve-both : (before : ℕ) (free rest : Option ℕ) → free ≡ reserved bounded before → option_map (λ n. n + before) rest ≡ reserved bounded all → is_some rest ≡ is_some free
+  reserve-both before free rest free_is rest_is = both_by bounded before free rest free_is rest_is
+
+  left_by : (b : Bool) (before : ℕ) (rest : Option ℕ) → option_map (λ n. n + before) rest ≡ reserved b all → before + 1 < all → IfSome rest (λ n. 1 < n)
+  left_by b before None is low = tt
+  left_by false before (Some n) is low = cc
+  left_by true before (Some n) is low = let same : n + before ≡ all = some_same (n + before) all is in omega (arith, same, low)
+
+  -- there is a part for the next
+  pub reserve-left : (before : ℕ) (rest : Option ℕ) → option_map (λ n. n + before) rest ≡ reserved bounded all → before + 1 < all → IfSome rest (λ n. 1 < n)
+  reserve-left before rest is low = left_by bounded before rest is low
+
+  more_by : (b : Bool) (before : ℕ) → option_map (λ n. n + 1) (reserved b before) ≡ reserved b (before + 1)
+  more_by false before = refl
+  more_by true before = refl
+
+  -- one pass more has its place
+  pub reserve-more : (before : ℕ) (free later : Option ℕ) → free ≡ reserved bounded before → later ≡ option_map (λ n. n + 1) free → later ≡ reserved bounded (before + 1)
+  reserve-more before free later is more = more ∙ (ap (option_map (λ n. n + 1)) is ∙ more_by bounded before)
+
+  -- and one part less is left
+  pub reserve-rest : (before : ℕ) (rest later : Option ℕ) → rest ≡ option_map (λ n. n + 1) later → option_map (λ n. n + before) rest ≡ reserved bounded all → option_map (λ n. n + (before + 1)) later ≡ reserved bounded all
+  reserve-rest before rest None less is = ap (option_map (λ n. n + before)) (sym less) ∙ is
+  reserve-rest before rest (Some n) less is =
+      let same : n + (before + 1) ≡ n + 1 + before = omega arith in
+      ap Some same ∙ (ap (option_map (λ n. n + before)) (sym less) ∙ is)
+
+  own_by : (b : Bool) (before : ℕ) → option_map (λ n. 1) (reserved b before) ≡ reserved b 1
+  own_by false before = refl
+  own_by true before = refl
+
+  -- it has one place
+  pub reserve-own : (before : ℕ) (free own : Option ℕ) → free ≡ reserved bounded before → own ≡ option_map (λ n. 1) free → own ≡ reserved bounded 1
+  reserve-own before free own is one = one ∙ (ap (option_map (λ n. 1)) is ∙ own_by bounded before)
+
+  all_by : (b : Bool) → option_map (λ n. n + 0) (reserved b all) ≡ reserved b all
+  all_by false = refl
+  all_by true = let same : all + 0 ≡ all = omega arith in ap Some same
+
+  -- at first all parts are left
+  pub reserve-all : (rest : Option ℕ) → rest ≡ reserved bounded all → option_map (λ n. n + 0) rest ≡ reserved bounded all
+  reserve-all rest is = ap (option_map (λ n. n + 0)) is ∙ all_by bounded

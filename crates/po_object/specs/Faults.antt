@@ -13,7 +13,7 @@ use Rattle.po_object.specs.declared.fault.CloseFault.{CloseFault}
 use Rattle.po_object.specs.declared.fault.CloseFault.TheVariants.{PassMissing}
 
 -- The core and the blanks are handed back. The fault is NotFresh exactly where the history has an event.
-abbrev pub HandsBack : {U V : Type 0} → CoreView U V → Blank → Blank → OpenFault U V → Type 0
+abbrev pub HandsBack : {U R V : Type 0} → CoreView U V → Blank → Blank → OpenFault U R V → Type 0
 HandsBack core calls procedures (NotFresh c a b) =
     (c ≡ core) × (a ≡ calls) × (b ≡ procedures) × (next_place core.object ≢ core.object.making.first_place)
 HandsBack core calls procedures (OutOfMemory c a b) =
@@ -25,5 +25,5 @@ IsWhy core WasUsed = next_place core.object ≢ core.object.making.first_place
 IsWhy core WithoutMemory = next_place core.object ≡ core.object.making.first_place
 
 -- The object and the passes are handed back, with the lowest seat that hasn't exactly one pass.
-abbrev pub KeepsAll : {U C P V : Type 0} → ℕ → List (PassView V) → CloseFault U C P V → Type 0
+abbrev pub KeepsAll : {U C P F R Q V : Type 0} → ℕ → List (PassView V) → CloseFault U C P F R Q V → Type 0
 KeepsAll seats passes (PassMissing seat object back) = (object ≡ seats) × (back.items ≡ passes) × IsMissing seats passes seat
