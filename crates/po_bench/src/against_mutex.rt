@@ -5,7 +5,7 @@ use crate::engine::{Engine, make_trap};
 use crate::measure::Measure;
 use crate::plan::Plan;
 use crate::report::line;
-use po_actions::Core;
+use po_core::Core;
 use po_classic_units::Trap;
 use po_machine::Machine;
 use std::alloc::{AllocError, Global};

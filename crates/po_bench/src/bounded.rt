@@ -7,7 +7,7 @@ use crate::engine::make_machine;
 use crate::races::race;
 use crate::team::Round;
 use crate::work::Task;
-use po_actions::{End, Order};
+use po_core::{End, Order};
 use po_bounded_object::hold::BoundedPass;
 use po_bounded_object::{BoundedObject, CallLedger};
 use po_classic_units::ScriptUnit;

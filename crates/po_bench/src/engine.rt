@@ -2,7 +2,7 @@
 
 ghost use Rattle.std.specs.Prelude.{◌≡◌, IfSome};
 
-use po_actions::{Aborted, Core, Deadline, End, Order, Start, Ticket};
+use po_core::{Aborted, Core, Deadline, End, Order, Start, Ticket};
 use po_classic_units::{ScriptUnit, Trap};
 use po_index::EntryRef;
 use po_machine::Machine;

@@ -8,7 +8,7 @@ use crate::engine::Engine;
 use crate::measure::Measure;
 use crate::plan::Plan;
 use crate::report::pair;
-use po_actions::{Core, Deadline, Order};
+use po_core::{Core, Deadline, Order};
 use po_classic_units::Allocator;
 use po_index::EntryRef;
 use std::alloc::AllocError;

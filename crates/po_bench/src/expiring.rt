@@ -7,7 +7,7 @@ use crate::engine::{Engine, make_trap};
 use crate::measure::{Measure, nanos_since};
 use crate::plan::Plan;
 use crate::report::pair;
-use po_actions::{Core, Deadline, End, Ticket};
+use po_core::{Core, Deadline, End, Ticket};
 use po_classic_units::Trap;
 use po_index::EntryRef;
 use std::io::{self, Print};

@@ -7,7 +7,7 @@ use crate::engine::Engine;
 use crate::races::race;
 use crate::team::Round;
 use crate::work::Task;
-use po_actions::{Core, End, Order};
+use po_core::{Core, End, Order};
 use po_classic_units::ScriptUnit;
 use po_index::EntryRef;
 use po_object::hold::Pass;

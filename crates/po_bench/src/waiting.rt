@@ -5,7 +5,7 @@ use crate::engine::{Cancelling, Engine, make_trap};
 use crate::measure::Measure;
 use crate::plan::Plan;
 use crate::report::pair;
-use po_actions::{Core, Deadline, Ticket};
+use po_core::{Core, Deadline, Ticket};
 use po_classic_units::Trap;
 use po_index::EntryRef;
 use std::io::{self, Print};

@@ -5,7 +5,7 @@ ghost use Rattle.std.specs.Prelude.{◌≡◌, ◌≤◌, ◌+◌};
 use crate::scenes::{Made, NOT_CLOSED, START, Scene, play};
 use crate::shared::Shared;
 use crate::stage::Stage;
-use po_actions::{Aborted, End, Order, Refusal, Volume};
+use po_core::{Aborted, End, Order, Refusal, Volume};
 use po_bounded_object::hold::BoundedPass;
 use po_bounded_object::{BoundedClosed, BoundedObject, CallLedger};
 use po_index::EntryRef;

@@ -5,7 +5,7 @@ use crate::shared::Shared;
 use crate::stage::Stage;
 use crate::threads::{Work, sees_waiting};
 use crate::{bounded, recorded};
-use po_actions::End;
+use po_core::End;
 use po_classic_units::{Allocator, ScriptUnit};
 use po_index::EntryRef;
 use std::alloc::{AllocError, Global};

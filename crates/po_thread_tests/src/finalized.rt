@@ -6,7 +6,7 @@ use crate::shared::Shared;
 use crate::stage::Stage;
 use crate::threads::{Work, sees_waiting, single};
 use crate::{bounded, recorded};
-use po_actions::End;
+use po_core::End;
 use po_classic_units::Buffer;
 use po_object::{Closed, every_answer, reconcile};
 use po_units::buffer_law;

@@ -6,7 +6,7 @@ use crate::cuts;
 use crate::scenes::{Made, NOT_CLOSED, START, Scene, play};
 use crate::shared::Shared;
 use crate::stage::Stage;
-use po_actions::{Aborted, Core, End, Order, Refusal, Volume};
+use po_core::{Aborted, Core, End, Order, Refusal, Volume};
 use po_index::EntryRef;
 use po_object::hold::Pass;
 use po_object::{CallLedger, Closed, Object, reconcile};
