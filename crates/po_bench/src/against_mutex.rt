@@ -5,9 +5,8 @@ use crate::engine::{Engine, make_trap};
 use crate::measure::Measure;
 use crate::plan::Plan;
 use crate::report::line;
-use po_core::Core;
 use po_classic_units::Trap;
-use po_machine::Machine;
+use po_core::{BoundedCore, Core};
 use std::alloc::{AllocError, Global};
 use std::io::{self, Print};
 use std::sync::{Mutex, Wait};
@@ -109,7 +108,7 @@ pub(crate) fn print<R: Print + Clock + Wait + AllocGlobal>(rt: &R, plan: &Plan) 
     for _ in 0..plan.batches {
         measure_mutex(rt, plan.commands, &mut mutex)?;
         core.add::<Core<Trap>, R>(rt, plan.commands)?;
-        machine.add::<Machine<Trap>, R>(rt, plan.commands)?;
+        machine.add::<BoundedCore<Trap>, R>(rt, plan.commands)?;
     }
     for (name, measure) in [
         ("mutex_lock_unlock", mutex),
