@@ -1,13 +1,13 @@
-//! What a call, a procedure and a function take, on a core and on a machine, against a lock and unlock of a mutex.
+//! What a call, a procedure and a function take, on a core and on one with fixed memory, against a lock and unlock
+//! of a mutex.
 
 use crate::commands::{Command, OPEN};
 use crate::engine::{Engine, make_trap};
 use crate::measure::Measure;
 use crate::plan::Plan;
 use crate::report::line;
-use po_actions::Core;
 use po_classic_units::Trap;
-use po_machine::Machine;
+use po_core::{BoundedCore, Core};
 use std::alloc::{AllocError, Global};
 use std::io::{self, Print};
 use std::sync::{Mutex, Wait};
@@ -105,20 +105,20 @@ impl Measures {
 /// Measures all, and prints what they take.
 pub(crate) fn print<R: Print + Clock + Wait + AllocGlobal>(rt: &R, plan: &Plan) -> io::Result<()> {
     let mut mutex = Measure::new();
-    let (mut core, mut machine) = (Measures::new(), Measures::new());
+    let (mut core, mut bounded) = (Measures::new(), Measures::new());
     for _ in 0..plan.batches {
         measure_mutex(rt, plan.commands, &mut mutex)?;
         core.add::<Core<Trap>, R>(rt, plan.commands)?;
-        machine.add::<Machine<Trap>, R>(rt, plan.commands)?;
+        bounded.add::<BoundedCore<Trap>, R>(rt, plan.commands)?;
     }
     for (name, measure) in [
         ("mutex_lock_unlock", mutex),
         ("issue_and_collect", core.call),
         ("run", core.procedure),
         ("read", core.function),
-        ("machine_issue_and_collect", machine.call),
-        ("machine_run", machine.procedure),
-        ("machine_read", machine.function),
+        ("machine_issue_and_collect", bounded.call),
+        ("machine_run", bounded.procedure),
+        ("machine_read", bounded.function),
     ] {
         line(rt, plan, name, measure, mutex)?;
     }

@@ -2,8 +2,8 @@
 
 use crate::engine::{Engine, make_trap};
 use crate::measure::Measure;
-use po_actions::{Deadline, End};
 use po_classic_units::Trap;
+use po_core::{Deadline, End};
 use std::io;
 use std::time::{Clock, Instant};
 

@@ -1,11 +1,12 @@
-//! What commands are measured on: a core, or a machine, whose memory is fixed.
+//! What commands are measured on: a core that records its history, or one whose memory is fixed.
 
-ghost use Rattle.std.specs.Prelude.{◌≡◌, IfSome};
+ghost use Rattle.std.specs.Prelude.{◌≡◌, IfSome, Some};
 
-use po_actions::{Aborted, Core, Deadline, End, Order, Start, Ticket};
 use po_classic_units::{ScriptUnit, Trap};
+use po_core::{
+    Aborted, BoundedCore, Core, Deadline, End, Order, Record, Recorded, Start, Ticket, Unrecorded,
+};
 use po_index::EntryRef;
-use po_machine::Machine;
 use std::alloc::{AllocError, Global};
 
 /// Who makes all calls.
@@ -23,7 +24,7 @@ const WAIT: EntryRef = EntryRef {
 /// The function State of the trap.
 const STATE: u16 = 0;
 
-/// How many uncollected calls a machine has memory for.
+/// How many uncollected calls a core with fixed memory has room for.
 const MOST: usize = 1;
 
 /// The number of the first call, the place of the first event, and no greatest length of a queue.
@@ -33,17 +34,36 @@ const START: Start = Start {
     max_queue: None,
 };
 
-/// A machine of the unit with memory for so many uncollected calls, or none where memory is wanting.
-pub(crate) fn make_machine<U: ScriptUnit>(
+/// A core of the unit with memory for so many uncollected calls, or none where memory is wanting.
+pub(crate) fn make_bounded<U: ScriptUnit>(
     alloc: Global,
     unit: U,
     order: Order,
     most: usize,
-) -> Option<Machine<U>>
-    ensures { IfSome result (λ machine. machine.most ≡ most) }
+) -> Option<BoundedCore<U>>
+    ensures { IfSome result (λ core. core.capacity ≡ Some most) }
 {
     let shape = unit.shape(alloc).ok()?;
-    Machine::start(alloc, unit, shape, order, START, most).ok()
+    BoundedCore::with_capacity(alloc, unit, shape, order, START, most).ok()
+}
+
+/// What a core that is measured keeps of what has happened.
+pub(crate) trait Kept<U: ScriptUnit>: Record<U> + Drop {
+    /// A core of the unit that keeps this, or none where memory is wanting.
+    fn make_core(alloc: Global, unit: U, order: Order) -> Option<Core<U, Self>>;
+}
+
+impl<U: ScriptUnit> Kept<U> for Recorded<U> {
+    fn make_core(alloc: Global, unit: U, order: Order) -> Option<Core<U>> {
+        let shape = unit.shape(alloc).ok()?;
+        Core::start(alloc, unit, shape, order, START).ok()
+    }
+}
+
+impl<U: ScriptUnit> Kept<U> for Unrecorded<U> {
+    fn make_core(alloc: Global, unit: U, order: Order) -> Option<BoundedCore<U>> {
+        make_bounded(alloc, unit, order, MOST)
+    }
 }
 
 /// An object whose commands are measured.
@@ -90,12 +110,11 @@ pub(crate) fn make_trap<E: Engine<Unit = Trap>>(alloc: Global) -> Result<E, Allo
     E::make(alloc, Trap::new(), Order::Textual).ok_or(AllocError)
 }
 
-impl<U: ScriptUnit> Engine for Core<U> {
+impl<U: ScriptUnit, R: Kept<U>> Engine for Core<U, R> {
     type Unit = U;
 
-    fn make(alloc: Global, unit: U, order: Order) -> Option<Core<U>> {
-        let shape = unit.shape(alloc).ok()?;
-        Core::start(alloc, unit, shape, order, START).ok()
+    fn make(alloc: Global, unit: U, order: Order) -> Option<Core<U, R>> {
+        R::make_core(alloc, unit, order)
     }
 
     fn issue(&mut self, entry: EntryRef, value: u64, deadline: Deadline) -> Option<Ticket> {
@@ -126,33 +145,5 @@ impl<U: ScriptUnit> Cancelling for Core<U> {
 
     fn abort(&mut self, ticket: Ticket) -> bool {
         matches!(Core::abort(self, ticket.number), Ok(Aborted::Cancelled))
-    }
-}
-
-impl<U: ScriptUnit> Engine for Machine<U> {
-    type Unit = U;
-
-    fn make(alloc: Global, unit: U, order: Order) -> Option<Machine<U>> {
-        make_machine(alloc, unit, order, MOST)
-    }
-
-    fn issue(&mut self, entry: EntryRef, value: u64, deadline: Deadline) -> Option<Ticket> {
-        Machine::issue(self, OWNER, entry, value, deadline).ok()
-    }
-
-    fn collect(&mut self, ticket: Ticket) -> Option<End<u64>> {
-        Machine::collect(self, ticket)
-    }
-
-    fn run(&mut self, value: u64) -> bool {
-        Machine::run(self, OWNER, PROCEDURE, value).is_ok()
-    }
-
-    fn raise_clock(&mut self) -> bool {
-        self.tick(self.clock().saturating_add(1)).is_ok()
-    }
-
-    fn read(&self) -> Option<u64> {
-        Machine::read(self, STATE, 0).ok()?.ok()
     }
 }

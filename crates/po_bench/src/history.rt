@@ -10,8 +10,8 @@ use crate::engine::{Engine, make_trap};
 use crate::measure::Measure;
 use crate::plan::Plan;
 use crate::report::pair;
-use po_actions::Core;
 use po_classic_units::Trap;
+use po_core::Core;
 use std::io::{self, Print};
 use std::time::Clock;
 

@@ -1,4 +1,5 @@
-//! The program `po_bench`: what commands cost on a core and on a machine, and calls of an object that threads share.
+//! The program `po_bench`: what commands cost on a core, also on one with fixed memory, and calls of an object that threads
+//! share.
 //!
 //! A measurement of commands is taken in batches, and what counts is the batch in which a command took the least, since
 //! what else the machine does can only add to it; in `history` it is the round of batches in which a command took the least
@@ -17,14 +18,13 @@
 //! and in the worst, and the ratio of the median to that of its unit: of one thread's lock and unlock of a mutex, of four
 //! threads', or of the same buffer over a mutex and two condition variables.
 //!
-//! `machine CALLS` issues and collects so many calls on one machine, and prints a line as of `full`: to look at the memory
-//! meanwhile. `row WORK THREADS TURNS` takes a round of one row, and prints its words, how often the work was done, and the
-//! nanoseconds of the round: for programs that compare. Where the word for the work begins with `bounded-`, the object is one
-//! with fixed memory.
+//! `machine CALLS` issues and collects so many calls on one core with fixed memory, and prints a line as of `full`: to look
+//! at the memory meanwhile. `row WORK THREADS TURNS` takes a round of one row, and prints its words, how often the work was
+//! done, and the nanoseconds of the round: for programs that compare. Where the word for the work begins with `bounded-`, the
+//! object is one with fixed memory.
 #![tactic(auto)]
 
 mod against_mutex;
-mod bounded;
 mod callers;
 mod commands;
 mod engine;
@@ -34,9 +34,9 @@ mod history;
 mod long;
 mod measure;
 mod monitor;
+mod objects;
 mod plan;
 mod races;
-mod recorded;
 mod report;
 mod rows;
 mod team;

@@ -1,8 +1,7 @@
 //! The objects on which threads work.
 
-use crate::bounded::race_bounded;
 use crate::monitor::race_on_monitor;
-use crate::recorded::race_recorded;
+use crate::objects::{race_bounded, race_recorded};
 use crate::team::Round;
 use crate::work::{Kind, Task, Work};
 use po_classic_units::{Allocator, Buffer, Meeting, ScriptUnit, Trap};

@@ -20,7 +20,7 @@ pub(crate) enum Wanted {
     Commands(u64),
     /// What the work of threads takes, in so many rounds.
     Threads(u32),
-    /// So many calls on one machine.
+    /// So many calls on one core with fixed memory.
     Machine(u64),
     /// One row of the work of threads.
     Row(Task),

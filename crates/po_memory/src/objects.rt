@@ -7,7 +7,7 @@ ghost use Rattle.po_classic_units.specs.Sizes.{IsSizeWhere};
 
 use crate::cores::make_again;
 use crate::refusals::Refusals;
-use po_actions::{Core, End, Order, Refusal, Volume};
+use po_core::{Core, End, Order, Refusal, Volume};
 use po_classic_units::{Allocator, ScriptUnit};
 use po_index::EntryRef;
 use po_object::hold::Pass;

@@ -1,6 +1,6 @@
 //! What one thread asks of an object, and what it is answered.
 
-use po_actions::{Aborted, End, Refusal};
+use po_core::{Aborted, End, Refusal};
 use po_index::EntryRef;
 use po_object::hold::Pass;
 use po_object::{CallLedger, Object};

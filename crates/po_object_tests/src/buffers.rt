@@ -5,7 +5,7 @@ ghost use Rattle.po_classic_units.specs.Sizes.{IsSize};
 use crate::asks::{GET, same};
 use crate::scenes::Scene;
 use crate::shelf::{NOT_FRESH, perform, show};
-use po_actions::{Core, Deadline, Order};
+use po_core::{Core, Deadline, Order};
 use po_classic_units::{Buffer, ScriptUnit};
 use std::process::Abort;
 use std::sync::Wait;

@@ -1,7 +1,7 @@
 //! What the tests do with an object over a buffer, with the first of its passes, and what is then left of the object.
 
 use crate::asks::{Answer, Ask, GET, PUT, ask_all, same};
-use po_actions::{Deadline, End, Refusal, Volume};
+use po_core::{Deadline, End, Refusal, Volume};
 use po_object::hold::Pass;
 use po_object::{Agreed, CallLedger, Closed, Object, Receipt, every_answer, reconcile};
 use po_unit::Unit;

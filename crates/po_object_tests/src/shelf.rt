@@ -4,7 +4,7 @@ ghost use Rattle.std.specs.Prelude.{◌≡◌, ◌+◌};
 
 use crate::asks::same;
 use crate::scenes::{Scene, look, play};
-use po_actions::{Core, Volume};
+use po_core::{Core, Volume};
 use po_object::hold::Pass;
 use po_object::{CallLedger, CloseFault, Closed, Object, OpenFault};
 use po_unit::Unit;

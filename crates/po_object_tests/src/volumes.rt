@@ -4,7 +4,7 @@ use crate::asks::same;
 use crate::buffers::empty_buffer;
 use crate::scenes::Scene;
 use crate::shelf::{Shelf, perform};
-use po_actions::{Core, Volume};
+use po_core::{Core, Volume};
 use po_object::{Agreed, Closed, ReconcileFault, reconcile};
 use po_unit::Unit;
 use std::process::Abort;

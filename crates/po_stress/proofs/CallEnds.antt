@@ -1,7 +1,7 @@
 -- How calls ended, in numbers: receipt by receipt, and pass by pass.
 use Rattle.std.proofs.Common.{subst, ◌≡◌, ◌<◌, ◌+◌, ◌*◌, ◌++◌, ℕ, List, [], ◌∷◌, length, get_or, slice_get, refl, sym, ap, ◌∙◌, arith, Option, Some, None, Bool, true, false, cond, Result}
 use Rattle.std.specs.List.{All, count_by, sum_by, filter, find}
-use Rattle.std.proofs.lemmas.List.Elements.{All-nil, All-cons, All-head, All-tail, All-from_get_or, All-weaker}
+use Rattle.std.proofs.lemmas.List.Elements.{All-nil, All-cons, All-head, All-tail, All-from_get_or}
 use Rattle.std.proofs.lemmas.List.Sums.{length-filter, sum_by-append, sum_by-cons}
 use Rattle.std.proofs.lemmas.Option.{get_or_from_slice_get}
 use Rattle.po_calls.specs.declared.call.Deadline.{Deadline}
@@ -9,7 +9,6 @@ use Rattle.po_calls.specs.declared.end.End.{End}
 use Rattle.po_calls.specs.declared.end.End.TheVariants.{Completed, Raised, Cancelled, ProgramError}
 use Rattle.po_receipts.specs.declared.receipt.Receipt.{Receipt}
 use Rattle.po_receipts.specs.declared.receipt.Receipt.TheVariants.{Called, Ran}
-use Rattle.po_receipts.specs.Answers.{NonePending}
 use Rattle.po_receipts.specs.Passes.{PassView, IsTallied, is_call, fresh, unfiled}
 use Rattle.po_object.specs.Seats.{is_at, AreFresh, OneEach, AreBySeat, ArePlaced}
 use Rattle.po_object.proofs.Seating.{kept-found, sum-by_seat}
@@ -105,11 +104,6 @@ module _ {V : Type 0} where
       (λ i within.
       let same : get_or ps i (fresh 0) ≡ fresh i = get_or_from_slice_get ps i (fresh i) (fresh 0) (h.1 i (omega (arith, within, h.0))) in
       (ap (λ (p : PassView V). p.pending) same, ap (λ (p : PassView V). p.receipts) same))
-
-  -- so none of their calls is pending
-  pub fresh-free : (n : ℕ) (ps : List (PassView V)) → AreFresh n ps → NonePending ps
-  fresh-free n ps h =
-      All-weaker (λ (pass : PassView V). (pass.pending ≡ None) × (pass.receipts ≡ [])) (λ pass. pass.pending ≡ None) (λ pass unused. unused.0) ps (fresh-unused n ps h)
 
   filed-by-more : (ending : Ending) (ps : List (PassView V)) (pass : PassView V)
       → filed_by_all ending (ps ++ pass ∷ []) ≡ filed_by_all ending ps + filed_as ending pass.receipts

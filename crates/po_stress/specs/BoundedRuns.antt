@@ -6,8 +6,7 @@ use Rattle.po_actions.specs.Headline.{Headline}
 use Rattle.po_classic_units.specs.Buffer.{buffer_meaning}
 use Rattle.po_classic_units.specs.Allocator.{allocator_meaning}
 use Rattle.po_classic_units.specs.Meeting.{meeting_meaning}
-use Rattle.po_object.specs.Closing.{IsClosed}
-use Rattle.po_bounded_object.specs.Closing.{BoundedClosedView, closed_of}
+use Rattle.po_object.specs.Closing.{ClosedView, IsClosed}
 use Rattle.po_stress.specs.declared.counting.Ending.TheVariants.{Done, GivenUp, Failed}
 use Rattle.po_stress.specs.declared.totals.Totals.{Totals}
 use Rattle.po_stress.specs.declared.unit.StressUnit.{StressUnit}
@@ -15,10 +14,10 @@ use Rattle.po_stress.specs.declared.unit.StressUnit.TheVariants.{Buffer, Allocat
 use Rattle.po_stress.specs.Ends.{filed_by_all}
 use Rattle.po_stress.specs.Totals.{agree}
 
--- As many calls were issued as the machine's history issues. The other numbers are those of the receipts that were filed with
+-- As many calls were issued as the core's history issues. The other numbers are those of the receipts that were filed with
 -- the passes, by how their calls ended. History and receipts are known to proofs alone.
-pub record AreTotalsOf {S : Type 0} (closed : BoundedClosedView S ℕ) (t : Totals) : Type 0 where
-  pub issued : t.issued ≡ count_by is_issue closed.machine.object.events
+pub record AreTotalsOf {S : Type 0} (closed : ClosedView S ℕ) (t : Totals) : Type 0 where
+  pub issued : t.issued ≡ count_by is_issue closed.core.object.events
   pub completed : t.completed ≡ filed_by_all Done closed.passes
   pub cancelled : t.cancelled ≡ filed_by_all GivenUp closed.passes
   pub program_error : t.program_error ≡ filed_by_all Failed closed.passes
@@ -28,11 +27,11 @@ pub record AreTotalsOf {S : Type 0} (closed : BoundedClosedView S ℕ) (t : Tota
 -- calls that the thread was to make; so all of them were issued, and each of them ended in one of the three ways. So the totals
 -- agree.
 pub record IsBoundedRun {S : Type 0} (m : Meaning S ℕ) (threads calls : ℕ) (t : Totals) : Type 0 where
-  pub closed : BoundedClosedView S ℕ
+  pub closed : ClosedView S ℕ
   pub seats : length closed.passes ≡ threads
   pub tallies : All (λ pass. pass.calls ≡ calls) closed.passes
-  pub totals : IsClosed (closed_of closed)
-  pub headline : Headline m closed.machine.object
+  pub totals : IsClosed closed
+  pub headline : Headline m closed.core.object
   pub told : AreTotalsOf closed t
   pub issued : t.issued ≡ threads * calls
   pub sums : t.completed + t.cancelled + t.program_error ≡ threads * calls

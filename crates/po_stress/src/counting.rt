@@ -4,7 +4,7 @@ ghost use Rattle.std.specs.Prelude.{◌≡◌, count_by};
 ghost use Rattle.po_actions.specs.Base.{is_issue};
 ghost use Rattle.po_stress.specs.Counts.{ends_as, issues_ended};
 
-use po_actions::{Core, End, Event};
+use po_core::{Core, End, Event};
 use po_unit::Unit;
 
 /// How a call ended, as far as a report tells it.

@@ -6,7 +6,7 @@ ghost use Rattle.po_receipts.specs.declared.receipt.Receipt.{Receipt};
 ghost use Rattle.po_receipts.specs.declared.receipt.Receipt.TheVariants.{Called};
 ghost use Rattle.po_stress.specs.Ends.{AreEndsOf, all_of};
 
-use po_actions::End;
+use po_core::End;
 
 /// How many calls ended in each way.
 #[derive(Clone, Copy, Debug, PartialEq, Eq)]

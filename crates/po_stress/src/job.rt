@@ -3,7 +3,7 @@
 use crate::loaded::Loaded;
 use crate::progress::Progress;
 use crate::unit::StressUnit;
-use po_actions::Refusal;
+use po_core::Refusal;
 use po_index::EntryRef;
 use std::sync::Wait;
 
@@ -49,8 +49,8 @@ fn pieces(seat: u16, j: u32) -> u64 {
 }
 
 /// Makes the caller's call with this number, counted from 0, and of an allocator the release that follows it.
-fn call_once<O: Loaded, R: Wait>(
-    rt: &R,
+fn call_once<O: Loaded, W: Wait>(
+    rt: &W,
     object: &O,
     caller: &mut O::Caller,
     job: Job,
@@ -77,8 +77,8 @@ fn call_once<O: Loaded, R: Wait>(
 
 /// Ends the run where a thread was refused: it notes that memory was wanting, and finalizes the object, so that no other
 /// thread waits for what this one doesn't do. Where the object is finalized already, another thread has done so.
-pub(crate) fn give_up<O: Loaded, R: Wait>(
-    rt: &R,
+pub(crate) fn give_up<O: Loaded, W: Wait>(
+    rt: &W,
     object: &O,
     progress: &Progress,
     refusal: Refusal,
@@ -90,8 +90,8 @@ pub(crate) fn give_up<O: Loaded, R: Wait>(
 }
 
 /// Makes all calls of a caller, and gives it back.
-pub(crate) fn call_all<O: Loaded, R: Wait>(
-    rt: &R,
+pub(crate) fn call_all<O: Loaded, W: Wait>(
+    rt: &W,
     object: &O,
     progress: &Progress,
     mut caller: O::Caller,
@@ -108,7 +108,7 @@ pub(crate) fn call_all<O: Loaded, R: Wait>(
 }
 
 /// Raises the clock to this time, and attempts to cancel the call of each seat, in turn.
-fn disturb_once<O: Loaded, R: Wait>(rt: &R, object: &O, time: u64) -> Result<(), Refusal> {
+fn disturb_once<O: Loaded, W: Wait>(rt: &W, object: &O, time: u64) -> Result<(), Refusal> {
     object.raise_clock(rt, time)?;
     for seat in 0..object.seat_count() {
         object.cancel_seat(rt, seat);
@@ -117,7 +117,7 @@ fn disturb_once<O: Loaded, R: Wait>(rt: &R, object: &O, time: u64) -> Result<(),
 }
 
 /// Raises the clock to 1, 2 and so on, and after each attempts to cancel the call of each seat.
-pub(crate) fn disturb<O: Loaded, R: Wait>(rt: &R, object: &O, progress: &Progress, ticks: u32) {
+pub(crate) fn disturb<O: Loaded, W: Wait>(rt: &W, object: &O, progress: &Progress, ticks: u32) {
     for n in 0..ticks {
         if let Err(refusal) = disturb_once(rt, object, u64::from(n) + 1) {
             give_up(rt, object, progress, refusal);

@@ -2,22 +2,20 @@
 //! history.
 #![tactic(auto)]
 
-mod bounded;
-mod bounded_run;
-mod bounded_threads;
+mod caller;
 mod counting;
 mod ends;
 mod fault;
 mod job;
+mod kinds;
 mod loaded;
 mod piece;
 mod progress;
-mod recorded;
-mod recorded_run;
-mod recorded_threads;
 mod report;
+mod run;
 mod runs;
 mod sums;
+mod threads;
 mod totals;
 mod unit;
 

@@ -1,6 +1,6 @@
 //! What the threads of a run need of an object.
 
-use po_actions::Refusal;
+use po_core::Refusal;
 use po_index::EntryRef;
 use std::sync::Wait;
 
@@ -16,18 +16,18 @@ pub(crate) trait Loaded {
     fn seat_of(caller: &Self::Caller) -> u16;
 
     /// Calls an entry, and waits for the end of the call (9.5.3).
-    fn enter<R: Wait>(
+    fn enter<W: Wait>(
         &self,
-        rt: &R,
+        rt: &W,
         caller: &mut Self::Caller,
         entry: EntryRef,
         value: u64,
     ) -> Result<(), Refusal>;
 
     /// Calls an entry, and gives the call up where it isn't selected before the deadline (9.7.2).
-    fn enter_before<R: Wait>(
+    fn enter_before<W: Wait>(
         &self,
-        rt: &R,
+        rt: &W,
         caller: &mut Self::Caller,
         entry: EntryRef,
         value: u64,
@@ -35,20 +35,20 @@ pub(crate) trait Loaded {
     ) -> Result<(), Refusal>;
 
     /// Runs a procedure (9.5.1).
-    fn run_procedure<R: Wait>(
+    fn run_procedure<W: Wait>(
         &self,
-        rt: &R,
+        rt: &W,
         caller: &mut Self::Caller,
         op: u16,
         value: u64,
     ) -> Result<(), Refusal>;
 
     /// Raises the clock.
-    fn raise_clock<R: Wait>(&self, rt: &R, time: u64) -> Result<(), Refusal>;
+    fn raise_clock<W: Wait>(&self, rt: &W, time: u64) -> Result<(), Refusal>;
 
     /// Attempts to cancel the seat's call, if one is queued (9.5.3).
-    fn cancel_seat<R: Wait>(&self, rt: &R, seat: u16);
+    fn cancel_seat<W: Wait>(&self, rt: &W, seat: u16);
 
     /// Finalizes the object, if it isn't finalized (9.4).
-    fn end_all<R: Wait>(&self, rt: &R);
+    fn end_all<W: Wait>(&self, rt: &W);
 }

@@ -8,7 +8,7 @@ use crate::counting::{Ending, ended, issued};
 use crate::piece::{Piece, write_pieces};
 use crate::sums::recall_sums;
 use crate::totals::Totals;
-use po_actions::Volume;
+use po_core::Volume;
 use po_object::{Agreed, Closed, ReconcileFault, reconcile};
 use po_script::{IoFailed, Sink};
 use po_unit::Unit;

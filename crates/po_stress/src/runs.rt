@@ -9,17 +9,15 @@ ghost use Rattle.po_stress.specs.Runs.{IsRun, IsRunOf};
 ghost use Rattle.po_stress.specs.BoundedRuns.{IsBoundedRun, IsBoundedRunOf};
 ghost use Rattle.po_stress.specs.Units.{is_paired};
 
-use crate::bounded_run::run_bounded;
 use crate::fault::StressFault;
 use crate::job::Job;
+use crate::kinds::{run, run_bounded};
 use crate::progress::Progress;
-use crate::recorded_run::run;
 use crate::report::Report;
 use crate::totals::Totals;
 use crate::unit::StressUnit;
-use po_actions::{Core, Order, Start};
 use po_classic_units::{Allocator, Buffer, Meeting, ScriptUnit};
-use po_machine::Machine;
+use po_core::{BoundedCore, Core, Order, Start};
 use po_unit::Unit;
 use std::alloc::AllocError;
 use std::marker::Brand;
@@ -52,8 +50,8 @@ const START: Start = Start {
 /// A run over an object that records the history of this unit.
 fn run_recorded<
     U: ScriptUnit + Unit<Value = u64> + Send + Sync + Drop + 'static,
-    R: Threads + Wait + AllocGlobal + Copy + Send + 'static,
->(rt: R, unit: U, progress: &Arc<Progress>, job: Job, threads: u16) -> Result<Report, StressFault>
+    W: Threads + Wait + AllocGlobal + Copy + Send + 'static,
+>(rt: W, unit: U, progress: &Arc<Progress>, job: Job, threads: u16) -> Result<Report, StressFault>
     ensures report { IfOk result (IsRun U.meaning threads job.calls) }
     ensures fault { IfErr result (λ fault. fault ≡ StressFault.OutOfMemory) }
 {
@@ -61,26 +59,31 @@ fn run_recorded<
     let core = Core::start(rt.alloc(), unit, shape, Order::Textual, START).map_err(|_| AllocError)?;
     let parts = u64::from(threads) + 1;
     let (calls, procedures) = (Blank::new(parts), Blank::new(parts));
-    run::<U, Brand, Brand, R>(rt, core, progress, job, threads, calls, procedures)
+    run::<U, Brand, Brand, W>(rt, core, progress, job, threads, calls, procedures)
 }
 
 /// A run over an object of this unit with fixed memory: for one call of each thread.
 fn run_fixed<
     U: ScriptUnit + Unit<Value = u64> + Send + Sync + Drop + 'static,
-    R: Threads + Wait + AllocGlobal + Copy + Send + 'static,
->(rt: R, unit: U, progress: &Arc<Progress>, job: Job, threads: u16) -> Result<Totals, StressFault>
+    W: Threads + Wait + AllocGlobal + Copy + Send + 'static,
+>(rt: W, unit: U, progress: &Arc<Progress>, job: Job, threads: u16) -> Result<Totals, StressFault>
     ensures totals { IfOk result (IsBoundedRun U.meaning threads job.calls) }
     ensures fault { IfErr result (λ fault. fault ≡ StressFault.OutOfMemory) }
 {
     let shape = unit.shape(rt.alloc()).map_err(|_| AllocError)?;
     let most = usize::from(threads);
-    let machine = Machine::start(rt.alloc(), unit, shape, Order::Textual, START, most).map_err(
-        |_| AllocError,
-    )?;
+    let core = BoundedCore::with_capacity(
+        rt.alloc(),
+        unit,
+        shape,
+        Order::Textual,
+        START,
+        most,
+    ).map_err(|_| AllocError)?;
     let parts = u64::from(threads) + 1;
     let (calls, procedures, free) = (Blank::new(parts), Blank::new(parts), Blank::new(parts));
-    run_bounded::<U, Brand, Brand, Brand, R>(
-        rt, machine, progress, job, threads, calls, procedures, free,
+    run_bounded::<U, Brand, Brand, Brand, W>(
+        rt, core, progress, job, threads, calls, procedures, free,
     )
 }
 
@@ -92,8 +95,8 @@ fn is_uneven(unit: StressUnit, threads: u16) -> bool
 }
 
 /// A run over the unit.
-fn load<R: Threads + Wait + AllocGlobal + Copy + Send + 'static>(
-    rt: R,
+fn load<W: Threads + Wait + AllocGlobal + Copy + Send + 'static>(
+    rt: W,
     progress: &Arc<Progress>,
     unit: StressUnit,
     threads: u16,
@@ -125,8 +128,8 @@ fn load<R: Threads + Wait + AllocGlobal + Copy + Send + 'static>(
 }
 
 /// A run over the unit, on an object with fixed memory.
-fn load_fixed<R: Threads + Wait + AllocGlobal + Copy + Send + 'static>(
-    rt: R,
+fn load_fixed<W: Threads + Wait + AllocGlobal + Copy + Send + 'static>(
+    rt: W,
     progress: &Arc<Progress>,
     unit: StressUnit,
     threads: u16,
@@ -159,8 +162,8 @@ fn load_fixed<R: Threads + Wait + AllocGlobal + Copy + Send + 'static>(
 
 /// Has so many threads make so many calls each on one object, closes it, and reports whether all that they were answered
 /// agrees with the object's history.
-pub fn stress<R: Threads + Wait + AllocGlobal + Copy + Send + 'static>(
-    rt: R,
+pub fn stress<W: Threads + Wait + AllocGlobal + Copy + Send + 'static>(
+    rt: W,
     unit: StressUnit,
     threads: u16,
     calls: u32,
@@ -181,8 +184,8 @@ pub fn stress<R: Threads + Wait + AllocGlobal + Copy + Send + 'static>(
 }
 
 /// The same, where another thread can look how far the run has come.
-pub fn stress_watched<R: Threads + Wait + AllocGlobal + Copy + Send + 'static>(
-    rt: R,
+pub fn stress_watched<W: Threads + Wait + AllocGlobal + Copy + Send + 'static>(
+    rt: W,
     progress: &Arc<Progress>,
     unit: StressUnit,
     threads: u16,
@@ -200,9 +203,9 @@ pub fn stress_watched<R: Threads + Wait + AllocGlobal + Copy + Send + 'static>(
 }
 
 /// Has so many threads make so many calls each on one object with fixed memory, closes it, and adds up how many calls its
-/// machine issued, and how those ended that the threads made. Another thread can look how far the run has come.
-pub fn stress_bounded<R: Threads + Wait + AllocGlobal + Copy + Send + 'static>(
-    rt: R,
+/// core issued, and how those ended that the threads made. Another thread can look how far the run has come.
+pub fn stress_bounded<W: Threads + Wait + AllocGlobal + Copy + Send + 'static>(
+    rt: W,
     progress: &Arc<Progress>,
     unit: StressUnit,
     threads: u16,

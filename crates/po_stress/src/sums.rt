@@ -1,14 +1,14 @@
 //! What the numbers of a report add up to, where all answers agree with the history.
 
-ghost use Rattle.std.specs.Prelude.{◌≡◌, ◌+◌, ◌↔◌, ◌⊎◌, [], Err, IsOk, All, count_by, sum_by, true};
+ghost use Rattle.std.specs.Prelude.{◌≡◌, ◌+◌, ◌↔◌, ◌⊎◌, [], Err, IsOk, count_by, sum_by};
 ghost use Rattle.po_actions.specs.Base.{is_issue};
 ghost use Rattle.po_receipts.specs.Agreement.{IsAgreed};
 ghost use Rattle.po_stress.specs.Counts.{issues_ended};
 ghost use Rattle.po_stress.specs.declared.counting.Ending.TheVariants.{Done, GivenUp, Failed};
 
-use po_actions::Volume;
+use po_core::Volume;
 use po_object::{Agreed, Closed, ReconcileFault, every_answer};
-use po_receipts::{Spent, closing_counts};
+use po_receipts::closing_counts;
 use po_unit::Unit;
 
 /// Where the reconciliation without volumes says Agreed, the history issued as many calls as the passes counted, and each of
@@ -28,11 +28,4 @@ pub(crate) fn recall_sums<U: Unit>(closed: &Closed<U>, verdict: Result<Agreed, R
     closed.closing_totals();
     every_answer(closed, &volumes);
     closing_counts(closed.core(), closed.passes(), &volumes);
-}
-
-/// Whether each pass counted so many calls.
-pub(crate) fn counted_all<V: Copy>(passes: &[Spent<V>], calls: u32) -> bool
-    ensures { (result ≡ true) ↔ All (λ pass. pass.calls ≡ calls) passes.now }
-{
-    passes.iter().all(|pass| pass.calls() == u64::from(calls))
 }

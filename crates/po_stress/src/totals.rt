@@ -10,7 +10,7 @@ use crate::piece::{Piece, write_pieces};
 use crate::report::{GOOD, MISMATCH};
 use po_script::{IoFailed, Sink};
 
-/// What a run over an object with fixed memory came to: how many calls its machine issued, and how those ended that its
+/// What a run over an object with fixed memory came to: how many calls its core issued, and how those ended that its
 /// callers made, as they counted.
 #[derive(Clone, Copy, Debug, PartialEq, Eq)]
 pub struct Totals {
@@ -25,7 +25,7 @@ pub struct Totals {
 }
 
 impl Totals {
-    /// Those of a machine that issued so many calls, with the ends that its callers counted.
+    /// Those of a core that issued so many calls, with the ends that its callers counted.
     pub(crate) fn of(issued: u64, ends: Ends) -> Totals
         ensures issued { result.issued ≡ issued }
         ensures completed { result.completed ≡ ends.completed }

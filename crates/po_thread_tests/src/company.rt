@@ -6,7 +6,7 @@ use crate::shared::Shared;
 use crate::stage::Stage;
 use crate::threads::{Work, sees_waiting, single};
 use crate::{bounded, recorded};
-use po_actions::End;
+use po_core::End;
 use std::io::{self, Print};
 use std::sync::Wait;
 use std::thread::Threads;

@@ -4,7 +4,7 @@ use crate::shared::Shared;
 use crate::stage::Stage;
 use crate::team::Team;
 use crate::threads::Work;
-use po_actions::{Refusal, Volume};
+use po_core::{Refusal, Volume};
 use po_object::{Closed, ReconcileFault, reconcile};
 use po_unit::Unit;
 use std::alloc::AllocError;

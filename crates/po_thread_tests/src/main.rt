@@ -14,6 +14,7 @@ mod company;
 mod cuts;
 mod finalized;
 mod held_lock;
+mod objects;
 mod recorded;
 mod reports;
 mod runs;

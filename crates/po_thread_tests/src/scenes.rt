@@ -3,7 +3,7 @@
 use crate::shared::Shared;
 use crate::stage::Stage;
 use crate::{answers, cancelled, company, cuts, finalized, held_lock, second_wait, side_by_side};
-use po_actions::Start;
+use po_core::Start;
 use po_index::Shape;
 use std::io::{self, Print};
 use std::sync::Wait;

@@ -4,7 +4,7 @@ use crate::buffers::{GET, PUT};
 use crate::shared::Shared;
 use crate::stage::Stage;
 use crate::threads::{Work, sees_waiting, single};
-use po_actions::End;
+use po_core::End;
 use std::io::{self, Print};
 use std::sync::Wait;
 use std::thread::{self, Threads};

@@ -1,6 +1,6 @@
 //! What the tests ask of an object that threads share, whether it keeps its history or not.
 
-use po_actions::{Aborted, End, Refusal, Volume};
+use po_core::{Aborted, End, Refusal, Volume};
 use po_index::EntryRef;
 use std::io::{self, Print};
 use std::sync::Wait;

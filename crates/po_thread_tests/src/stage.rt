@@ -3,7 +3,7 @@
 use crate::shared::Shared;
 use crate::team::Team;
 use crate::threads::{Work, single, start};
-use po_actions::{End, Refusal, Volume};
+use po_core::{End, Refusal, Volume};
 use std::alloc::{AllocError, Global};
 use std::io::{self, Print};
 use std::sync::{Arc, Wait};

@@ -2,7 +2,7 @@
 
 use crate::shared::Shared;
 use crate::team::{LOOKS, PAUSE, Team};
-use po_actions::End;
+use po_core::End;
 use po_index::EntryRef;
 use std::alloc::AllocError;
 use std::sync::{Arc, Wait};

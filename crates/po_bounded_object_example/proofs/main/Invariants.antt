@@ -10,4 +10,4 @@ abbrev pub ghosts-use_object-F-Ledger : goal.ghosts-use_object-F-Ledger
 ghosts-use_object-F-Ledger g a = record { name = a.free.name; parts = a.free.parts }
 
 abbrev pub ghosts-use_object-C-CallLedger : goal.ghosts-use_object-C-CallLedger
-ghosts-use_object-C-CallLedger g a = record { shape = a.machine.object.making.shape }
+ghosts-use_object-C-CallLedger g a = record { shape = a.core.object.making.shape }

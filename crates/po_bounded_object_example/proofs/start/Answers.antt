@@ -1,5 +1,5 @@
 -- The thread that `start` makes may own what it captures: the handle, the shared object, a pass and plain values. Nothing
--- says by itself that books and shares of ledgers may be shared, and so the object: that is a lemma of po_bounded_object.
+-- says by itself that books and shares of ledgers may be shared, and so the object: that is a lemma of po_object.
 use Rattle.std.proofs.Common.{ℕ}
 use denote.Exit as Exit
 use denote.Param as Param
@@ -9,11 +9,11 @@ use denote.Struct.Declared as Declared
 use denote.Struct.Field as Field
 use denote.Struct.Tuple as Tuple
 use mathlib.Core.List.{List, [], ◌∷◌}
-use Rattle.po_bounded_object.proofs.Shared.{object_sync}
-use Rattle.po_bounded_object.proofs.object.BoundedObject.TheSendSync as object
-use Rattle.po_bounded_object.proofs.pass.BoundedPass.TheSendSync as pass
-use Rattle.po_bounded_object.specs.contracts.object.BoundedObject as Object
-use Rattle.po_bounded_object.specs.contracts.pass.BoundedPass as Pass
+use Rattle.po_object.proofs.Shared.{object_sync}
+use Rattle.po_object.proofs.object.Object.TheSendSync as object
+use Rattle.po_object.proofs.pass.Pass.TheSendSync as pass
+use Rattle.po_object.specs.contracts.object.Object as Object
+use Rattle.po_object.specs.contracts.pass.Pass as Pass
 use Rattle.po_bounded_object_example.proofs.start.Goals as goal
 use Rattle.po_classic_units.proofs.buffer.Buffer.TheSendSync as buffer
 use Rattle.po_classic_units.specs.contracts.buffer.Buffer as Buffer

@@ -10,4 +10,4 @@ abbrev pub ghosts-open_and_close-F-Ledger : goal.ghosts-open_and_close-F-Ledger
 ghosts-open_and_close-F-Ledger g a = record { name = a.free.name; parts = a.free.parts }
 
 abbrev pub ghosts-open_and_close-C-CallLedger : goal.ghosts-open_and_close-C-CallLedger
-ghosts-open_and_close-C-CallLedger g a = record { shape = a.machine.object.making.shape }
+ghosts-open_and_close-C-CallLedger g a = record { shape = a.core.object.making.shape }

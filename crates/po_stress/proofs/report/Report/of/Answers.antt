@@ -1,6 +1,6 @@
 use Rattle.std.proofs.Common.{◌≡◌, ◌+◌, ℕ, ◌∙◌, ap, count_by, arith}
 use Rattle.po_actions.specs.Base.{is_issue}
-use Rattle.po_actions.specs.Tickets.{CoreView}
+use Rattle.po_core.specs.Tickets.{CoreView}
 use Rattle.po_stress.specs.Counts.{issues_ended}
 use Rattle.po_stress.specs.declared.counting.Ending.{Ending}
 use Rattle.po_stress.specs.declared.counting.Ending.TheVariants.{Done, GivenUp, Failed}

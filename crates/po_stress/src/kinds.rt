@@ -1,0 +1,189 @@
+//! What runs over the two kinds of objects differ in: how the object is opened, and what is said of it once it is closed.
+
+ghost use Rattle.std.specs.Prelude.{◌≡◌, ◌≤◌, ◌+◌, true, false, All, IfOk, IfErr, IfSome, length};
+ghost use Rattle.std.specs.Arc.{arc_value};
+ghost use Rattle.po_object.specs.Seats.{AreFresh};
+ghost use Rattle.po_stress.specs.Ends.{AreEndsOfAll, all_of, calls_of};
+ghost use Rattle.po_stress.specs.Runs.{IsRun};
+ghost use Rattle.po_stress.specs.BoundedRuns.{IsBoundedRun};
+
+use crate::ends::Ends;
+use crate::fault::StressFault;
+use crate::job::Job;
+use crate::progress::Progress;
+use crate::report::Report;
+use crate::run::run_over;
+use crate::totals::Totals;
+use po_core::{BoundedCore, Core, Record};
+use po_object::hold::Pass;
+use po_object::{BoundedClosed, BoundedObject, CallLedger, Closed, Object, OpenFault, Receipts};
+use po_unit::Unit;
+use std::alloc::{AllocError, Global};
+use std::sync::ledger::{Blank, Ledger};
+use std::sync::{Arc, Wait};
+use std::thread::Threads;
+
+/// Lets go what a refused opening hands back.
+fn let_go<U: Unit<Value = u64> + Drop, R: Record<U> + Drop>(_fault: OpenFault<U, R>) -> AllocError {
+    AllocError
+}
+
+/// The object, in a place that threads can share, with its passes.
+fn share<
+    U: Unit<Value = u64> + Drop,
+    C: CallLedger,
+    P: Ledger,
+    F: Ledger,
+    R: Record<U> + Drop,
+    Q: Receipts<u64>,
+>(
+    alloc: Global,
+    object: Object<U, C, P, F, R, Q>,
+    passes: Vec<Pass<u64, C, P, F, Q>>,
+) -> Result<(Arc<Object<U, C, P, F, R, Q>>, Vec<Pass<u64, C, P, F, Q>>), AllocError>
+    ensures object { IfOk result (λ r. arc_value r.0 ≡ object) }
+    ensures passes { IfOk result (λ r. r.1.items ≡ passes.items) }
+{
+    let object = Arc::new(alloc, object)?;
+    Ok((object, passes))
+}
+
+/// Opens an object over the core that threads can share, with a fresh pass for each of its seats.
+fn open_shared<
+    U: Unit<Value = u64> + Drop,
+    C: CallLedger,
+    P: Ledger,
+    F: Ledger,
+    R: Record<U> + Drop,
+    Q: Receipts<u64>,
+>(
+    alloc: Global,
+    core: Core<U, R>,
+    threads: u16,
+    calls: Blank,
+    procedures: Blank,
+) -> Result<(Arc<Object<U, C, P, F, R, Q>>, Vec<Pass<u64, C, P, F, Q>>), AllocError>
+    requires shape { core.object.making.shape ≡ C.shape }
+    requires calls { (calls.name ≡ C.name) × (calls.parts ≡ C.parts) × (calls.parts ≡ threads + 1) }
+    requires procedures { (procedures.name ≡ P.name) × (procedures.parts ≡ P.parts) × (procedures.parts ≡ threads + 1) }
+    requires unbounded { (Q.is_bounded ≡ false) × (R.is_bounded ≡ false) }
+    ensures seats { IfOk result (λ r. arc_value r.0 ≡ threads) }
+    ensures fresh { IfOk result (λ r. AreFresh threads r.1.items) }
+{
+    match Object::<U, C, P, F, R, Q>::open(alloc, core, threads, calls, procedures) {
+        Ok((object, passes)) => share(alloc, object, passes),
+        Err(fault) => Err(let_go(fault)),
+    }
+}
+
+/// Opens an object over the core that takes no memory later, and that threads can share, with a fresh pass for each of its
+/// seats.
+fn open_shared_bounded<
+    U: Unit<Value = u64> + Drop,
+    C: CallLedger,
+    P: Ledger,
+    F: Ledger,
+    R: Record<U> + Drop,
+    Q: Receipts<u64>,
+>(
+    alloc: Global,
+    core: Core<U, R>,
+    threads: u16,
+    calls: Blank,
+    procedures: Blank,
+    free: Blank,
+) -> Result<(Arc<Object<U, C, P, F, R, Q>>, Vec<Pass<u64, C, P, F, Q>>), AllocError>
+    requires shape { core.object.making.shape ≡ C.shape }
+    requires most { IfSome core.capacity (λ most. threads ≤ most) }
+    requires calls { (calls.name ≡ C.name) × (calls.parts ≡ C.parts) × (calls.parts ≡ threads + 1) }
+    requires procedures { (procedures.name ≡ P.name) × (procedures.parts ≡ P.parts) × (procedures.parts ≡ threads + 1) }
+    requires free { (free.name ≡ F.name) × (free.parts ≡ F.parts) × (free.parts ≡ threads + 1) }
+    requires bounded { (Q.is_bounded ≡ true) × (R.is_bounded ≡ true) }
+    ensures seats { IfOk result (λ r. arc_value r.0 ≡ threads) }
+    ensures fresh { IfOk result (λ r. AreFresh threads r.1.items) }
+{
+    match Object::<U, C, P, F, R, Q>::open_bounded(alloc, core, threads, calls, procedures, free) {
+        Ok((object, passes)) => share(alloc, object, passes),
+        Err(fault) => Err(let_go(fault.fault)),
+    }
+}
+
+/// Opens an object over the core, has threads call it, closes it, and reports.
+pub(crate) fn run<
+    U: Unit<Value = u64> + Send + Sync + Drop + 'static,
+    C: CallLedger + Send + Sync + 'static,
+    P: Ledger + Send + Sync + 'static,
+    W: Threads + Wait + AllocGlobal + Copy + Send + 'static,
+>(
+    rt: W,
+    core: Core<U>,
+    progress: &Arc<Progress>,
+    job: Job,
+    threads: u16,
+    calls: Blank,
+    procedures: Blank,
+) -> Result<Report, StressFault>
+    requires shape { core.object.making.shape ≡ C.shape }
+    requires calls { (calls.name ≡ C.name) × (calls.parts ≡ C.parts) × (calls.parts ≡ threads + 1) }
+    requires procedures { (procedures.name ≡ P.name) × (procedures.parts ≡ P.parts) × (procedures.parts ≡ threads + 1) }
+    ensures report { IfOk result (IsRun U.meaning threads job.calls) }
+    ensures fault { IfErr result (λ fault. fault ≡ StressFault.OutOfMemory) }
+{
+    let (object, passes) = open_shared(rt.alloc(), core, threads, calls, procedures)?;
+    let object: Arc<Object<U, C, P>> = object;
+    let (closed, _ends) = run_over(rt, object, passes, progress, job, threads)?;
+    Ok(report_on(&closed, job.calls))
+}
+
+/// Opens an object with fixed memory over the core, has threads call it, closes it, and adds up.
+pub(crate) fn run_bounded<
+    U: Unit<Value = u64> + Send + Sync + Drop + 'static,
+    C: CallLedger + Send + Sync + 'static,
+    P: Ledger + Send + Sync + 'static,
+    F: Ledger + Send + Sync + 'static,
+    W: Threads + Wait + AllocGlobal + Copy + Send + 'static,
+>(
+    rt: W,
+    core: BoundedCore<U>,
+    progress: &Arc<Progress>,
+    job: Job,
+    threads: u16,
+    calls: Blank,
+    procedures: Blank,
+    free: Blank,
+) -> Result<Totals, StressFault>
+    requires shape { core.object.making.shape ≡ C.shape }
+    requires most { IfSome core.capacity (λ most. threads ≤ most) }
+    requires calls { (calls.name ≡ C.name) × (calls.parts ≡ C.parts) × (calls.parts ≡ threads + 1) }
+    requires procedures { (procedures.name ≡ P.name) × (procedures.parts ≡ P.parts) × (procedures.parts ≡ threads + 1) }
+    requires free { (free.name ≡ F.name) × (free.parts ≡ F.parts) × (free.parts ≡ threads + 1) }
+    ensures totals { IfOk result (IsBoundedRun U.meaning threads job.calls) }
+    ensures fault { IfErr result (λ fault. fault ≡ StressFault.OutOfMemory) }
+{
+    let (object, passes) = open_shared_bounded(rt.alloc(), core, threads, calls, procedures, free)?;
+    let object: Arc<BoundedObject<U, C, P, F>> = object;
+    let (closed, ends) = run_over(rt, object, passes, progress, job, threads)?;
+    Ok(totals_of(&closed, ends, job.calls))
+}
+
+/// The report on a closed object each of whose passes counted so many calls, with what holds of each such object.
+fn report_on<U: Unit<Value = u64>>(closed: &Closed<U>, calls: u32) -> Report
+    requires tallies { All (λ pass. pass.calls ≡ calls) closed.now.passes }
+    ensures { IsRun U.meaning (length closed.now.passes) calls result }
+{
+    closed.closing_totals();
+    closed.core().headline();
+    Report::of(closed)
+}
+
+/// The totals of a closed object, with what holds of each such object.
+fn totals_of<U: Unit<Value = u64>>(closed: &BoundedClosed<U>, ends: Ends, calls: u32) -> Totals
+    requires tallies { All (λ pass. pass.calls ≡ calls) closed.now.passes }
+    requires ends { AreEndsOfAll closed.now.passes ends }
+    requires all { all_of ends ≡ calls_of closed.now.passes }
+    ensures { IsBoundedRun U.meaning (length closed.now.passes) calls result }
+{
+    closed.closing_totals();
+    closed.core().headline();
+    Totals::of(closed.core().issued(), ends)
+}

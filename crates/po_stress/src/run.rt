@@ -1,0 +1,172 @@
+//! A run over an object that was opened, from its first call to its closing.
+
+ghost use Rattle.std.specs.Prelude.{◌≡◌, ◌≤◌, All, IfOk, IfErr, OnOk, length, vec_len};
+ghost use Rattle.std.specs.Arc.{arc_value};
+ghost use Rattle.po_object.specs.Seats.{AreFresh, OneEach, AreBySeat};
+ghost use Rattle.po_stress.specs.Ends.{AreEndsOfAll, AreUnused, all_of, calls_of};
+
+use crate::caller::Caller;
+use crate::ends::Ends;
+use crate::fault::StressFault;
+use crate::job::Job;
+use crate::progress::Progress;
+use crate::threads::load;
+use po_core::Record;
+use po_object::hold::Pass;
+use po_object::{CallLedger, Closed, Object, Receipts};
+use po_unit::Unit;
+use std::alloc::{AllocError, Global};
+use std::sync::ledger::Ledger;
+use std::sync::{Arc, Wait};
+use std::thread::Threads;
+
+/// A caller for each pass.
+fn seat_all<C: CallLedger, P: Ledger, F: Ledger, Q: Receipts<u64>>(
+    alloc: Global,
+    mut passes: Vec<Pass<u64, C, P, F, Q>>,
+) -> Result<Vec<Caller<C, P, F, Q>>, AllocError>
+    requires { AreUnused passes.items }
+{
+    let mut callers = Vec::with_capacity(alloc, passes.len())?;
+    while let Some(pass) = passes.pop() {
+        callers.push_reserved(Caller::new(pass));
+    }
+    Ok(callers)
+}
+
+/// The passes of all callers, and how their calls ended: so many of each caller, or there is no answer.
+///
+/// A pass that counted fewer calls was refused one, for want of memory or after another thread had met with it.
+fn leave_all<C: CallLedger, P: Ledger, F: Ledger, Q: Receipts<u64>>(
+    alloc: Global,
+    mut callers: Vec<Caller<C, P, F, Q>>,
+    calls: u32,
+) -> Result<(Vec<Pass<u64, C, P, F, Q>>, Ends), StressFault>
+    requires { vec_len callers ≤ 65_535 }
+    ensures tallies { IfOk result (λ r. All (λ pass. pass.calls ≡ calls) r.0.items) }
+    ensures ends { IfOk result (λ r. AreEndsOfAll r.0.items r.1) }
+    ensures all { IfOk result (λ r. all_of r.1 ≡ calls_of r.0.items) }
+    ensures fault { IfErr result (λ fault. fault ≡ StressFault.OutOfMemory) }
+{
+    let mut passes = Vec::with_capacity(alloc, callers.len())?;
+    let mut all = Ends::new();
+    while let Some(caller) = callers.pop() {
+        let (pass, ends) = caller.leave();
+        if pass.calls() != u64::from(calls) {
+            return Err(StressFault::OutOfMemory);
+        }
+        all.add(ends);
+        passes.push_reserved(pass);
+    }
+    Ok((passes, all))
+}
+
+/// Has a thread for each caller make all its calls, and waits for their ends. The callers are where they were.
+fn call_from<
+    U: Unit<Value = u64> + Send + Sync + Drop + 'static,
+    C: CallLedger + Send + Sync + 'static,
+    P: Ledger + Send + Sync + 'static,
+    F: Ledger + Send + Sync + 'static,
+    R: Record<U> + Send + Sync + Drop + 'static,
+    Q: Receipts<u64> + Send + Sync + 'static,
+    W: Threads + Wait + AllocGlobal + Copy + Send + 'static,
+>(
+    rt: W,
+    object: &Arc<Object<U, C, P, F, R, Q>>,
+    progress: &Arc<Progress>,
+    job: Job,
+    threads: u16,
+    callers: &mut Vec<Caller<C, P, F, Q>>,
+) -> Result<(), AllocError>
+    ensures { OnOk result (vec_len callers.new ≤ threads) }
+{
+    let running = Vec::with_capacity(rt.alloc(), callers.len())?;
+    load(rt, object, progress, job, callers, running);
+    if progress.was_short() || callers.len() > usize::from(threads) {
+        return Err(AllocError);
+    }
+    Ok(())
+}
+
+/// Has a thread for each pass make all its calls, and gives the passes back, and how the calls ended.
+fn call_from_all<
+    U: Unit<Value = u64> + Send + Sync + Drop + 'static,
+    C: CallLedger + Send + Sync + 'static,
+    P: Ledger + Send + Sync + 'static,
+    F: Ledger + Send + Sync + 'static,
+    R: Record<U> + Send + Sync + Drop + 'static,
+    Q: Receipts<u64> + Send + Sync + 'static,
+    W: Threads + Wait + AllocGlobal + Copy + Send + 'static,
+>(
+    rt: W,
+    object: &Arc<Object<U, C, P, F, R, Q>>,
+    progress: &Arc<Progress>,
+    job: Job,
+    threads: u16,
+    passes: Vec<Pass<u64, C, P, F, Q>>,
+) -> Result<(Vec<Pass<u64, C, P, F, Q>>, Ends), StressFault>
+    requires { AreFresh threads passes.items }
+    ensures tallies { IfOk result (λ r. All (λ pass. pass.calls ≡ job.calls) r.0.items) }
+    ensures ends { IfOk result (λ r. AreEndsOfAll r.0.items r.1) }
+    ensures all { IfOk result (λ r. all_of r.1 ≡ calls_of r.0.items) }
+    ensures fault { IfErr result (λ fault. fault ≡ StressFault.OutOfMemory) }
+{
+    let mut callers = seat_all(rt.alloc(), passes)?;
+    call_from(rt, object, progress, job, threads, &mut callers)?;
+    leave_all(rt.alloc(), callers, job.calls)
+}
+
+/// Closes the object. All threads have ended, so nobody else has the object, and each seat's pass is here.
+fn close<
+    U: Unit<Value = u64> + Drop,
+    C: CallLedger,
+    P: Ledger,
+    F: Ledger,
+    R: Record<U> + Drop,
+    Q: Receipts<u64>,
+>(
+    object: Arc<Object<U, C, P, F, R, Q>>,
+    passes: Vec<Pass<u64, C, P, F, Q>>,
+) -> Result<Closed<U, R, Q>, StressFault>
+    ensures one_each { OnOk result (OneEach (arc_value object) passes.items × (length passes.items ≡ arc_value object)) }
+    ensures by_seat { IfOk result (λ closed. AreBySeat (arc_value object) passes.items closed.passes) }
+    ensures fault { IfErr result (λ fault. fault ≡ StressFault.OutOfMemory) }
+{
+    let Ok(object) = Arc::try_unwrap(object) else {
+        return Err(StressFault::OutOfMemory);
+    };
+    match object.close(passes) {
+        Ok(closed) => Ok(closed),
+        Err(_) => Err(StressFault::OutOfMemory),
+    }
+}
+
+/// Has threads call the object, from each of its passes, and closes it: with how the calls ended, so many of each pass.
+pub(crate) fn run_over<
+    U: Unit<Value = u64> + Send + Sync + Drop + 'static,
+    C: CallLedger + Send + Sync + 'static,
+    P: Ledger + Send + Sync + 'static,
+    F: Ledger + Send + Sync + 'static,
+    R: Record<U> + Send + Sync + Drop + 'static,
+    Q: Receipts<u64> + Send + Sync + 'static,
+    W: Threads + Wait + AllocGlobal + Copy + Send + 'static,
+>(
+    rt: W,
+    object: Arc<Object<U, C, P, F, R, Q>>,
+    passes: Vec<Pass<u64, C, P, F, Q>>,
+    progress: &Arc<Progress>,
+    job: Job,
+    threads: u16,
+) -> Result<(Closed<U, R, Q>, Ends), StressFault>
+    requires seats { arc_value object ≡ threads }
+    requires fresh { AreFresh threads passes.items }
+    ensures seats { IfOk result (λ r. length r.0.passes ≡ threads) }
+    ensures tallies { IfOk result (λ r. All (λ pass. pass.calls ≡ job.calls) r.0.passes) }
+    ensures ends { IfOk result (λ r. AreEndsOfAll r.0.passes r.1) }
+    ensures all { IfOk result (λ r. all_of r.1 ≡ calls_of r.0.passes) }
+    ensures fault { IfErr result (λ fault. fault ≡ StressFault.OutOfMemory) }
+{
+    let (passes, ends) = call_from_all(rt, &object, progress, job, threads, passes)?;
+    let closed = close(object, passes)?;
+    Ok((closed, ends))
+}
