@@ -122,3 +122,24 @@ module _ (bounded : Bool) (all : ℕ) where
   -- at first all parts are left
   pub reserve-all : (rest : Option ℕ) → rest ≡ reserved bounded all → option_map (λ n. n + 0) rest ≡ reserved bounded all
   reserve-all rest is = ap (option_map (λ n. n + 0)) is ∙ all_by bounded
+
+  is_by : (b : Bool) → is_some (reserved b all) ≡ b
+  is_by false = refl
+  is_by true = refl
+
+  -- places are counted exactly where the number of calls is fixed
+  pub is-reserved : (free : Option ℕ) → free ≡ reserved bounded all → is_some free ≡ bounded
+  is-reserved free is = ap is_some is ∙ is_by bounded
+
+  room_of : (b : Bool) (capacity : Option ℕ) → IfSome capacity (λ most. all ≤ most) → IfSome (reserved b all) (λ n. IfSome capacity (λ most. n ≤ most))
+  room_of false capacity room = tt
+  room_of true capacity room = room
+
+  -- where there is memory for a call of each pass
+  pub room-reserved : (free capacity : Option ℕ) → free ≡ reserved bounded all → IfSome capacity (λ most. all ≤ most) → IfSome free (λ n. IfSome capacity (λ most. n ≤ most))
+  room-reserved free capacity is room = subst (λ o. IfSome o (λ n. IfSome capacity (λ most. n ≤ most))) (sym is) (room_of bounded capacity room)
+
+-- where the number of calls isn't fixed
+pub room-unbounded : (seats : ℕ) (capacity : Option ℕ) (bounded : Bool) → is_some capacity ≡ bounded → bounded ≡ false → IfSome capacity (λ most. seats ≤ most)
+room-unbounded seats None bounded is no = tt
+room-unbounded seats (Some most) bounded is no = let bad : true ≡ false = is ∙ no in cc

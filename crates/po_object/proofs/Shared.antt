@@ -11,7 +11,13 @@ use Rattle.std.specs.contracts.sync.ledger.Share as Share
 use Rattle.std.proofs.sync.ledger.Share.TheSendSync as share
 use Rattle.po_object.proofs.hold.Hold.TheSendSync as hold
 use Rattle.po_object.proofs.latest.LatestCalls.TheSendSync as latest
-use Rattle.po_actions.proofs.object_core.Core.TheSendSync as core
+use Rattle.po_core.proofs.object_core.Core.TheSendSync as core
+use Rattle.po_core.specs.declared.record.Record as Record
+use Rattle.po_receipts.specs.declared.receipts.Receipts as Receipts
+use Rattle.po_object.specs.contracts.reservation.Reservations as Reservations
+use Rattle.po_object.specs.contracts.reservation.Reservations.TheInside as Reserved
+use Rattle.po_object.proofs.reservation.Reservations.TheSendSync as reservations
+use Rattle.po_object.specs.contracts.hold.Hold.TheInside as Held
 use Rattle.po_unit.specs.declared.unit.Unit as Unit
 use Rattle.std.specs.declared.cmp.PartialEq as PartialEq
 use Rattle.po_object.specs.contracts.hold.Hold as Hold
@@ -34,15 +40,51 @@ book_sync T g = record { shared = λ d b o κ q. whole-keyless _ _ (λ z vs. (bo
 pub share_sync : (T : RattleType) (g : Ghosts T.Denot) → IsSync (Share.the_row T g)
 share_sync T g = record { shared = λ d b o κ q. whole-keyless _ _ (λ z vs. (share.the_send T g).owned z vs) q d b o }
 
-pub hold_sync : (U C P V : RattleType) (g : Unit.Ghosts U.Denot V.Denot) (e : PartialEq.Ghosts V.Denot) (l : CallLedger.Ghosts C.Denot) (g' : Ghosts C.Denot) (g'' : Ghosts P.Denot) → IsSend U → IsSync U → IsSend V → IsSync V → IsSync (Hold.the_row U C P V g e l g' g'')
-hold_sync U C P V g e l g' g'' n s w v = search (sendable, core.the_sync, book_sync, share_sync, latest.the_sync) depth 14
+pub reservations_sync : (F : RattleType) (g : Ghosts F.Denot) → IsSync (Reservations.the_row F g)
+reservations_sync F g =
+    Send.view_sync (Reserved.the_row F g) _ _ _ _
+    (Send.recorded_sync (Reserved.the_field F g).row _ _ (Reserved.the_type F g).to_one
+    (Send.struct_sync (Declared.shape (Reserved.the_type F g)) (
+      search (sendable, book_sync),
+      tt,
+    )))
 
-pub object_sync : (U C P V : RattleType) (g : Ghosts C.Denot) (g' : Ghosts P.Denot) (g'' : Unit.Ghosts U.Denot V.Denot) (e : PartialEq.Ghosts V.Denot) (l : CallLedger.Ghosts C.Denot) → IsSend U → IsSync U → IsSend V → IsSync V → IsSync (Object.the_row U C P V g g' g'' e l)
-object_sync U C P V g g' g'' e l n s w v =
-    Send.view_sync (Inside.the_row U C P V g g' g'' e l) _ _ _ _
-    (Send.recorded_sync (Inside.the_field U C P V g g' g'' e l).row _ _ (Inside.the_type U C P V g g' g'' e l).to_one
-    (Send.struct_sync (Declared.shape (Inside.the_type U C P V g g' g'' e l)) (
-      lock.the_field_sync (Hold.the_row U C P V g'' e l g g') (hold.the_send U C P V g'' e l g g' n w) (hold_sync U C P V g'' e l g g' n s w v),
+pub hold_sync : (U C P F R Q V : RattleType) (g : Unit.Ghosts U.Denot V.Denot) (e : PartialEq.Ghosts V.Denot) (l : CallLedger.Ghosts C.Denot) (g' : Ghosts C.Denot) (g'' : Ghosts P.Denot) (g''' : Ghosts F.Denot) (k : Record.Ghosts R.Denot U.Denot V.Denot) (r : Receipts.Ghosts Q.Denot V.Denot) → IsSend U → IsSync U → IsSend R → IsSync R → IsSend Q → IsSync Q → IsSend V → IsSync V → IsSync (Hold.the_row U C P F R Q V g e l g' g'' g''' k r)
+hold_sync U C P F R Q V g e l g' g'' g''' k r n s m t o p w v =
+    Send.view_sync (Held.the_row U C P F R Q V g e l g' g'' g''' k r) _ _ _ _
+    (Send.recorded_sync (Held.the_field U C P F R Q V g e l g' g'' g''' k r).row _ _ (Held.the_type U C P F R Q V g e l g' g'' g''' k r).to_one
+    (Send.struct_sync (Declared.shape (Held.the_type U C P F R Q V g e l g' g'' g''' k r)) (
+      search (sendable, core.the_sync),
+      (
+        search (sendable, book_sync),
+        (
+          search (sendable, book_sync),
+          (
+            search (sendable, reservations_sync),
+            (
+              search sendable,
+              (
+                search (sendable, share_sync),
+                (
+                  search (sendable, share_sync),
+                  (
+                    search (sendable, latest.the_sync),
+                    tt,
+                  ),
+                ),
+              ),
+            ),
+          ),
+        ),
+      ),
+    )))
+
+pub object_sync : (U C P F R Q V : RattleType) (g : Ghosts C.Denot) (g' : Ghosts P.Denot) (g'' : Unit.Ghosts U.Denot V.Denot) (e : PartialEq.Ghosts V.Denot) (l : CallLedger.Ghosts C.Denot) (g''' : Ghosts F.Denot) (k : Record.Ghosts R.Denot U.Denot V.Denot) (r : Receipts.Ghosts Q.Denot V.Denot) → IsSend U → IsSync U → IsSend R → IsSync R → IsSend Q → IsSync Q → IsSend V → IsSync V → IsSync (Object.the_row U C P F R Q V g g' g'' e l g''' k r)
+object_sync U C P F R Q V g g' g'' e l g''' k r n s m t o p w v =
+    Send.view_sync (Inside.the_row U C P F R Q V g g' g'' e l g''' k r) _ _ _ _
+    (Send.recorded_sync (Inside.the_field U C P F R Q V g g' g'' e l g''' k r).row _ _ (Inside.the_type U C P F R Q V g g' g'' e l g''' k r).to_one
+    (Send.struct_sync (Declared.shape (Inside.the_type U C P F R Q V g g' g'' e l g''' k r)) (
+      lock.the_field_sync (Hold.the_row U C P F R Q V g'' e l g g' g''' k r) (hold.the_send U C P F R Q V g'' e l g g' g''' k r n m o w) (hold_sync U C P F R Q V g'' e l g g' g''' k r n s m t o p w v),
       (
         vec.the_sync Seat.the_row Global.the_row Heap.ghosts seat.the_sync global.the_sync,
         (
@@ -50,7 +92,7 @@ object_sync U C P V g g' g'' e l n s w v =
           (
             division.the_field_sync P g',
             (
-              vec.the_sync (Spent.the_row V) Global.the_row Heap.ghosts (spent.the_sync V v) global.the_sync,
+              vec.the_sync (Spent.the_row V Q r) Global.the_row Heap.ghosts (search (sendable, spent.the_sync)) global.the_sync,
               (
                 vec.the_sync _ Global.the_row Heap.ghosts (search sendable) global.the_sync,
                 tt,

@@ -47,6 +47,7 @@ impl<U: Unit, C: CallLedger, P: Ledger, F: Ledger, R: Record<U>, Q: Receipts<U::
         ensures core { OnOk result (next_place core.object ≡ core.object.making.first_place) }
         ensures fault { IfErr result (λ fault. HandsBack core calls procedures fault) }
     {
+        core.recall_kind();
         match Places::make(alloc, &core, seats) {
             Ok(places) => {
                 let free = Reservations::without();
@@ -106,14 +107,6 @@ enum Unopened {
     OutOfMemory,
 }
 
-impl From<AllocError> for Unopened {
-    fn from(_fault: AllocError) -> Unopened
-        ensures { result ≡ Unopened.OutOfMemory }
-    {
-        Unopened::OutOfMemory
-    }
-}
-
 impl Unopened {
     /// The fault, which hands all back.
     fn with<U: Unit, R: Record<U>>(
@@ -167,7 +160,9 @@ impl<V: Copy, C: Ledger, P: Ledger, F: Ledger, Q: Receipts<V>> Places<V, C, P, F
         if core.place() != u128::from(core.first_place()) {
             return Err(Unopened::NotFresh);
         }
-        let places = make_places(alloc, seats)?;
+        let Ok(places) = make_places(alloc, seats) else {
+            return Err(Unopened::OutOfMemory);
+        };
         Ok(places)
     }
 }
