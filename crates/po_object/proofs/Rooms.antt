@@ -141,5 +141,5 @@ module _ (bounded : Bool) (all : ℕ) where
 
 -- where the number of calls isn't fixed
 pub room-unbounded : (seats : ℕ) (capacity : Option ℕ) (bounded : Bool) → is_some capacity ≡ bounded → bounded ≡ false → IfSome capacity (λ most. seats ≤ most)
-room-unbounded seats None bounded is no = tt
-room-unbounded seats (Some most) bounded is no = let bad : true ≡ false = is ∙ no in cc
+room-unbounded seats None bounded is grows = tt
+room-unbounded seats (Some most) bounded is grows = let bad : true ≡ false = is ∙ grows in cc

@@ -84,7 +84,7 @@ object_sync U C P F R Q V g g' g'' e l g''' k r n s m t o p w v =
     Send.view_sync (Inside.the_row U C P F R Q V g g' g'' e l g''' k r) _ _ _ _
     (Send.recorded_sync (Inside.the_field U C P F R Q V g g' g'' e l g''' k r).row _ _ (Inside.the_type U C P F R Q V g g' g'' e l g''' k r).to_one
     (Send.struct_sync (Declared.shape (Inside.the_type U C P F R Q V g g' g'' e l g''' k r)) (
-      lock.the_field_sync (Hold.the_row U C P F R Q V g'' e l g g' g''' k r) (hold.the_send U C P F R Q V g'' e l g g' g''' k r n m o w) (hold_sync U C P F R Q V g'' e l g g' g''' k r n s m t o p w v),
+      lock.the_field_sync (Hold.the_row U C P F R Q V g'' e l g g' g''' k r) (hold.the_send U C P F R Q V g'' e l g g' g''' k r n m w) (hold_sync U C P F R Q V g'' e l g g' g''' k r n s m t o p w v),
       (
         vec.the_sync Seat.the_row Global.the_row Heap.ghosts seat.the_sync global.the_sync,
         (
