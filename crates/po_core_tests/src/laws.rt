@@ -1,24 +1,20 @@
 //! The laws of the units, on cores that have carried out commands.
 
-ghost use Rattle.std.specs.Prelude.{[], IfOk, OnOk};
+ghost use Rattle.std.specs.Prelude.{[], OnOk};
 ghost use Rattle.po_classic_units.specs.Buffer.{buffer_meaning};
 ghost use Rattle.po_actions.specs.Cutting.{AreVolumes, KeepsVolumes};
 
 use po_core::{Core, Deadline, End, Order};
-use po_index::{EntryRef, Shape, ShapeFault};
+use po_index::EntryRef;
 use po_unit::Unit;
 use po_units::{
     Allocator, Buffer, Meeting, Pulse, ScriptUnit, allocator_law, buffer_law, meeting_law,
     pulse_law,
 };
-use std::alloc::Global;
 use std::test::Fail;
 
 /// Calls the entries with these values.
-fn issue_all<U: Unit<Value = u64> + Drop>(
-    core: &mut Core<U>,
-    calls: &[(u16, u64)],
-) -> Result<(), Fail>
+fn issue_all<U: Unit<Value = u64>>(core: &mut Core<U>, calls: &[(u16, u64)]) -> Result<(), Fail>
     ensures { OnOk result (KeepsVolumes U.meaning core.old.object core.new.object) }
 {
     for (entry, value) in calls {
@@ -31,25 +27,20 @@ fn issue_all<U: Unit<Value = u64> + Drop>(
     Ok(())
 }
 
-/// A core of this unit, whose entries were called with these values, and of whose history nothing was cut off.
-fn core_after<U: Unit<Value = u64> + Drop>(
-    alloc: Global,
-    unit: U,
-    shape: Result<Shape, ShapeFault>,
-    calls: &[(u16, u64)],
-) -> Result<Core<U>, Fail>
-    ensures { IfOk result (λ core. AreVolumes U.meaning core.object []) }
+/// Calls the entries of a core of whose history nothing was cut off.
+fn fill<U: Unit<Value = u64>>(core: &mut Core<U>, calls: &[(u16, u64)]) -> Result<(), Fail>
+    requires { AreVolumes U.meaning core.old.object [] }
+    ensures { OnOk result (AreVolumes U.meaning core.new.object []) }
 {
-    let mut core = Core::new(alloc, unit, shape?, Order::Oldest, 1)?;
-    issue_all(&mut core, calls)?;
-    Ok(core)
+    issue_all(core, calls)
 }
 
 #[test]
 fn the_law_of_the_buffer(rt: HostRuntime) -> Result<(), Fail> {
     let unit = Buffer::new(rt.alloc(), 1)?;
     let shape = unit.shape(rt.alloc());
-    let core = core_after(rt.alloc(), unit, shape, &[(0, 7), (0, 8), (1, 0), (1, 0)])?;
+    let mut core = Core::new(rt.alloc(), unit, shape?, Order::Oldest, 1)?;
+    fill(&mut core, &[(0, 7), (0, 8), (1, 0), (1, 0)])?;
     assert_eq!(rt; core.outcome(3), Some(End::Completed(7)));
     assert_eq!(rt; core.outcome(4), Some(End::Completed(8)));
     assert!(rt; core.opening().is_new());
@@ -63,7 +54,8 @@ fn the_law_of_the_buffer(rt: HostRuntime) -> Result<(), Fail> {
 fn the_law_of_the_allocator(rt: HostRuntime) -> Result<(), Fail> {
     let unit = Allocator::new(3);
     let shape = unit.shape(rt.alloc());
-    let core = core_after(rt.alloc(), unit, shape, &[(0, 2), (1, 2), (0, 1), (0, 4)])?;
+    let mut core = Core::new(rt.alloc(), unit, shape?, Order::Oldest, 1)?;
+    fill(&mut core, &[(0, 2), (1, 2), (0, 1), (0, 4)])?;
     assert_eq!(rt; core.outcome(2), None);
     assert_eq!(rt; core.outcome(3), Some(End::Completed(1)));
     assert!(rt; core.opening().is_new());
@@ -77,7 +69,8 @@ fn the_law_of_the_allocator(rt: HostRuntime) -> Result<(), Fail> {
 fn the_law_of_the_pulse(rt: HostRuntime) -> Result<(), Fail> {
     let unit = Pulse::new();
     let shape = unit.shape(rt.alloc());
-    let core = core_after(rt.alloc(), unit, shape, &[(0, 1), (0, 2), (1, 3), (0, 4)])?;
+    let mut core = Core::new(rt.alloc(), unit, shape?, Order::Oldest, 1)?;
+    fill(&mut core, &[(0, 1), (0, 2), (1, 3), (0, 4)])?;
     assert_eq!(rt; core.outcome(3), Some(End::Completed(3)));
     assert_eq!(rt; core.outcome(4), None);
     assert!(rt; core.opening().is_new());
@@ -91,7 +84,8 @@ fn the_law_of_the_pulse(rt: HostRuntime) -> Result<(), Fail> {
 fn the_law_of_the_meeting(rt: HostRuntime) -> Result<(), Fail> {
     let unit = Meeting::new(2);
     let shape = unit.shape(rt.alloc());
-    let core = core_after(rt.alloc(), unit, shape, &[(0, 1), (0, 2), (0, 3)])?;
+    let mut core = Core::new(rt.alloc(), unit, shape?, Order::Oldest, 1)?;
+    fill(&mut core, &[(0, 1), (0, 2), (0, 3)])?;
     assert_eq!(rt; core.outcome(1), Some(End::Completed(1)));
     assert_eq!(rt; core.outcome(3), None);
     assert!(rt; core.opening().is_new());
@@ -116,6 +110,7 @@ fn law_over_a_volume(core: &mut Core<Buffer>) -> Result<(), Fail>
 fn a_law_over_a_volume(rt: HostRuntime) -> Result<(), Fail> {
     let unit = Buffer::new(rt.alloc(), 1)?;
     let shape = unit.shape(rt.alloc());
-    let mut core = core_after(rt.alloc(), unit, shape, &[(0, 7), (0, 8), (1, 0)])?;
+    let mut core = Core::new(rt.alloc(), unit, shape?, Order::Oldest, 1)?;
+    fill(&mut core, &[(0, 7), (0, 8), (1, 0)])?;
     law_over_a_volume(&mut core)
 }
