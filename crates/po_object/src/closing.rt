@@ -72,9 +72,14 @@ impl<U: Unit, R: Record<U>, Q: Receipts<U::Value>> Closed<U, R, Q> {
     }
 }
 
-impl<U: Unit, C: CallLedger, P: Ledger, F: Ledger, R: Record<U>, Q: Receipts<U::Value>>
-    Object<U, C, P, F, R, Q>
-{
+impl<U: Unit, C: CallLedger, P: Ledger, F: Ledger, R: Record<U>, Q: Receipts<U::Value>> Object<
+    U,
+    C,
+    P,
+    F,
+    R,
+    Q,
+> {
     /// Closes the object, where each seat has exactly one of the passes. No memory is taken.
     ///
     /// Else the fault names the lowest seat that hasn't, and hands the object and the passes back.
@@ -108,9 +113,14 @@ impl<U: Unit, C: CallLedger, P: Ledger, F: Ledger, R: Record<U>, Q: Receipts<U::
     }
 }
 
-impl<U: Unit, C: CallLedger, P: Ledger, F: Ledger, R: Record<U>, Q: Receipts<U::Value>>
-    Object<U, C, P, F, R, Q>
-{
+impl<U: Unit, C: CallLedger, P: Ledger, F: Ledger, R: Record<U>, Q: Receipts<U::Value>> Object<
+    U,
+    C,
+    P,
+    F,
+    R,
+    Q,
+> {
     /// The lowest seat that hasn't exactly one of the passes.
     fn missing(&mut self, passes: &Vec<Pass<U::Value, C, P, F, Q>>) -> Option<u16>
         ensures same { self.new ≡ self.old }

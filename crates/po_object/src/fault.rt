@@ -69,8 +69,7 @@ pub enum CloseFault<
 }
 
 impl<U: Unit, C: CallLedger, P: Ledger, F: Ledger, R: Record<U>, Q: Receipts<U::Value>> fmt::Debug
-    for CloseFault<U, C, P, F, R, Q>
-{
+    for CloseFault<U, C, P, F, R, Q> {
     fn fmt<W: fmt::Write>(&self, f: &mut fmt::Formatter<W>) -> fmt::Result {
         match self {
             CloseFault::PassMissing { seat, .. } => write!(f, "PassMissing {{ seat: {seat} }}"),

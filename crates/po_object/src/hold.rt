@@ -25,7 +25,9 @@ use crate::latest::LatestCalls;
 use crate::ledgers::CallLedger;
 pub use crate::pass::{BoundedPass, Pass};
 use crate::reservation::Reservations;
-use po_core::{Aborted, Core, Deadline, End, Event, Record, Recorded, Refusal, Ticket, Unrecorded, Volume};
+use po_core::{
+    Aborted, Core, Deadline, End, Event, Record, Recorded, Refusal, Ticket, Unrecorded, Volume,
+};
 use po_index::EntryRef;
 use po_receipts::{Asked, Receipt, Receipts};
 use po_trace::Trace;
@@ -59,12 +61,17 @@ pub struct Hold<
 }
 
 /// The value behind the lock of an object that takes no memory.
-pub type BoundedHold<U, C, P, F> =
-    Hold<U, C, P, F, Unrecorded<U>, Trace<Receipt<<U as Unit>::Value>>>;
+pub type BoundedHold<U, C, P, F> = Hold<
+    U,
+    C,
+    P,
+    F,
+    Unrecorded<U>,
+    Trace<Receipt<<U as Unit>::Value>>,
+>;
 
 impl<U: Unit, C: CallLedger, P: Ledger, F: Ledger, R: Record<U>, Q: Receipts<U::Value>> Model
-    for Hold<U, C, P, F, R, Q>
-{
+    for Hold<U, C, P, F, R, Q> {
     ghost use Rattle.std.specs.Prelude.{◌≡◌, ◌+◌, is_some, length};
     ghost use Rattle.po_core.specs.Tickets.{CoreView};
     ghost use Rattle.po_receipts.specs.Answers.{AskedBySeats};
@@ -89,9 +96,14 @@ impl<U: Unit, C: CallLedger, P: Ledger, F: Ledger, R: Record<U>, Q: Receipts<U::
     } };
 }
 
-impl<U: Unit + Drop, C: CallLedger, P: Ledger, F: Ledger, Q: Receipts<U::Value>>
-    Hold<U, C, P, F, Recorded<U>, Q>
-{
+impl<U: Unit + Drop, C: CallLedger, P: Ledger, F: Ledger, Q: Receipts<U::Value>> Hold<
+    U,
+    C,
+    P,
+    F,
+    Recorded<U>,
+    Q,
+> {
     /// Cuts the history, as `Core::cut` does.
     ///
     /// Refused 8 and 9, also on a finalized object.
@@ -116,9 +128,14 @@ impl<U: Unit + Drop, C: CallLedger, P: Ledger, F: Ledger, Q: Receipts<U::Value>>
     }
 }
 
-impl<U: Unit, C: CallLedger, P: Ledger, F: Ledger, R: Record<U>, Q: Receipts<U::Value>>
-    Hold<U, C, P, F, R, Q>
-{
+impl<U: Unit, C: CallLedger, P: Ledger, F: Ledger, R: Record<U>, Q: Receipts<U::Value>> Hold<
+    U,
+    C,
+    P,
+    F,
+    R,
+    Q,
+> {
     pub(crate) fn new(
         core: Core<U, R>,
         calls: Book<C>,

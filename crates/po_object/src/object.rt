@@ -51,12 +51,17 @@ pub struct Object<
 
 /// An object all of whose memory is taken when it is opened: none of its calls takes any, and history and receipts are known
 /// to proofs alone.
-pub type BoundedObject<U, C, P, F> =
-    Object<U, C, P, F, Unrecorded<U>, Trace<Receipt<<U as Unit>::Value>>>;
+pub type BoundedObject<U, C, P, F> = Object<
+    U,
+    C,
+    P,
+    F,
+    Unrecorded<U>,
+    Trace<Receipt<<U as Unit>::Value>>,
+>;
 
 impl<U: Unit, C: CallLedger, P: Ledger, F: Ledger, R: Record<U>, Q: Receipts<U::Value>> Model
-    for Object<U, C, P, F, R, Q>
-{
+    for Object<U, C, P, F, R, Q> {
     ghost use Rattle.std.specs.Prelude.{◌≡◌, ℕ, vec_len};
 
     ghost Value = { ℕ };
@@ -71,9 +76,14 @@ impl<U: Unit, C: CallLedger, P: Ledger, F: Ledger, R: Record<U>, Q: Receipts<U::
     } };
 }
 
-impl<U: Unit + Drop, C: CallLedger, P: Ledger, F: Ledger, Q: Receipts<U::Value>>
-    Object<U, C, P, F, Recorded<U>, Q>
-{
+impl<U: Unit + Drop, C: CallLedger, P: Ledger, F: Ledger, Q: Receipts<U::Value>> Object<
+    U,
+    C,
+    P,
+    F,
+    Recorded<U>,
+    Q,
+> {
     /// Cuts the history, as `Core::cut` does.
     ///
     /// Refused 8 and 9, also on a finalized object.
@@ -89,9 +99,14 @@ impl<U: Unit + Drop, C: CallLedger, P: Ledger, F: Ledger, Q: Receipts<U::Value>>
     }
 }
 
-impl<U: Unit, C: CallLedger, P: Ledger, F: Ledger, R: Record<U>, Q: Receipts<U::Value>>
-    Object<U, C, P, F, R, Q>
-{
+impl<U: Unit, C: CallLedger, P: Ledger, F: Ledger, R: Record<U>, Q: Receipts<U::Value>> Object<
+    U,
+    C,
+    P,
+    F,
+    R,
+    Q,
+> {
     /// How many seats the object was opened with.
     pub fn seats(&self) -> u16
         ensures { result ≡ self.now }

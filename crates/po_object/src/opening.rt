@@ -23,9 +23,14 @@ use std::marker::PhantomData;
 use std::sync::RwLock;
 use std::sync::ledger::{Blank, Ledger, Share};
 
-impl<U: Unit, C: CallLedger, P: Ledger, F: Ledger, R: Record<U>, Q: Receipts<U::Value>>
-    Object<U, C, P, F, R, Q>
-{
+impl<U: Unit, C: CallLedger, P: Ledger, F: Ledger, R: Record<U>, Q: Receipts<U::Value>> Object<
+    U,
+    C,
+    P,
+    F,
+    R,
+    Q,
+> {
     /// Opens an object over a core that has no event, with so many seats, and hands out a pass for each.
     ///
     /// A fault hands the core and the blanks back: 1 where the core has, or had before a cut, an event, and 2.
@@ -68,10 +73,7 @@ impl<U: Unit, C: CallLedger, P: Ledger, F: Ledger, R: Record<U>, Q: Receipts<U::
         calls: Blank,
         procedures: Blank,
         free: Blank,
-    ) -> Result<
-        (Object<U, C, P, F, R, Q>, Vec<Pass<U::Value, C, P, F, Q>>),
-        BoundedOpenFault<U, R>,
-    >
+    ) -> Result<(Object<U, C, P, F, R, Q>, Vec<Pass<U::Value, C, P, F, Q>>), BoundedOpenFault<U, R>>
         // Each ledger has a part for each seat, and one for the object.
         requires calls { (calls.name ≡ C.name) × (calls.parts ≡ C.parts) × (calls.parts ≡ seats + 1) }
         requires procedures { (procedures.name ≡ P.name) × (procedures.parts ≡ P.parts) × (procedures.parts ≡ seats + 1) }

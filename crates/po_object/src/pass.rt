@@ -16,13 +16,7 @@ use std::sync::ledger::{Ledger, Share};
 /// The right to call an object from one seat: the opening of the object hands out one for each. It files a receipt of each
 /// call and each procedure that was accepted, in memory or for proofs alone, and can't be copied.
 #[derive(Drop)]
-pub struct Pass<
-    V: Copy,
-    C: Ledger,
-    P: Ledger,
-    F: Ledger = C,
-    Q: Receipts<V> = Vec<Receipt<V>>,
-> {
+pub struct Pass<V: Copy, C: Ledger, P: Ledger, F: Ledger = C, Q: Receipts<V> = Vec<Receipt<V>>> {
     pub(crate) seat: u16,
     pub(crate) calls: u64,
     pub(crate) procedures: u64,

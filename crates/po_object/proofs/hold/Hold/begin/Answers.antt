@@ -39,7 +39,7 @@ returns-in_err-make_room-clause-refused g c =
 pub returns-in_err-ticket-clause-refused : goal.returns-in_err-ticket-clause-refused
 returns-in_err-ticket-clause-refused g c =
     let either : IsOutOfMemory g.R.Record.is_bounded c.in_err-ticket.field-0.0 ⊎ (issue_refusal c.args.self.now.object c.args.entry ≡ Some c.in_err-ticket.field-0.0) =
-        rw (← c.self.view_is) (call-refused c.self.inside.core c.self.inside.reservations g.Q.Receipts.is_bounded g.R.Record.is_bounded c.self.invariant.bounded.0 c.self.invariant.bounded.1 c.self.invariant.room c.audit.ensures.some _ _ c.in_err-ticket.ensures.refused) in
+    rw (← c.self.view_is) (call-refused c.self.inside.core c.self.inside.reservations g.Q.Receipts.is_bounded g.R.Record.is_bounded c.self.invariant.bounded.0 c.self.invariant.bounded.1 c.self.invariant.room c.audit.ensures.some _ _ c.in_err-ticket.ensures.refused) in
     search (rules, either)
 
 pub returns-clause-allowed : goal.returns-clause-allowed
