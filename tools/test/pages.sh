@@ -70,6 +70,13 @@ code_is_the_example() {
   done < <(awk '/^```$/ && inside { printf "%c", 0; inside = 0 } inside { print } /^```rust$/ { inside = 1 }' docs/OBJECTS.md)
 }
 
+# No paragraph of a page, outside of tables and code, has more than 500 characters.
+paragraphs_are_short() {
+  local long
+  long=$(awk '/^```/ { code = !code } !code && !/^[|]/ && length > 500 { print FILENAME ":" FNR }' README.md CONTRIBUTING.md docs/*.md)
+  if [ -z "$long" ]; then pass; else fail "paragraphs of more than 500 characters: $long"; fi
+}
+
 # No more wrong bodies than a full run has time for.
 edits_are_few() {
   local number
@@ -85,5 +92,6 @@ pages() {
   headline_is_counted
   claims_lead_somewhere
   code_is_the_example
+  paragraphs_are_short
   edits_are_few
 }
