@@ -1,6 +1,6 @@
 # shellcheck shell=bash
 # What the pages say of the tree: each crate stands in the map, links and claims lead somewhere, definitions are listed, what must
-# be believed is counted, wrong bodies are few. Read by `test`, behind count.sh.
+# be believed is counted, paragraphs are short, wrong bodies are few. Read by `test`, behind count.sh.
 
 # The most wrong bodies that the tree has: each costs half a minute of a full run (CONTRIBUTING.md).
 most_edits=134
