@@ -70,6 +70,14 @@ code_is_the_example() {
   done < <(awk '/^```$/ && inside { printf "%c", 0; inside = 0 } inside { print } /^```rust$/ { inside = 1 }' docs/OBJECTS.md)
 }
 
+# Each line of code and of definitions that the page quotes stands in the crate.
+lines_stand_in() {
+  local line
+  while IFS= read -r line; do
+    if grep -rqF --include='*.rt' --include='*.antt' --exclude-dir=out -e "$line" "crates/$2"; then pass; else fail "docs/$1 quotes, not from $2: $line"; fi
+  done < <(awk '/^```$/ { inside = 0 } inside && NF { print } /^```(rust|antt)$/ { inside = 1 }' "docs/$1")
+}
+
 # No paragraph of a page, outside of tables and code, has more than 500 characters.
 paragraphs_are_short() {
   local long
@@ -92,6 +100,8 @@ pages() {
   headline_is_counted
   claims_lead_somewhere
   code_is_the_example
+  lines_stand_in LAWS.md po_readers_example
+  lines_stand_in YOUR_UNIT.md po_example
   paragraphs_are_short
   edits_are_few
 }
