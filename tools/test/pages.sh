@@ -5,6 +5,9 @@
 # The most wrong bodies that the tree has: each costs half a minute of a full run (CONTRIBUTING.md).
 most_edits=134
 
+# The most words that all pages together have, outside of code; 20,000 are the aim.
+most_words=22500
+
 # Each crate of crates.txt has a row in the map, and each row a crate.
 map_is_whole() {
   local rows names
@@ -85,6 +88,13 @@ paragraphs_are_short() {
   if [ -z "$long" ]; then pass; else fail "paragraphs of more than 500 characters: $long"; fi
 }
 
+# All pages together are short: words are what has a letter or a digit, outside of code.
+pages_are_short() {
+  local words
+  words=$(awk '/^```/ { code = !code } !code && !/^    / { for (at = 1; at <= NF; at++) words += $at ~ /[[:alnum:]]/ } END { print words }' README.md CONTRIBUTING.md docs/*.md)
+  if [ "$words" -le "$most_words" ]; then pass; else fail "the pages have $words words, at most $most_words are to be"; fi
+}
+
 # No more wrong bodies than a full run has time for.
 edits_are_few() {
   local number
@@ -103,5 +113,6 @@ pages() {
   lines_stand_in LAWS.md po_readers_example
   lines_stand_in YOUR_UNIT.md po_example
   paragraphs_are_short
+  pages_are_short
   edits_are_few
 }
