@@ -1,9 +1,12 @@
 # shellcheck shell=bash
 # What the pages say of the tree: each crate stands in the map, links and claims lead somewhere, definitions are listed, what must
-# be believed is counted, wrong bodies are few. Read by `test`, behind count.sh.
+# be believed is counted, paragraphs are short, wrong bodies are few. Read by `test`, behind count.sh.
 
 # The most wrong bodies that the tree has: each costs half a minute of a full run (CONTRIBUTING.md).
 most_edits=123
+
+# The most words that all pages together have, outside of code; 20,000 are the aim.
+most_words=22500
 
 # Each crate of crates.txt has a row in the map, and each row a crate.
 map_is_whole() {
@@ -70,6 +73,28 @@ code_is_the_example() {
   done < <(awk '/^```$/ && inside { printf "%c", 0; inside = 0 } inside { print } /^```rust$/ { inside = 1 }' docs/OBJECTS.md)
 }
 
+# Each line of code and of definitions that the page quotes stands in the crate.
+lines_stand_in() {
+  local line
+  while IFS= read -r line; do
+    if grep -rqF --include='*.rt' --include='*.antt' --exclude-dir=out -e "$line" "crates/$2"; then pass; else fail "docs/$1 quotes, not from $2: $line"; fi
+  done < <(awk '/^```$/ { inside = 0 } inside && NF { print } /^```(rust|antt)$/ { inside = 1 }' "docs/$1")
+}
+
+# No paragraph of a page, outside of tables and code, has more than 500 characters.
+paragraphs_are_short() {
+  local long
+  long=$(awk '/^```/ { code = !code } !code && !/^[|]/ && length > 500 { print FILENAME ":" FNR }' README.md CONTRIBUTING.md docs/*.md)
+  if [ -z "$long" ]; then pass; else fail "paragraphs of more than 500 characters: $long"; fi
+}
+
+# All pages together are short: words are what has a letter or a digit, outside of code.
+pages_are_short() {
+  local words
+  words=$(awk '/^```/ { code = !code } !code && !/^    / { for (at = 1; at <= NF; at++) words += $at ~ /[[:alnum:]]/ } END { print words }' README.md CONTRIBUTING.md docs/*.md)
+  if [ "$words" -le "$most_words" ]; then pass; else fail "the pages have $words words, at most $most_words are to be"; fi
+}
+
 # No more wrong bodies than a full run has time for.
 edits_are_few() {
   local number
@@ -85,5 +110,9 @@ pages() {
   headline_is_counted
   claims_lead_somewhere
   code_is_the_example
+  lines_stand_in LAWS.md po_readers_example
+  lines_stand_in YOUR_UNIT.md po_example
+  paragraphs_are_short
+  pages_are_short
   edits_are_few
 }
