@@ -11,10 +11,10 @@ mod alone;
 
 use anyhow::{Result, bail};
 use po_classic_units::{Buffer, ScriptUnit};
-use po_core::{BoundedCore, Order, Start};
+use po_core::{BoundedCore, Order, Record, Start};
 use po_index::EntryRef;
-use po_object::hold::BoundedPass;
-use po_object::{BoundedClosed, BoundedObject, CallLedger};
+use po_object::hold::{BoundedPass, Pass};
+use po_object::{BoundedClosed, BoundedObject, CallLedger, Object, Receipts};
 use std::alloc::{AllocError, Global};
 use std::io::Print;
 use std::marker::Brand;
@@ -66,16 +66,23 @@ fn empty_buffer(alloc: Global) -> Result<BoundedCore<Buffer>>
     Ok(core)
 }
 
-/// Calls the entry so many times, with the values from 0 on, and gives the pass back.
+/// Calls the entry so many times, with the values from 0 on, and gives the pass back. The object is of either kind.
 ///
 /// A caller that is refused finalizes the object, so that no other waits for what it doesn't do.
-fn call_often<C: CallLedger, P: Ledger, F: Ledger, R: Wait>(
-    rt: &R,
-    object: &BoundedObject<Buffer, C, P, F>,
-    mut pass: BoundedPass<u64, C, P, F>,
+fn call_often<
+    C: CallLedger,
+    P: Ledger,
+    F: Ledger,
+    R: Record<Buffer>,
+    Q: Receipts<u64>,
+    W: Wait,
+>(
+    rt: &W,
+    object: &Object<Buffer, C, P, F, R, Q>,
+    mut pass: Pass<u64, C, P, F, Q>,
     entry: EntryRef,
     times: u64,
-) -> BoundedPass<u64, C, P, F> {
+) -> Pass<u64, C, P, F, Q> {
     if pass.pending() {
         return pass;
     }
@@ -93,17 +100,17 @@ fn start<
     C: CallLedger + Send + Sync + 'static,
     P: Ledger + Send + Sync + 'static,
     F: Ledger + Send + Sync + 'static,
-    R: Threads + Wait + Copy + Send + 'static,
+    R: Record<Buffer> + Drop + Send + Sync + 'static,
+    Q: Receipts<u64> + Send + Sync + 'static,
+    W: Threads + Wait + Copy + Send + 'static,
 >(
-    rt: R,
-    object: Arc<BoundedObject<Buffer, C, P, F>>,
-    pass: BoundedPass<u64, C, P, F>,
+    rt: W,
+    object: Arc<Object<Buffer, C, P, F, R, Q>>,
+    pass: Pass<u64, C, P, F, Q>,
     entry: EntryRef,
     times: u64,
-) -> Result<JoinHandle<BoundedPass<u64, C, P, F>>, AllocError> {
-    let job = move || -> BoundedPass<u64, C, P, F> {
-        call_often(&rt, &*object, pass, entry, times)
-    };
+) -> Result<JoinHandle<Pass<u64, C, P, F, Q>>, AllocError> {
+    let job = move || -> Pass<u64, C, P, F, Q> { call_often(&rt, &*object, pass, entry, times) };
     Ok(thread::spawn(&rt, job)?)
 }
 

@@ -8,11 +8,11 @@
 ghost use Rattle.std.specs.Prelude.{◌≡◌, ◌+◌};
 
 use anyhow::{Result, bail};
-use po_core::{Aborted, Core, End, Order};
+use po_core::{Aborted, Core, End, Order, Record};
 use po_classic_units::{Buffer, ScriptUnit};
 use po_index::EntryRef;
 use po_object::hold::Pass;
-use po_object::{CallLedger, Closed, Object, Receipt, reconcile};
+use po_object::{CallLedger, Closed, Object, Receipt, Receipts, reconcile};
 use std::alloc::{AllocError, Global};
 use std::io::Print;
 use std::marker::Brand;
@@ -55,16 +55,23 @@ fn empty_buffer(alloc: Global) -> Result<Core<Buffer>> {
     Ok(Core::new(alloc, buffer, shape, Order::Textual, 1)?)
 }
 
-/// Calls the entry so many times, with the values from 0 on, and gives the pass back.
+/// Calls the entry so many times, with the values from 0 on, and gives the pass back. The object is of either kind.
 ///
 /// A caller that is refused finalizes the object, so that no other waits for what it doesn't do.
-fn call_often<C: CallLedger, P: Ledger, R: Wait>(
-    rt: &R,
-    object: &Object<Buffer, C, P>,
-    mut pass: Pass<u64, C, P>,
+fn call_often<
+    C: CallLedger,
+    P: Ledger,
+    F: Ledger,
+    R: Record<Buffer>,
+    Q: Receipts<u64>,
+    W: Wait,
+>(
+    rt: &W,
+    object: &Object<Buffer, C, P, F, R, Q>,
+    mut pass: Pass<u64, C, P, F, Q>,
     entry: EntryRef,
     times: u64,
-) -> Pass<u64, C, P> {
+) -> Pass<u64, C, P, F, Q> {
     if pass.pending() {
         return pass;
     }
@@ -81,15 +88,18 @@ fn call_often<C: CallLedger, P: Ledger, R: Wait>(
 fn start<
     C: CallLedger + Send + Sync + 'static,
     P: Ledger + Send + Sync + 'static,
-    R: Threads + Wait + Copy + Send + 'static,
+    F: Ledger + Send + Sync + 'static,
+    R: Record<Buffer> + Drop + Send + Sync + 'static,
+    Q: Receipts<u64> + Send + Sync + 'static,
+    W: Threads + Wait + Copy + Send + 'static,
 >(
-    rt: R,
-    object: Arc<Object<Buffer, C, P>>,
-    pass: Pass<u64, C, P>,
+    rt: W,
+    object: Arc<Object<Buffer, C, P, F, R, Q>>,
+    pass: Pass<u64, C, P, F, Q>,
     entry: EntryRef,
     times: u64,
-) -> Result<JoinHandle<Pass<u64, C, P>>, AllocError> {
-    let job = move || -> Pass<u64, C, P> { call_often(&rt, &*object, pass, entry, times) };
+) -> Result<JoinHandle<Pass<u64, C, P, F, Q>>, AllocError> {
+    let job = move || -> Pass<u64, C, P, F, Q> { call_often(&rt, &*object, pass, entry, times) };
     Ok(thread::spawn(&rt, job)?)
 }
 

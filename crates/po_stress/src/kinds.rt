@@ -14,7 +14,8 @@ use crate::progress::Progress;
 use crate::report::Report;
 use crate::run::run_over;
 use crate::totals::Totals;
-use po_core::{BoundedCore, Core, Record};
+use po_core::{BoundedCore, Core, Order, Record, Start};
+use po_index::Shape;
 use po_object::hold::Pass;
 use po_object::{BoundedClosed, BoundedObject, CallLedger, Closed, Object, OpenFault, Receipts};
 use po_unit::Unit;
@@ -22,6 +23,13 @@ use std::alloc::{AllocError, Global};
 use std::sync::ledger::{Blank, Ledger};
 use std::sync::{Arc, Wait};
 use std::thread::Threads;
+
+/// The number of the first call, the place of the first event, and no greatest length of a queue.
+const START: Start = Start {
+    first_number: 1,
+    first_place: 0,
+    max_queue: None,
+};
 
 /// Lets go what a refused opening hands back.
 fn let_go<U: Unit<Value = u64> + Drop, R: Record<U> + Drop>(_fault: OpenFault<U, R>) -> AllocError {
@@ -116,19 +124,22 @@ pub(crate) fn run<
     W: Threads + Wait + AllocGlobal + Copy + Send + 'static,
 >(
     rt: W,
-    core: Core<U>,
+    unit: U,
+    shape: Shape,
     progress: &Arc<Progress>,
     job: Job,
     threads: u16,
     calls: Blank,
     procedures: Blank,
 ) -> Result<Report, StressFault>
-    requires shape { core.object.making.shape ≡ C.shape }
+    requires shape { shape ≡ C.shape }
     requires calls { (calls.name ≡ C.name) × (calls.parts ≡ C.parts) × (calls.parts ≡ threads + 1) }
     requires procedures { (procedures.name ≡ P.name) × (procedures.parts ≡ P.parts) × (procedures.parts ≡ threads + 1) }
     ensures report { IfOk result (IsRun U.meaning threads job.calls) }
     ensures fault { IfErr result (λ fault. fault ≡ StressFault.OutOfMemory) }
 {
+    let core =
+        Core::start(rt.alloc(), unit, shape, Order::Textual, START).map_err(|_| AllocError)?;
     let (object, passes) = open_shared(rt.alloc(), core, threads, calls, procedures)?;
     let object: Arc<Object<U, C, P>> = object;
     let (closed, _ends) = run_over(rt, object, passes, progress, job, threads)?;
@@ -144,7 +155,8 @@ pub(crate) fn run_bounded<
     W: Threads + Wait + AllocGlobal + Copy + Send + 'static,
 >(
     rt: W,
-    core: BoundedCore<U>,
+    unit: U,
+    shape: Shape,
     progress: &Arc<Progress>,
     job: Job,
     threads: u16,
@@ -152,14 +164,17 @@ pub(crate) fn run_bounded<
     procedures: Blank,
     free: Blank,
 ) -> Result<Totals, StressFault>
-    requires shape { core.object.making.shape ≡ C.shape }
-    requires most { IfSome core.capacity (λ most. threads ≤ most) }
+    requires shape { shape ≡ C.shape }
     requires calls { (calls.name ≡ C.name) × (calls.parts ≡ C.parts) × (calls.parts ≡ threads + 1) }
     requires procedures { (procedures.name ≡ P.name) × (procedures.parts ≡ P.parts) × (procedures.parts ≡ threads + 1) }
     requires free { (free.name ≡ F.name) × (free.parts ≡ F.parts) × (free.parts ≡ threads + 1) }
     ensures totals { IfOk result (IsBoundedRun U.meaning threads job.calls) }
     ensures fault { IfErr result (λ fault. fault ≡ StressFault.OutOfMemory) }
 {
+    let most = usize::from(threads);
+    let core =
+        BoundedCore::with_capacity(rt.alloc(), unit, shape, Order::Textual, START, most)
+            .map_err(|_| AllocError)?;
     let (object, passes) = open_shared_bounded(rt.alloc(), core, threads, calls, procedures, free)?;
     let object: Arc<BoundedObject<U, C, P, F>> = object;
     let (closed, ends) = run_over(rt, object, passes, progress, job, threads)?;

@@ -17,7 +17,6 @@ use crate::report::Report;
 use crate::totals::Totals;
 use crate::unit::StressUnit;
 use po_classic_units::{Allocator, Buffer, Meeting, ScriptUnit};
-use po_core::{BoundedCore, Core, Order, Start};
 use po_unit::Unit;
 use std::alloc::AllocError;
 use std::marker::Brand;
@@ -40,13 +39,6 @@ const RACE_CAPACITY: u16 = 2;
 /// How many pieces the allocator of a run has.
 const PIECES: u16 = 3;
 
-/// The number of the first call, the place of the first event, and no greatest length of a queue.
-const START: Start = Start {
-    first_number: 1,
-    first_place: 0,
-    max_queue: None,
-};
-
 /// A run over an object that records the history of this unit.
 fn run_recorded<
     U: ScriptUnit + Unit<Value = u64> + Send + Sync + Drop + 'static,
@@ -56,10 +48,9 @@ fn run_recorded<
     ensures fault { IfErr result (λ fault. fault ≡ StressFault.OutOfMemory) }
 {
     let shape = unit.shape(rt.alloc()).map_err(|_| AllocError)?;
-    let core = Core::start(rt.alloc(), unit, shape, Order::Textual, START).map_err(|_| AllocError)?;
     let parts = u64::from(threads) + 1;
     let (calls, procedures) = (Blank::new(parts), Blank::new(parts));
-    run::<U, Brand, Brand, W>(rt, core, progress, job, threads, calls, procedures)
+    run::<U, Brand, Brand, W>(rt, unit, shape, progress, job, threads, calls, procedures)
 }
 
 /// A run over an object of this unit with fixed memory: for one call of each thread.
@@ -71,19 +62,10 @@ fn run_fixed<
     ensures fault { IfErr result (λ fault. fault ≡ StressFault.OutOfMemory) }
 {
     let shape = unit.shape(rt.alloc()).map_err(|_| AllocError)?;
-    let most = usize::from(threads);
-    let core = BoundedCore::with_capacity(
-        rt.alloc(),
-        unit,
-        shape,
-        Order::Textual,
-        START,
-        most,
-    ).map_err(|_| AllocError)?;
     let parts = u64::from(threads) + 1;
     let (calls, procedures, free) = (Blank::new(parts), Blank::new(parts), Blank::new(parts));
     run_bounded::<U, Brand, Brand, Brand, W>(
-        rt, core, progress, job, threads, calls, procedures, free,
+        rt, unit, shape, progress, job, threads, calls, procedures, free,
     )
 }
 
