@@ -1,5 +1,5 @@
 -- What is known of the calls of seats is true at first, stays true, and finds the call of a seat.
-use Rattle.std.proofs.Common.{◌≡◌, ◌≢◌, ℕ, zero, suc, ◌+◌, ◌<◌, ◌≤◌, ◌==◌, List, [], length, get_or, set, refl, subst, ap, sym, ◌∙◌, arith, inl, inr, Bool, true, false, cond, ◌&&◌, nat_le, nat_lt, Option, Some, None, is_some, if◌then◌else◌}
+use Rattle.std.proofs.Common.{◌≡◌, ◌≢◌, ℕ, zero, suc, ◌+◌, ◌<◌, ◌≤◌, ◌==◌, List, length, get_or, set, refl, subst, ap, sym, ◌∙◌, arith, inl, inr, Bool, true, false, cond, ◌&&◌, nat_le, nat_lt, Option, Some, None, is_some, if◌then◌else◌}
 use Rattle.std.specs.List.{find, All, count_by}
 use Rattle.std.specs.Option.{option_map}
 use Rattle.std.proofs.lemmas.Bool.{cases_eq}
@@ -23,7 +23,6 @@ use Rattle.po_accepted.proofs.Lists.{found_passes}
 use Rattle.po_engine.specs.ObjectState.{ObjectState}
 use Rattle.po_actions.specs.View.{View, IsInOnePlace}
 use Rattle.po_actions.specs.ProtectedAction.{IsProtectedAction, IsAbortOf, IsAbortOfCall}
-use Rattle.po_actions.specs.Cutting.{cut}
 use Rattle.po_actions.proofs.Counting.{action-next}
 use Rattle.po_actions.proofs.Finds.{All-found, find_agree, none-found, none-passes}
 use Rattle.po_actions.proofs.Remaining.{OfIssued, of-action, waiting-issued}

@@ -1,5 +1,5 @@
 -- What a refusal of the core says.
-use Rattle.std.proofs.Common.{◌≡◌, ◌⊎◌, ℕ, ◌+◌, ◌≤◌, inl, inr, ap, sym, ◌∙◌, subst, refl, arith, Bool, true, false, List, Option, Some, None, is_some, nat_le, if◌then◌else◌}
+use Rattle.std.proofs.Common.{◌≡◌, ◌⊎◌, ℕ, ◌+◌, ◌≤◌, inl, inr, ap, sym, ◌∙◌, subst, refl, arith, Bool, true, false, Option, Some, None, is_some, nat_le, if◌then◌else◌}
 use Rattle.std.specs.Prelude.{IfSome}
 use Rattle.std.proofs.lemmas.Bool.Decides.{nat_tests}
 use Rattle.po_accepted.specs.Tickets.{uncollected}

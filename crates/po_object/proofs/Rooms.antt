@@ -1,14 +1,12 @@
 -- There is memory for one call more of each free pass: at first, after each command, and where a call is refused.
-use Rattle.std.proofs.Common.{◌≡◌, ℕ, ◌+◌, ◌≤◌, ◌<◌, Bool, true, false, List, [], ◌∷◌, length, refl, sym, ap, subst, ◌∙◌, arith, Option, Some, None, is_some}
+use Rattle.std.proofs.Common.{◌≡◌, ℕ, ◌+◌, ◌≤◌, ◌<◌, Bool, true, false, refl, sym, ap, subst, ◌∙◌, arith, Option, Some, None, is_some}
 use Rattle.std.specs.Option.{option_map}
 use Rattle.std.specs.Prelude.{IfSome}
 use Rattle.po_calls.specs.declared.ticket.Ticket.{Ticket}
-use Rattle.po_calls.specs.declared.end.End.{End}
 use Rattle.po_accepted.specs.Tickets.{number_at, SetsTicket, uncollected}
 use Rattle.po_accepted.proofs.TicketCounts.{none-held, one-more, one-less}
-use Rattle.po_receipts.specs.declared.asked.Asked.{Asked}
 use Rattle.po_core.specs.Tickets.{CoreView, AreIssued}
-use Rattle.po_object.specs.Reservations.{reserved, reserved_for, HasRoomFor}
+use Rattle.po_object.specs.Reservations.{reserved, HasRoomFor}
 
 -- a pass without a pending call has a place reserved
 pub is-free : (o : Option ℕ) (bounded : Bool) → is_some o ≡ bounded → reserved bounded 1 ≡ option_map (λ n. 1) o

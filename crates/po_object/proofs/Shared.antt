@@ -16,7 +16,6 @@ use Rattle.po_core.specs.declared.record.Record as Record
 use Rattle.po_receipts.specs.declared.receipts.Receipts as Receipts
 use Rattle.po_object.specs.contracts.reservation.Reservations as Reservations
 use Rattle.po_object.specs.contracts.reservation.Reservations.TheInside as Reserved
-use Rattle.po_object.proofs.reservation.Reservations.TheSendSync as reservations
 use Rattle.po_object.specs.contracts.hold.Hold.TheInside as Held
 use Rattle.po_unit.specs.declared.unit.Unit as Unit
 use Rattle.std.specs.declared.cmp.PartialEq as PartialEq

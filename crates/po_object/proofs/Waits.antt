@@ -1,5 +1,5 @@
 -- What one test finds, another finds and counts too.
-use Rattle.std.proofs.Common.{◌≡◌, ℕ, ◌+◌, ◌≤◌, ◌==◌, List, [], ◌∷◌, refl, ap, sym, ◌∙◌, arith, cond, Bool, true, false, ◌&&◌, ◌||◌, nat_le, nat_lt, Option, Some, None, if◌then◌else◌, is_some}
+use Rattle.std.proofs.Common.{◌≡◌, ◌+◌, ◌≤◌, List, [], ◌∷◌, refl, ap, sym, ◌∙◌, arith, cond, Bool, true, false, Some, is_some}
 use Rattle.std.specs.List.{find, count_by}
 use Rattle.std.proofs.lemmas.List.Sums.{sum_by-cons}
 

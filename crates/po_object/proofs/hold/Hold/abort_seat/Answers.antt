@@ -1,9 +1,8 @@
-use Rattle.std.proofs.Common.{◌≡◌, ◌∙◌, ap, sym, Some, None}
+use Rattle.std.proofs.Common.{◌∙◌, ap, sym}
 use Rattle.po_accepted.specs.WaitingCalls.{is_of}
-use Rattle.po_actions.specs.ProtectedAction.{IsAbortOf, after_abort, abort_answer}
 use Rattle.po_object.proofs.Asking.{asked-abort_of}
 use Rattle.po_object.proofs.Counting.{counted-abort_of, abort-shape}
-use Rattle.po_object.proofs.LatestKept.{known-abort_of, cancels, found-by}
+use Rattle.po_object.proofs.LatestKept.{known-abort_of, cancels}
 use Rattle.po_object.proofs.Rooms.{room-same}
 use Rattle.po_object.proofs.hold.Hold.abort_seat.Goals as goal
 

@@ -2,7 +2,7 @@ use Rattle.std.proofs.Common.{sym, subst, ◌∙◌, ap, length}
 use Rattle.po_object.specs.Holds.{IsCounted}
 use Rattle.po_receipts.specs.Answers.{AskedBySeats}
 use Rattle.po_object.proofs.LatestKept.{known-collected, ended-ticket}
-use Rattle.po_object.proofs.Rooms.{is-used, gives-free, room-collected}
+use Rattle.po_object.proofs.Rooms.{gives-free, room-collected}
 use Rattle.po_object.proofs.hold.Hold.finish.Goals as goal
 
 pub invariant_of-self-2 : goal.invariant_of-self-2

@@ -1,4 +1,4 @@
-use Rattle.std.proofs.Common.{sym, ◌∙◌, ◌≡◌, ap, true, false, inl, inr}
+use Rattle.std.proofs.Common.{sym, ap, inl, inr}
 use Rattle.std.specs.Option.{option_map}
 use Rattle.std.proofs.lemmas.Bool.{cases_Bool}
 use Rattle.po_object.proofs.LatestKept.{never-waits, only-waits, only-ended}

@@ -1,8 +1,4 @@
-use Rattle.std.proofs.Common.{◌∙◌, ◌≡◌, ◌⊎◌, ap, refl, sym, subst, inl, inr, rules, Bool, true, false, Option, Some, None, is_some, if◌then◌else◌, nat_le}
-use Rattle.po_core.specs.declared.refusal.Refusal.{Refusal}
-use Rattle.po_core.specs.declared.refusal.Refusal.TheVariants.{Finalized, NumbersSpent, OutOfMemory}
-use Rattle.po_core.specs.Tickets.{CoreView}
-use Rattle.po_core.specs.Refusals.{MayRefuse, or_else, if_uncounted, tick_refusal, finalized_refusal}
+use Rattle.std.proofs.Common.{◌∙◌, ap, rules}
 use Rattle.po_object.specs.Refused.{IsTickRefusal}
 use Rattle.po_object.proofs.Refused.{tick-refused, tick-allowed}
 use Rattle.po_object.proofs.object.Object.tick.Goals as goal
