@@ -69,14 +69,7 @@ fn empty_buffer(alloc: Global) -> Result<BoundedCore<Buffer>>
 /// Calls the entry so many times, with the values from 0 on, and gives the pass back. The object is of either kind.
 ///
 /// A caller that is refused finalizes the object, so that no other waits for what it doesn't do.
-fn call_often<
-    C: CallLedger,
-    P: Ledger,
-    F: Ledger,
-    R: Record<Buffer>,
-    Q: Receipts<u64>,
-    W: Wait,
->(
+fn call_often<C: CallLedger, P: Ledger, F: Ledger, R: Record<Buffer>, Q: Receipts<u64>, W: Wait>(
     rt: &W,
     object: &Object<Buffer, C, P, F, R, Q>,
     mut pass: Pass<u64, C, P, F, Q>,
@@ -196,9 +189,7 @@ fn main(rt: HostRuntime) -> Result<()> {
     alone::run(&rt)?;
     let core = empty_buffer(rt.alloc())?;
     let (calls, procedures, free) = (Blank::new(PARTS), Blank::new(PARTS), Blank::new(PARTS));
-    let closed = use_object::<Brand, Brand, Brand, HostRuntime>(
-        rt, core, calls, procedures, free,
-    )?;
+    let closed = use_object::<Brand, Brand, Brand, HostRuntime>(rt, core, calls, procedures, free)?;
     let issued = closed.core().next().saturating_sub(START.first_number);
     println!(rt;
         "{issued} calls were issued, and {} were counted",

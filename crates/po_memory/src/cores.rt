@@ -4,8 +4,8 @@
 ghost use Rattle.po_classic_units.specs.Sizes.{IsSizeWhere};
 
 use crate::refusals::Refusals;
-use po_core::{Aborted, Core, Deadline, End, Order, Place, Refusal, Ticket};
 use po_classic_units::{Allocator, Buffer, ScriptUnit, Trap};
+use po_core::{Aborted, Core, Deadline, End, Order, Place, Refusal, Ticket};
 use po_index::EntryRef;
 use po_unit::Unit;
 use std::alloc::Global;

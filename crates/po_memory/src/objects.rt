@@ -7,8 +7,8 @@ ghost use Rattle.po_classic_units.specs.Sizes.{IsSizeWhere};
 
 use crate::cores::make_again;
 use crate::refusals::Refusals;
-use po_core::{Core, End, Order, Refusal, Volume};
 use po_classic_units::{Allocator, ScriptUnit};
+use po_core::{Core, End, Order, Refusal, Volume};
 use po_index::EntryRef;
 use po_object::hold::Pass;
 use po_object::{CallLedger, Closed, Object, OpenFault, reconcile};

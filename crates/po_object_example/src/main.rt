@@ -8,8 +8,8 @@
 ghost use Rattle.std.specs.Prelude.{◌≡◌, ◌+◌};
 
 use anyhow::{Result, bail};
-use po_core::{Aborted, Core, End, Order, Record};
 use po_classic_units::{Buffer, ScriptUnit};
+use po_core::{Aborted, Core, End, Order, Record};
 use po_index::EntryRef;
 use po_object::hold::Pass;
 use po_object::{CallLedger, Closed, Object, Receipt, Receipts, reconcile};
@@ -58,14 +58,7 @@ fn empty_buffer(alloc: Global) -> Result<Core<Buffer>> {
 /// Calls the entry so many times, with the values from 0 on, and gives the pass back. The object is of either kind.
 ///
 /// A caller that is refused finalizes the object, so that no other waits for what it doesn't do.
-fn call_often<
-    C: CallLedger,
-    P: Ledger,
-    F: Ledger,
-    R: Record<Buffer>,
-    Q: Receipts<u64>,
-    W: Wait,
->(
+fn call_often<C: CallLedger, P: Ledger, F: Ledger, R: Record<Buffer>, Q: Receipts<u64>, W: Wait>(
     rt: &W,
     object: &Object<Buffer, C, P, F, R, Q>,
     mut pass: Pass<u64, C, P, F, Q>,

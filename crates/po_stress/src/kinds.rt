@@ -138,8 +138,7 @@ pub(crate) fn run<
     ensures report { IfOk result (IsRun U.meaning threads job.calls) }
     ensures fault { IfErr result (λ fault. fault ≡ StressFault.OutOfMemory) }
 {
-    let core =
-        Core::start(rt.alloc(), unit, shape, Order::Textual, START).map_err(|_| AllocError)?;
+    let core = Core::start(rt.alloc(), unit, shape, Order::Textual, START).map_err(|_| AllocError)?;
     let (object, passes) = open_shared(rt.alloc(), core, threads, calls, procedures)?;
     let object: Arc<Object<U, C, P>> = object;
     let (closed, _ends) = run_over(rt, object, passes, progress, job, threads)?;
@@ -172,9 +171,14 @@ pub(crate) fn run_bounded<
     ensures fault { IfErr result (λ fault. fault ≡ StressFault.OutOfMemory) }
 {
     let most = usize::from(threads);
-    let core =
-        BoundedCore::with_capacity(rt.alloc(), unit, shape, Order::Textual, START, most)
-            .map_err(|_| AllocError)?;
+    let core = BoundedCore::with_capacity(
+        rt.alloc(),
+        unit,
+        shape,
+        Order::Textual,
+        START,
+        most,
+    ).map_err(|_| AllocError)?;
     let (object, passes) = open_shared_bounded(rt.alloc(), core, threads, calls, procedures, free)?;
     let object: Arc<BoundedObject<U, C, P, F>> = object;
     let (closed, ends) = run_over(rt, object, passes, progress, job, threads)?;
