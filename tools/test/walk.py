@@ -95,7 +95,7 @@ def all_types():
     """By each name of a type of crates/*/src that is seen as it is, and not by a view of its own, the files that declare it."""
     found = {}
     for path in sorted(CRATES.glob("*/src/*.rt")):
-        viewed = set(re.findall(r"\bModel for (\w+)", path.read_text()))
+        viewed = set(re.findall(r"\bModel\s+for (\w+)", path.read_text()))
         for name in types_in(path).keys() - viewed:
             found.setdefault(name, []).append(path)
     return found
@@ -208,8 +208,13 @@ def type_of(line):
 
 
 def head_of(lines):
-    """The first line that is no attribute."""
-    return next((line for line in lines if not line.startswith("#")), "")
+    """The head of an item, without its attributes: one line, or as many as there are up to its brace."""
+    head = ""
+    for line in (it for it in lines if not it.startswith("#")):
+        head += " " * bool(head) + line.strip()
+        if head.endswith(("{", "}", ";")):
+            break
+    return head
 
 
 def public_types(crate):
