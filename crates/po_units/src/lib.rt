@@ -1,4 +1,4 @@
-//! The units that come with the machine, as `po_classic_units` makes them, and the laws of four of them, which hold of every
+//! The units that come with the runtime, as `po_classic_units` makes them, and the laws of four of them, which hold of every
 //! core.
 #![tactic(auto)]
 
