@@ -27,8 +27,7 @@ use std::marker::Model;
 /// call that is being served, its tickets, for how many calls there is room, and how many calls had ended before the
 /// command. Each method is one word of the definitions of a step.
 ///
-/// It is what a core (`po_actions`), a machine (`a bounded core`) and a driven object (`po_driven`) stand on. How all calls have ended is
-/// known to proofs alone.
+/// It is what a core (`po_core`) and a driven object (`po_driven`) stand on. How all calls have ended is known to proofs alone.
 #[derive(Drop)]
 pub struct State<U: Unit> {
     unit: U,
