@@ -1,4 +1,4 @@
-//! The units that come with the machine: a bounded buffer, a signal, a broadcast, a pulse, a meeting, an allocator, a relay
+//! The units that come with the runtime: a bounded buffer, a signal, a broadcast, a pulse, a meeting, an allocator, a relay
 //! and a trap.
 //!
 //! Each head comment of a module shows its unit as an Ada protected type, over the one type of values

@@ -115,7 +115,7 @@ pub(crate) struct Run<'a> {
     pub(crate) events: &'a str,
 }
 
-/// Runs on a new core over a unit that comes with the machine.
+/// Runs on a new core over a unit that comes with the runtime.
 pub(crate) fn run_on<R: Abort + AllocGlobal, U: ScriptUnit>(
     rt: &R,
     unit: U,

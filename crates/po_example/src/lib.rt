@@ -1,4 +1,4 @@
-//! A unit that doesn't come with the machine, as an example of one of your own: a latch.
+//! A unit that doesn't come with the runtime, as an example of one of your own: a latch.
 #![tactic(auto)]
 
 mod latch;
