@@ -79,7 +79,10 @@ fn open_shared<
     ensures fresh { IfOk result (λ r. AreFresh threads r.1.items) }
 {
     match Object::<U, C, P, F, R, Q>::open(alloc, core, threads, calls, procedures) {
-        Ok((object, passes)) => share(alloc, object, passes),
+        Ok((object, passes)) => {
+            let shared = share(alloc, object, passes)?;
+            Ok(shared)
+        }
         Err(fault) => Err(let_go(fault)),
     }
 }
@@ -111,7 +114,10 @@ fn open_shared_bounded<
     ensures fresh { IfOk result (λ r. AreFresh threads r.1.items) }
 {
     match Object::<U, C, P, F, R, Q>::open_bounded(alloc, core, threads, calls, procedures, free) {
-        Ok((object, passes)) => share(alloc, object, passes),
+        Ok((object, passes)) => {
+            let shared = share(alloc, object, passes)?;
+            Ok(shared)
+        }
         Err(fault) => Err(let_go(fault.fault)),
     }
 }

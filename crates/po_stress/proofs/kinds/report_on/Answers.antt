@@ -10,7 +10,7 @@ pub returns : goal.returns
 returns g c =
     let holds : CoreView g.row.U.Denot _ → Type 0 = λ core. Headline g.U.Unit.meaning core.object in
     let passes = c.args.closed.now.passes in
-    let tallies : All (λ pass. pass.calls ≡ c.args.calls) passes = c.requires in
+    let tallies : All (λ pass. pass.calls ≡ c.args.calls) passes = c.requires.tallies in
     record {
       closed = c.args.closed.now;
       seats = refl;
