@@ -4,6 +4,7 @@ use crate::asks::same;
 use crate::buffers::empty_buffer;
 use crate::scenes::Scene;
 use crate::shelf::{Shelf, perform};
+use po_classic_units::Buffer;
 use po_core::{Core, Volume};
 use po_object::{Agreed, Closed, ReconcileFault, reconcile};
 use po_unit::Unit;
@@ -12,9 +13,9 @@ use std::sync::Wait;
 use std::test::Fail;
 
 /// The volumes of an object in which the value was put and got, with a cut behind each of the calls.
-fn cut_off<U: Unit<Value = u64> + Drop, R: Abort + Wait + AllocGlobal>(
+fn cut_off<R: Abort + Wait + AllocGlobal>(
     rt: &R,
-    core: Core<U>,
+    core: Core<Buffer>,
     value: u64,
 ) -> Result<Vec<Volume<u64>>, &'static str> {
     let shelf = perform(rt, core, 1, Scene::Cuts(value))?;
@@ -66,9 +67,9 @@ fn compare_other<U: Unit<Value = u64>, R: Abort>(
 }
 
 /// Compares an object in which 7 was put with its own volumes, and with those of the other object.
-fn compare_all<U: Unit<Value = u64> + Drop, R: Abort + Wait + AllocGlobal>(
+fn compare_all<R: Abort + Wait + AllocGlobal>(
     rt: &R,
-    core: Core<U>,
+    core: Core<Buffer>,
     others: &mut Vec<Volume<u64>>,
 ) -> Result<(), &'static str> {
     let mut shelf = perform(rt, core, 1, Scene::Cuts(7))?;
