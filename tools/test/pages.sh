@@ -5,8 +5,8 @@
 # The most wrong bodies that the tree has: each costs half a minute of a full run (CONTRIBUTING.md).
 most_edits=122
 
-# The most words that all pages together have, outside of code; 20,000 are the aim.
-most_words=22500
+# The most words that all pages together have, outside of code.
+most_words=20000
 
 # Each crate of crates.txt has a row in the map, and each row a crate.
 map_is_whole() {
