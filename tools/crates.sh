@@ -19,9 +19,9 @@ build_words() {
 # How many minutes the first build of the program takes on four processors.
 minutes_of() {
   case $1 in
-    pobj_check) echo "25 to 35" ;;
-    pobj_stress) echo "40 to 55" ;;
-    *) echo "20 to 30" ;;
+    pobj_check) echo "20 to 30" ;;
+    pobj_stress) echo "30 to 45" ;;
+    *) echo "15 to 25" ;;
   esac
 }
 

@@ -3,11 +3,10 @@
 //! memory answers the same, whatever was refused.
 
 ghost use Rattle.std.specs.Prelude.{◌≡◌};
-ghost use Rattle.po_classic_units.specs.Sizes.{IsSizeWhere};
 
 use crate::cores::make_again;
 use crate::refusals::Refusals;
-use po_classic_units::{Allocator, ScriptUnit};
+use po_classic_units::Allocator;
 use po_core::{Core, End, Order, Refusal, Volume};
 use po_index::EntryRef;
 use po_object::hold::Pass;
@@ -215,13 +214,13 @@ fn issued_none<U: Unit>(core: &Core<U>) -> bool {
 }
 
 /// Opens an object with one seat, once more with what is handed back where memory was wanting.
-fn open<U: Unit<Value = u64> + Drop, C: CallLedger, P: Ledger>(
+fn open<C: CallLedger, P: Ledger>(
     alloc: Global,
-    core: Core<U>,
+    core: Core<Allocator>,
     calls: Blank,
     procedures: Blank,
     refusals: &mut Refusals,
-) -> Option<(Object<U, C, P>, Vec<Pass<u64, C, P>>)>
+) -> Option<(Object<Allocator, C, P>, Vec<Pass<u64, C, P>>)>
     requires shape { core.object.making.shape ≡ C.shape }
     requires calls { (calls.name ≡ C.name) × (calls.parts ≡ C.parts) × (calls.parts ≡ 2) }
     requires procedures { (procedures.name ≡ P.name) × (procedures.parts ≡ P.parts) × (procedures.parts ≡ 2) }
@@ -276,9 +275,9 @@ fn print_end<U: Unit<Value = u64>, R: Print>(
 }
 
 /// Opens, uses and closes an object over the core, and counts how often memory was wanting.
-fn try_object<U: Unit<Value = u64> + Drop, C: CallLedger, P: Ledger, R: Print + Wait + AllocGlobal>(
+fn try_object<C: CallLedger, P: Ledger, R: Print + Wait + AllocGlobal>(
     rt: &R,
-    core: Core<U>,
+    core: Core<Allocator>,
     calls: Blank,
     procedures: Blank,
     refusals: &mut Refusals,
@@ -287,7 +286,7 @@ fn try_object<U: Unit<Value = u64> + Drop, C: CallLedger, P: Ledger, R: Print + 
     requires calls { (calls.name ≡ C.name) × (calls.parts ≡ C.parts) × (calls.parts ≡ 2) }
     requires procedures { (procedures.name ≡ P.name) × (procedures.parts ≡ P.parts) × (procedures.parts ≡ 2) }
 {
-    let opened = open::<U, C, P>(rt.alloc(), core, calls, procedures, refusals);
+    let opened = open::<C, P>(rt.alloc(), core, calls, procedures, refusals);
     let Some((object, mut passes)) = opened else {
         return println!(rt; "not opened");
     };
@@ -296,24 +295,14 @@ fn try_object<U: Unit<Value = u64> + Drop, C: CallLedger, P: Ledger, R: Print + 
     print_end(rt, &closed, volumes)
 }
 
-/// Tries an object over a core of the unit of size 1, and counts how often memory was wanting.
-fn try_unit<U: ScriptUnit, R: Print + Wait + AllocGlobal>(
-    rt: &R,
-    refusals: &mut Refusals,
-) -> io::Result<()>
-    requires { IsSizeWhere U.known.names.is_sized 1 }
-{
-    let Some(core) = make_again::<U>(rt.alloc(), 1, Order::Textual, refusals) else {
-        return println!(rt; "refused twice");
-    };
-    let (calls, procedures) = (Blank::new(2), Blank::new(2));
-    try_object::<U, Brand, Brand, R>(rt, core, calls, procedures, refusals)
-}
-
 /// Tries an object over an allocator of 1, and counts how often memory was wanting.
 pub(crate) fn run<R: Print + Wait + AllocGlobal>(
     rt: &R,
     refusals: &mut Refusals,
 ) -> io::Result<()> {
-    try_unit::<Allocator, R>(rt, refusals)
+    let Some(core) = make_again::<Allocator>(rt.alloc(), 1, Order::Textual, refusals) else {
+        return println!(rt; "refused twice");
+    };
+    let (calls, procedures) = (Blank::new(2), Blank::new(2));
+    try_object::<Brand, Brand, R>(rt, core, calls, procedures, refusals)
 }

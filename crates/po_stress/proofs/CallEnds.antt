@@ -1,7 +1,7 @@
 -- How calls ended, in numbers: receipt by receipt, and pass by pass.
-use Rattle.std.proofs.Common.{subst, ◌≡◌, ◌<◌, ◌+◌, ◌*◌, ◌++◌, ℕ, List, [], ◌∷◌, length, get_or, slice_get, refl, sym, ap, ◌∙◌, arith, Option, Some, None, Bool, true, false, cond, Result}
-use Rattle.std.specs.List.{All, count_by, sum_by, filter, find}
-use Rattle.std.proofs.lemmas.List.Elements.{All-nil, All-cons, All-head, All-tail, All-from_get_or}
+use Rattle.std.proofs.Common.{subst, ◌≡◌, ◌<◌, ◌+◌, ◌++◌, ℕ, List, [], ◌∷◌, length, get_or, slice_get, refl, sym, ap, ◌∙◌, arith, Some, None, Bool, true, false, cond, Result}
+use Rattle.std.specs.List.{All, count_by, filter, find}
+use Rattle.std.proofs.lemmas.List.Elements.{All-head, All-tail, All-from_get_or}
 use Rattle.std.proofs.lemmas.List.Sums.{length-filter, sum_by-append, sum_by-cons}
 use Rattle.std.proofs.lemmas.Option.{get_or_from_slice_get}
 use Rattle.po_calls.specs.declared.call.Deadline.{Deadline}

@@ -1,5 +1,5 @@
 -- What the numbers of a report add up to, where the receipts of all seats agree with the history.
-use Rattle.std.proofs.Common.{◌≡◌, ◌==◌, ◌<◌, ◌+◌, ◌*◌, ℕ, List, [], ◌∷◌, map, length, drop, refl, sym, ap, ◌∙◌, arith, Option, Some, None, Bool, true, false, cond, get_or}
+use Rattle.std.proofs.Common.{◌≡◌, ◌<◌, ◌+◌, ◌*◌, ℕ, List, [], ◌∷◌, map, length, drop, refl, sym, ap, ◌∙◌, arith, Option, Some, None, Bool, true, false, cond, get_or}
 use Rattle.std.specs.List.{All, slice_get, count_by, sum_by, filter}
 use Rattle.std.specs.Option.{IfSome}
 use Rattle.std.specs.Prelude.{is_some, option_map}

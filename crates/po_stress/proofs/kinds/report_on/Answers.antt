@@ -1,4 +1,4 @@
-use Rattle.std.proofs.Common.{◌≡◌, ℕ, refl, subst}
+use Rattle.std.proofs.Common.{◌≡◌, refl, subst}
 use Rattle.std.specs.List.{All}
 use Rattle.po_actions.specs.Headline.{Headline}
 use Rattle.po_core.specs.Tickets.{CoreView}

@@ -10,4 +10,4 @@ abbrev pub ghosts-run_bounded-F-Ledger : goal.ghosts-run_bounded-F-Ledger
 ghosts-run_bounded-F-Ledger g a = record { name = a.free.name; parts = a.free.parts }
 
 abbrev pub ghosts-run_bounded-C-CallLedger : goal.ghosts-run_bounded-C-CallLedger
-ghosts-run_bounded-C-CallLedger g a = record { shape = a.core.object.making.shape }
+ghosts-run_bounded-C-CallLedger g a = record { shape = a.shape }

@@ -7,4 +7,4 @@ abbrev pub ghosts-run-P-Ledger : goal.ghosts-run-P-Ledger
 ghosts-run-P-Ledger g a = record { name = a.procedures.name; parts = a.procedures.parts }
 
 abbrev pub ghosts-run-C-CallLedger : goal.ghosts-run-C-CallLedger
-ghosts-run-C-CallLedger g a = record { shape = a.core.object.making.shape }
+ghosts-run-C-CallLedger g a = record { shape = a.shape }

@@ -1,4 +1,4 @@
-use Rattle.po_memory.proofs.objects.try_unit.Given as goal
+use Rattle.po_memory.proofs.objects.run.Given as goal
 
 abbrev pub ghosts-try_object-C-Ledger : goal.ghosts-try_object-C-Ledger
 ghosts-try_object-C-Ledger g a = record { name = a.calls.name; parts = a.calls.parts }
