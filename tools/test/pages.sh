@@ -5,8 +5,8 @@
 # The most wrong bodies that the tree has: each costs half a minute of a full run (CONTRIBUTING.md).
 most_edits=123
 
-# The most words that all pages together have, outside of code; 20,000 are the aim.
-most_words=22500
+# The most words that all pages together have, outside of code.
+most_words=20000
 
 # Each crate of crates.txt has a row in the map, and each row a crate.
 map_is_whole() {
@@ -49,19 +49,18 @@ headline_is_counted() {
   if grep -qF "$counted" README.md; then pass; else fail "README.md doesn't say '$counted', as docs/PROVED.md counts"; fi
 }
 
-# Each file, type, function and clause that the table of claims of docs/PROVED.md names is there: the names in one of the row's files.
+# Each file, type, function and clause that the table of claims of docs/PROVED.md names is there: names in the file that follows them.
 claims_lead_somewhere() {
-  local cell name names files
-  while read -r cell; do
-    names=$(grep -oE '`[A-Za-z_:]+`' <<<"$cell" | tr -d '`' | sed 's/::/\n/')
-    mapfile -t files < <(grep -oE 'po_[a-z_]+/src/[a-z_]+\.rt' <<<"$cell" | sed 's:^:crates/:')
-    for name in "${files[@]}"; do
-      if [ -f "$name" ]; then pass; else fail "docs/PROVED.md names $name, which isn't there"; fi
-    done
+  local part name names file
+  while read -r part; do
+    names=$(grep -oE '`[A-Za-z_:]+`' <<<"$part" | tr -d '`' | sed 's/::/\n/')
+    file=$(grep -oE 'po_[a-z_]+/src/[a-z_]+\.rt' <<<"$part" | sed 's:^:crates/:')
+    [ -n "$names$file" ] || continue
+    if [ -f "$file" ]; then pass; else fail "docs/PROVED.md names '$file', which isn't there"; fi
     for name in $names; do
-      if grep -qsE "\\b(fn|struct|trait|impl.*[ :]) ?$name\\b|\\bensures $name \\{" "${files[@]}" /dev/null; then pass; else fail "docs/PROVED.md: $name isn't in ${files[*]}"; fi
+      if grep -qsE "\\b(fn|struct|trait|impl.*[ :]) ?$name\\b|\\bensures $name \\{" "$file"; then pass; else fail "docs/PROVED.md: $name isn't in $file"; fi
     done
-  done < <(awk -F'|' '$3 ~ /po_.*\/src\// { print $3 }' docs/PROVED.md)
+  done < <(awk -F'|' '$3 ~ /po_.*\/src\// { print $3 }' docs/PROVED.md | sed -E 's:`po_[a-z_]+/src/[a-z_]+\.rt`:&\n:g')
 }
 
 # The code in docs/OBJECTS.md stands in the example, word for word.
