@@ -44,7 +44,7 @@ ADA_ROUNDS = 9
 # The objects, and what stands before the word for the work where the program is to use them.
 PREFIXES = {"recorded": "", "bounded": "bounded-", "gnat": ""}
 OURS = ("recorded", "bounded")
-PROGRAM = programs.TOP / "crates/po_bench/out/po_bench"
+PROGRAM = programs.TOP / "crates/bench_calls/out/bench_calls"
 # What `./pobj c` fills, and the program that measures it.
 LIBRARY = programs.OUT / "library"
 FROM_C = programs.OUT / "from_c"
@@ -79,10 +79,10 @@ def prepare():
     prepare_from_c()
     if is_current():
         return
-    programs.say("po_bench is built first, which takes minutes")
+    programs.say("bench_calls is built first, which takes minutes")
     built = subprocess.run(["rt", "run", "--", "small"], cwd=PROGRAM.parent.parent, capture_output=True, text=True)
     if built.returncode != 0:
-        raise programs.Failed(f"po_bench can't be built:\n{built.stdout[-2000:]}{built.stderr[-2000:]}")
+        raise programs.Failed(f"bench_calls can't be built:\n{built.stdout[-2000:]}{built.stderr[-2000:]}")
 
 
 def prepare_ada():

@@ -1,4 +1,4 @@
---  Times what tasks do over and over with a protected object, as po_bench does it with threads and an object of
+--  Times what tasks do over and over with a protected object, as bench_calls does it with threads and an object of
 --  pobj: the words are WORK TASKS TURNS, and it writes WORK TASKS DONE NANOSECONDS.
 with Ada.Command_Line;
 with Ada.Real_Time; use Ada.Real_Time;

@@ -14,7 +14,7 @@ sys.path.insert(0, str(pathlib.Path(__file__).resolve().parent))
 from svg import box, picture, tag, text, told
 
 # What is no part of the product: tests, examples, and programs for the gate and for measuring.
-NO_PRODUCT = re.compile(r".*_(tests|example)|po_memory|po_bench")
+NO_PRODUCT = re.compile(r"(test|example|bench)_.*")
 # In pixels: the margin, the height of a box, what is between two layers and between two boxes beside each other, and the room for
 # an arrow that passes a layer.
 MARGIN, HIGH, BETWEEN, BESIDE, PASSING = 16, 26, 34, 14, 16

@@ -11,7 +11,7 @@ sys.dont_write_bytecode = True
 import walk
 
 PAGE = walk.TOP / "docs" / "DEFINITIONS.md"
-PRODUCT = ("po_core", "po_actions", "po_object", "po_driven", "po_c")
+PRODUCT = ("po_core", "po_object", "po_driven", "po_c")
 
 
 def files_of(heading):

@@ -11,7 +11,7 @@ most_words=20000
 # Each crate of crates.txt has a row in the map, and each row a crate.
 map_is_whole() {
   local rows names
-  rows=$(sed -nE 's/^\| `(po(bj)?_[a-z_]+)` \|.*/\1/p' docs/ARCHITECTURE.md | LC_ALL=C sort)
+  rows=$(grep -E '^\| `[a-z]+_[a-z_]+`[ ,]' docs/ARCHITECTURE.md | cut -d'|' -f2 | grep -oE '\b(po|pobj|example|test|bench)_[a-z_]+' | LC_ALL=C sort)
   names=$(crate_names | LC_ALL=C sort)
   if [ "$rows" = "$names" ]; then pass; else fail "docs/ARCHITECTURE.md and crates.txt differ: $(diff <(echo "$rows") <(echo "$names"))"; fi
 }
@@ -54,21 +54,21 @@ claims_lead_somewhere() {
   local part name names file
   while read -r part; do
     names=$(grep -oE '`[A-Za-z_:]+`' <<<"$part" | tr -d '`' | sed 's/::/\n/')
-    file=$(grep -oE 'po_[a-z_]+/src/[a-z_]+\.rt' <<<"$part" | sed 's:^:crates/:')
+    file=$(grep -oE '(po|example)_[a-z_]+/src/[a-z_]+\.rt' <<<"$part" | sed 's:^:crates/:')
     [ -n "$names$file" ] || continue
     if [ -f "$file" ]; then pass; else fail "docs/PROVED.md names '$file', which isn't there"; fi
     for name in $names; do
       if grep -qsE "\\b(fn|struct|trait|impl.*[ :]) ?$name\\b|\\bensures $name \\{" "$file"; then pass; else fail "docs/PROVED.md: $name isn't in $file"; fi
     done
-  done < <(awk -F'|' '$3 ~ /po_.*\/src\// { print $3 }' docs/PROVED.md | sed -E 's:`po_[a-z_]+/src/[a-z_]+\.rt`:&\n:g')
+  done < <(awk -F'|' '$3 ~ /(po|example)_.*\/src\// { print $3 }' docs/PROVED.md | sed -E 's:`(po|example)_[a-z_]+/src/[a-z_]+\.rt`:&\n:g')
 }
 
 # The code in docs/OBJECTS.md stands in the example, word for word.
 code_is_the_example() {
   local block source
-  source=$(<crates/po_object_example/src/main.rt)$'\n'
+  source=$(<crates/example_object/src/main.rt)$'\n'
   while IFS= read -r -d '' block; do
-    if [[ $source == *"$block"* ]]; then pass; else fail "docs/OBJECTS.md has code that isn't in po_object_example: $block"; fi
+    if [[ $source == *"$block"* ]]; then pass; else fail "docs/OBJECTS.md has code that isn't in example_object: $block"; fi
   done < <(awk '/^```$/ && inside { printf "%c", 0; inside = 0 } inside { print } /^```rust$/ { inside = 1 }' docs/OBJECTS.md)
 }
 
@@ -109,8 +109,8 @@ pages() {
   headline_is_counted
   claims_lead_somewhere
   code_is_the_example
-  lines_stand_in LAWS.md po_readers_example
-  lines_stand_in YOUR_UNIT.md po_example
+  lines_stand_in LAWS.md example_readers
+  lines_stand_in YOUR_UNIT.md example_unit
   paragraphs_are_short
   pages_are_short
   edits_are_few

@@ -208,7 +208,7 @@ class Crates(unittest.TestCase):
     """The graph of crates."""
 
     def test_arrows(self):
-        needs = crates.needs_in("# crates\na:\nb: a out\nc staticlib: b a\nd_tests: a\n")
+        needs = crates.needs_in("# crates\na:\nb: a out\nc staticlib: b a\ntest_d: a\n")
         self.assertEqual(needs, {"a": [], "b": ["a"], "c": ["b", "a"]})
         self.assertEqual(crates.direct(needs), {"a": [], "b": ["a"], "c": ["b"]})
         self.assertEqual(crates.layers_of(crates.direct(needs)), {"a": 0, "b": 1, "c": 2})

@@ -31,7 +31,7 @@ changed_crates() {
 }
 
 # Whether a crate is tests alone, a library by its form.
-is_tests_alone() { [[ $1 == *_tests && -f crates/$1/src/lib.rt ]]; }
+is_tests_alone() { [[ $1 == test_* && -f crates/$1/src/lib.rt ]]; }
 
 # Leaves out of the copy the crates that are tests alone: they were run before, with a check at each operation.
 leave_out_tests() {

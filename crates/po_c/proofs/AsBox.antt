@@ -8,7 +8,7 @@ use Rattle.std.specs.contracts.impls.GlobalAllocator.TheImpl.{ghosts, dict}
 use Rattle.std.proofs.alloc.Global.TheLaws as heap
 use Rattle.po_driven.specs.contracts.driven_object.DrivenObject as Object
 use Rattle.po_driven.proofs.driven_object.DrivenObject.TheLaws as object
-use Rattle.po_loose.specs.contracts.Loose as Loose
+use Rattle.po_c.specs.contracts.loose.Loose as Loose
 use Rattle.po_c.specs.contracts.handle.Handle as Handle
 
 abbrev pub E : Bx

@@ -57,7 +57,7 @@ abbrev pub arriving_named : ℕ → ℕ → ℕ → Arriving ℕ
 arriving_named caller entry marks = record {
   entry = entry_named entry;
   value = caller;
-  sealed = has_mark marks 2;
+  without_abort = has_mark marks 2;
   aborted = has_mark marks 4;
   deadline = if has_mark marks 1 then At 0 else Never;
 }

@@ -4,8 +4,8 @@ ghost use Rattle.std.specs.Prelude.{◌≡◌, Some, None, IsSome, Option};
 ghost use Rattle.po_c.specs.Held.{held, object_coded};
 ghost use Rattle.po_driven.specs.DrivenView.{DrivenView};
 
+use crate::loose::Loose;
 use po_driven::DrivenObject;
-use po_loose::Loose;
 use std::alloc::Global;
 use std::marker::Model;
 use std::mem::replace;

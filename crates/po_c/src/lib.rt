@@ -4,11 +4,12 @@
 ghost use Rattle.std.specs.Prelude.{◌≡◌, ◌<◌, None, Some, IsSome, MatchBool, count_by, slice_set, true, false, ◌≤◌};
 ghost use Rattle.po_c.specs.Told.{FromTo, Cancelling, is_not_zero, Answers, entry_named, arriving_named, barrier_named, body_end_named};
 ghost use Rattle.po_driven.specs.Steps.{Attempts, EndsBody, Evaluates, Finalizes, GoesOn, Issues};
-ghost use Rattle.po_accepted.specs.WaitingCalls.{is_on};
+ghost use Rattle.po_engine.specs.WaitingCalls.{is_on};
 ghost use Rattle.po_driven.specs.DrivenView.{DrivenView, at_opening};
 ghost use Rattle.po_driven.specs.TracedView.{opening_calls};
 
 mod handle;
+mod loose;
 mod numbers;
 
 use handle::Handle;

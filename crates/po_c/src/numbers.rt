@@ -66,7 +66,7 @@ pub fn arriving_of(caller: u64, entry: u64, marks: u64) -> Arriving<u64>
     Arriving {
         entry: entry_of(entry),
         value: caller,
-        sealed: has_mark(marks, 2),
+        without_abort: has_mark(marks, 2),
         aborted: has_mark(marks, 4),
         deadline: if has_mark(marks, 1) {
             Deadline::At(0)

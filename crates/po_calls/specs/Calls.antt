@@ -5,8 +5,8 @@ use Rattle.po_calls.specs.declared.ticket.Ticket.{Ticket}
 use Rattle.po_calls.specs.declared.call.Call.{Call}
 use Rattle.po_calls.specs.declared.kept.Kept.{Kept}
 use Rattle.po_calls.specs.declared.end.End.{End}
-use Rattle.po_calls.specs.declared.end.Place.{Place}
-use Rattle.po_calls.specs.declared.end.Place.TheVariants.{Unknown, Waiting, Ended}
+use Rattle.po_calls.specs.declared.end.CallStatus.{CallStatus}
+use Rattle.po_calls.specs.declared.end.CallStatus.TheVariants.{Unknown, Waiting, Ended}
 
 -- The calls by their keys, and the greatest number of a call that was put, if one was (this project's own).
 pub record CallTable (V : Type 0) : Type 0 where
@@ -36,14 +36,14 @@ module _ {V : Type 0} where
   kept table ticket = with_number ticket.number (get table.calls ticket.key)
 
   -- Where a call with this end is, if it has ended (this project's own).
-  abbrev pub place_with_end : Option (End V) → Place V
-  place_with_end None = Waiting
-  place_with_end (Some end) = Ended end
+  abbrev pub status_with_end : Option (End V) → CallStatus V
+  status_with_end None = Waiting
+  status_with_end (Some end) = Ended end
 
   -- Where a call is, by what is kept of it (this project's own).
-  abbrev pub place_of : Option (Kept V) → Place V
-  place_of None = Unknown
-  place_of (Some k) = place_with_end k.end
+  abbrev pub status_of : Option (Kept V) → CallStatus V
+  status_of None = Unknown
+  status_of (Some k) = status_with_end k.end
 
   -- The call, where it waits (this project's own).
   abbrev pub waiting_call : Option (Kept V) → Option (Call V)
@@ -76,6 +76,6 @@ module _ {V : Type 0} where
     pub unknown : kept table ticket ≡ None
     pub reached : IsReached table.last ticket.number
 
-  -- Spent tickets stay spent (this project's own).
+  -- ClosedPass tickets stay spent (this project's own).
   abbrev pub KeepsSpent : CallTable V → CallTable V → Type 0
   KeepsSpent old new = (ticket : Ticket) → IsSpent old ticket → IsSpent new ticket

@@ -21,8 +21,8 @@ pub struct Call<V> {
     /// Its parameter, of mode `in out`.
     pub value: V,
     /// Whether it was queued by a requeue without abort, and so is protected against cancellation (9.5.4).
-    pub sealed: bool,
-    /// Whether an attempt was made to cancel it while it was sealed.
+    pub without_abort: bool,
+    /// Whether an attempt was made to cancel it while it was queued without abort.
     pub aborted: bool,
     /// Until when it waits.
     pub deadline: Deadline,

@@ -16,7 +16,7 @@ pub enum End<V> {
 
 /// Where the call of a ticket is.
 #[derive(Clone, Copy, Debug, PartialEq, Eq)]
-pub enum Place<V> {
+pub enum CallStatus<V> {
     /// The ticket is of no uncollected call.
     Unknown,
     /// The call waits on a queue.
@@ -24,3 +24,6 @@ pub enum Place<V> {
     /// The call has ended in this way.
     Ended(End<V>),
 }
+
+/// `CallStatus`, for callers that know it by this name.
+pub type Place<V> = CallStatus<V>;

@@ -8,6 +8,6 @@ mod table;
 mod ticket;
 
 pub use call::{Call, Deadline};
-pub use end::{End, Place};
+pub use end::{CallStatus, End, Place};
 pub use table::Table;
 pub use ticket::Ticket;

@@ -4,11 +4,11 @@ ghost use Rattle.std.specs.Prelude.{ℕ, [], ◌≡◌, ◌<◌, ◌≤◌, ◌+
 ghost use Rattle.slab.specs.Slab.{get, slab_len, HasRoomFor, Updates};
 ghost use Rattle.po_calls.specs.declared.ticket.Ticket.{Ticket};
 ghost use Rattle.po_calls.specs.declared.call.Call.{Call};
-ghost use Rattle.po_calls.specs.declared.end.Place.TheVariants.{Waiting};
-ghost use Rattle.po_calls.specs.Calls.{kept, place_of, waiting_call, end_of, Sets, KeepsRoom, numbers_of, IsAbove, IsSpent, KeepsSpent};
+ghost use Rattle.po_calls.specs.declared.end.CallStatus.TheVariants.{Waiting};
+ghost use Rattle.po_calls.specs.Calls.{kept, status_of, waiting_call, end_of, Sets, KeepsRoom, numbers_of, IsAbove, IsSpent, KeepsSpent};
 
 use crate::call::{Call, Deadline};
-use crate::end::{End, Place};
+use crate::end::{CallStatus, End};
 use crate::kept::Kept;
 use crate::ticket::Ticket;
 use slab::Slab;
@@ -157,21 +157,21 @@ impl<V: Copy> Table<V> {
     }
 
     /// Where the call of the ticket is.
-    pub fn place(&self, ticket: Ticket) -> Place<V>
-        ensures { result ≡ place_of (kept self.now ticket) }
+    pub fn status(&self, ticket: Ticket) -> CallStatus<V>
+        ensures { result ≡ status_of (kept self.now ticket) }
     {
         match self.calls.get(ticket.key) {
             Some(found) if found.call.number == ticket.number => match found.end {
-                None => Place::Waiting,
-                Some(end) => Place::Ended(end),
+                None => CallStatus::Waiting,
+                Some(end) => CallStatus::Ended(end),
             },
-            _ => Place::Unknown,
+            _ => CallStatus::Unknown,
         }
     }
 
     /// Ends a waiting call in this way.
     pub fn finish(&mut self, ticket: Ticket, end: End<V>)
-        requires { place_of (kept self.old ticket) ≡ Waiting }
+        requires { status_of (kept self.old ticket) ≡ Waiting }
         ensures sets { (call : Call V) → waiting_call (kept self.old ticket) ≡ Some call
             → Sets self.old self.new ticket (Some (record { call = call; end = Some end })) }
         ensures updates { (call : Call V) → waiting_call (kept self.old ticket) ≡ Some call
@@ -207,17 +207,17 @@ impl<V: Copy> Table<V> {
         Some(end)
     }
 
-    /// Gives a waiting call another entry, value and seal.
-    pub fn requeue(&mut self, ticket: Ticket, entry: u16, value: V, sealed: bool)
-        requires { place_of (kept self.old ticket) ≡ Waiting }
+    /// Gives a waiting call another entry and value, and whether it may be cancelled.
+    pub fn requeue(&mut self, ticket: Ticket, entry: u16, value: V, without_abort: bool)
+        requires { status_of (kept self.old ticket) ≡ Waiting }
         ensures sets { (call : Call V) → waiting_call (kept self.old ticket) ≡ Some call
             → Sets self.old self.new ticket (Some (record {
-              call = record call { entry = entry; value = value; sealed = sealed };
+              call = record call { entry = entry; value = value; without_abort = without_abort };
               end = None;
             })) }
         ensures updates { (call : Call V) → waiting_call (kept self.old ticket) ≡ Some call
             → Updates self.old.calls self.new.calls ticket.key (Some (record {
-              call = record call { entry = entry; value = value; sealed = sealed };
+              call = record call { entry = entry; value = value; without_abort = without_abort };
               end = None;
             })) }
         ensures room { KeepsRoom self.old self.new }
@@ -227,13 +227,13 @@ impl<V: Copy> Table<V> {
         if let Some(requeued) = self.calls.get_mut(ticket.key) {
             requeued.call.entry = entry;
             requeued.call.value = value;
-            requeued.call.sealed = sealed;
+            requeued.call.without_abort = without_abort;
         }
     }
 
     /// Gives a waiting call another deadline.
     pub fn set_deadline(&mut self, ticket: Ticket, deadline: Deadline)
-        requires { place_of (kept self.old ticket) ≡ Waiting }
+        requires { status_of (kept self.old ticket) ≡ Waiting }
         ensures sets { (call : Call V) → waiting_call (kept self.old ticket) ≡ Some call
             → Sets self.old self.new ticket (Some (record { call = record call { deadline = deadline }; end = None })) }
         ensures updates { (call : Call V) → waiting_call (kept self.old ticket) ≡ Some call
@@ -250,7 +250,7 @@ impl<V: Copy> Table<V> {
 
     /// Marks a waiting call as aborted.
     pub fn mark(&mut self, ticket: Ticket)
-        requires { place_of (kept self.old ticket) ≡ Waiting }
+        requires { status_of (kept self.old ticket) ≡ Waiting }
         ensures sets { (call : Call V) → waiting_call (kept self.old ticket) ≡ Some call
             → Sets self.old self.new ticket (Some (record { call = record call { aborted = true }; end = None })) }
         ensures updates { (call : Call V) → waiting_call (kept self.old ticket) ≡ Some call

@@ -1,5 +1,5 @@
-pub mod Claims
-pub mod Warnings
-pub mod Reports
-pub mod Checked
 pub mod Check
+pub mod Checked
+pub mod Claims
+pub mod Reports
+pub mod Warnings

@@ -17,7 +17,7 @@ use crate::fault::CheckFault;
 use crate::finding::{Finding, Found};
 use crate::report::Report;
 use crate::verdict::Verdict;
-use po_language::{LineFault, Place, Reason};
+use po_language::{LineFault, Reason, Span};
 use po_script::facts::refused_behind;
 use po_script::{ScriptObject, Source, Units};
 use std::alloc::Global;
@@ -162,7 +162,7 @@ impl Check {
         LineFault {
             reason,
             word: 0,
-            place: Place {
+            span: Span {
                 start: self.line.len(),
                 length: 0,
             },

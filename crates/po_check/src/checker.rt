@@ -13,9 +13,9 @@ use crate::finding::{Finding, Found};
 use crate::known::Known;
 use crate::report::Report;
 use crate::verdict::Verdict;
-use po_index::Shape;
-use po_language::{Command, LineFault, Place, Reason, command_of, form_of};
+use po_language::{Command, LineFault, Reason, Span, command_of, form_of};
 use po_script::{ScriptObject, UnitFacts};
+use po_unit::Shape;
 use std::alloc::{AllocError, Global};
 
 /// The most bytes of a line without its newline.
@@ -28,7 +28,7 @@ fn too_long() -> LineFault
     LineFault {
         reason: Reason::LineTooLong,
         word: 0,
-        place: Place {
+        span: Span {
             start: LINE_LIMIT,
             length: 0,
         },

@@ -1,9 +1,9 @@
 //! What a fault says.
 
 use crate::names::{COMMANDS, OPTIONS, unit_names};
-use crate::wording::{push_known, push_nearest, push_place, push_word};
+use crate::wording::{push_known, push_nearest, push_position, push_word};
 use po_language::words::{cut_word, number};
-use po_language::{Argument, LineFault, Place, Reason, UnitPart};
+use po_language::{Argument, LineFault, Reason, Span, UnitPart};
 use std::alloc::{AllocError, Global};
 use std::fmt::Write;
 
@@ -11,21 +11,21 @@ use std::fmt::Write;
 const BYTE_ORDER_MARK: [u8; 3] = [0xef, 0xbb, 0xbf];
 
 /// The word at the place.
-fn word_at(line: &[u8], place: Place) -> &[u8] {
-    if place.start > line.len() {
+fn word_at(line: &[u8], span: Span) -> &[u8] {
+    if span.start > line.len() {
         return &[];
     }
-    match cut_word(&line[place.start..]) {
+    match cut_word(&line[span.start..]) {
         Some((word, _)) => word,
         None => &[],
     }
 }
 
 /// Where the first tab of the word stands.
-fn tab_in(word: &[u8], place: Place) -> Option<Place> {
+fn tab_in(word: &[u8], span: Span) -> Option<Span> {
     let before = word.iter().position(|byte| *byte == b'\t')?;
-    Some(Place {
-        start: place.start.saturating_add(before),
+    Some(Span {
+        start: span.start.saturating_add(before),
         length: 1,
     })
 }
@@ -42,7 +42,7 @@ fn push_bytes(
     line: &[u8],
     fault: LineFault,
 ) -> Result<bool, AllocError> {
-    let word = word_at(line, fault.place);
+    let word = word_at(line, fault.span);
     if line_number == 1 && line.starts_with(&BYTE_ORDER_MARK) {
         text.push_str("line 1: begins with a byte order mark; a script has none")?;
         return Ok(true);
@@ -54,10 +54,10 @@ fn push_bytes(
         )?;
         return Ok(true);
     }
-    let Some(place) = tab_in(word, fault.place) else {
+    let Some(span) = tab_in(word, fault.span) else {
         return Ok(false);
     };
-    push_place(text, line_number, place)?;
+    push_position(text, line_number, span)?;
     text.push_str("a tab; only spaces stand between words")?;
     Ok(true)
 }
@@ -223,6 +223,6 @@ pub(crate) fn push_fault(
     if push_bytes(text, line_number, line, fault)? {
         return Ok(());
     }
-    push_place(text, line_number, fault.place)?;
-    push_reason(alloc, text, word_at(line, fault.place), fault.reason)
+    push_position(text, line_number, fault.span)?;
+    push_reason(alloc, text, word_at(line, fault.span), fault.reason)
 }

@@ -2,13 +2,13 @@
 
 use crate::finding::Finding;
 use crate::names::names_of;
-use crate::wording::{push_nearest, push_place, push_word, push_words};
+use crate::wording::{push_nearest, push_position, push_word, push_words};
 use po_classic_units::UnitNames;
 use po_core::Refusal;
-use po_index::{Decl, EntryRef, Shape};
-use po_language::place::place_of;
+use po_language::span::span_of;
 use po_language::words::{cut_word, entry_word};
-use po_language::{Operation, Place};
+use po_language::{Operation, Span};
+use po_unit::{Decl, EntryRef, Shape};
 use std::alloc::{AllocError, Global};
 use std::fmt::Write;
 
@@ -243,11 +243,11 @@ fn push_operation(
 }
 
 /// The word that names the operation, or nothing where it isn't there.
-fn operation_word(line: &[u8], place: Place) -> &[u8] {
-    if place.start > line.len() {
+fn operation_word(line: &[u8], span: Span) -> &[u8] {
+    if span.start > line.len() {
         return &[];
     }
-    word_of(&line[place.start..])
+    word_of(&line[span.start..])
 }
 
 /// Adds what the line of a finding says, whose operation is sure to be refused.
@@ -260,14 +260,14 @@ pub(crate) fn push_refusal(
     operation: Operation,
     refusal: Refusal,
 ) -> Result<(), AllocError> {
-    let place = place_of(line, name_word(line));
-    push_place(text, finding.number, place)?;
+    let span = span_of(line, name_word(line));
+    push_position(text, finding.number, span)?;
     let number = refusal.number();
     write!(text, "warning: refused {number}, ")?;
     let (Some(names), Some(shape)) = (names_of(finding.known), shape) else {
         return write!(text, "{refusal}");
     };
     let operations = Operations::new(alloc, &names, shape)?;
-    let word = operation_word(line, place);
+    let word = operation_word(line, span);
     push_operation(alloc, text, word, operation, &operations, shape)
 }

@@ -5,7 +5,7 @@ ghost use Rattle.po_check.specs.Reports.{Tells, claim_of};
 
 use crate::fault::CheckFault;
 use crate::finding::Finding;
-use po_index::Shape;
+use po_unit::Shape;
 
 /// Is told what a check finds, line by line, as it is found.
 pub trait Report {

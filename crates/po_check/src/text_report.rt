@@ -6,9 +6,9 @@ use crate::fault::CheckFault;
 use crate::finding::{Finding, Found};
 use crate::known::Known;
 use crate::report::Report;
-use po_index::Shape;
 use po_script::Sink;
 use po_script::sink::write_all;
+use po_unit::Shape;
 use std::alloc::{AllocError, Global};
 
 /// What is added to a fault before a unit is begun.

@@ -1,7 +1,7 @@
 //! Parts of the text that explains what is found in a line.
 
 use crate::nearest::nearest;
-use po_language::Place;
+use po_language::Span;
 use std::alloc::{AllocError, Global};
 use std::fmt::Write;
 
@@ -9,8 +9,8 @@ use std::fmt::Write;
 const SHOWN: usize = 40;
 
 /// Adds where it is: the line, and the column, counted in bytes from 1.
-pub(crate) fn push_place(text: &mut String, number: u64, place: Place) -> Result<(), AllocError> {
-    let column = place.start.saturating_add(1);
+pub(crate) fn push_position(text: &mut String, number: u64, span: Span) -> Result<(), AllocError> {
+    let column = span.start.saturating_add(1);
     write!(text, "line {number}, column {column}: ")
 }
 

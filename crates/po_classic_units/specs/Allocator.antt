@@ -2,7 +2,7 @@
 use Rattle.std.specs.Prelude.{ℕ, ◌≡◌, ◌<◌, ◌≤◌, ◌+◌, ◌-◌, List, [], ◌∷◌, nat_lt, nat_le, ◌==◌, ◌||◌, pos, Bool, true, false, Result, Ok, Err, refl, codes, if◌then◌else◌}
 use Rattle.std.proofs.Common.{arith}
 use Rattle.std.proofs.lemmas.Bool.Decides.{nat_tests}
-use Rattle.po_index.specs.declared.decl.Decl.{Decl}
+use Rattle.po_unit.specs.declared.decl.Decl.{Decl}
 use Rattle.po_unit.specs.Meaning.{Meaning, IsLawful, LowersRank, SameNumbers}
 use Rattle.po_unit.specs.declared.outcome.Outcome.{Outcome}
 use Rattle.po_unit.specs.declared.outcome.Outcome.TheVariants.{Complete, Raise, Requeue}
@@ -30,8 +30,8 @@ pub record IsNewAllocator (a : AllocatorState) : Type 0 where
   pub sized : IsSize a.size
 
 -- Request and Claim, the entries 0 and 1, are always open, and Grant(i), the entry i + 1, where so many are free
-abbrev pub allocator_gate : AllocatorState → ℕ → Bool
-allocator_gate a e = nat_lt e 2 || nat_le (e - 1) a.free
+abbrev pub allocator_barrier : AllocatorState → ℕ → Bool
+allocator_barrier a e = nat_lt e 2 || nat_le (e - 1) a.free
 
 -- a number of the resource that there can't be
 abbrev pub is_beyond : ℕ → ℕ → Bool
@@ -61,7 +61,7 @@ allocator_meaning = record {
   entries = λ a. a.size + 2;
   procedures = λ a. 1;
   functions = λ a. 1;
-  gate = λ a e c. Ok (allocator_gate a e);
+  barrier = λ a e c. Ok (allocator_barrier a e);
   body = λ a e v c. allocator_body a e v;
   procedure = λ a op v c. release a v;
   function = λ a op v c. Ok a.free;

@@ -1,6 +1,6 @@
 -- What a broadcast means: the procedure Send gives a message to each call that waits on the entry Receive.
 use Rattle.std.specs.Prelude.{ℕ, List, [], ◌∷◌, slice_index, nat_lt, ◌==◌, Bool, true, false, Ok, refl, codes, if◌then◌else◌}
-use Rattle.po_index.specs.declared.decl.Decl.{Decl}
+use Rattle.po_unit.specs.declared.decl.Decl.{Decl}
 use Rattle.po_unit.specs.Meaning.{Meaning, IsLawful}
 use Rattle.po_unit.specs.declared.outcome.Outcome.{Outcome}
 use Rattle.po_unit.specs.declared.outcome.Outcome.TheVariants.{Complete}
@@ -32,7 +32,7 @@ broadcast_meaning = record {
   entries = λ b. 1;
   procedures = λ b. 1;
   functions = λ b. 1;
-  gate = λ b e c. Ok b.arrived;
+  barrier = λ b e c. Ok b.arrived;
   body = λ b e v c. receive b (slice_index c 0);
   procedure = λ b op v c. (send b v (slice_index c 0), Ok v);
   function = λ b op v c. Ok b.message;

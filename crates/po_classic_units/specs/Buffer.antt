@@ -1,6 +1,6 @@
 -- What a bounded buffer means: the entry Put adds a value, and the entry Get takes the first one.
 use Rattle.std.specs.Prelude.{◌≡◌, ℕ, ◌≤◌, List, [], ◌∷◌, ◌++◌, length, nat_lt, ◌==◌, Bool, true, false, Ok, refl, codes, if◌then◌else◌}
-use Rattle.po_index.specs.declared.decl.Decl.{Decl}
+use Rattle.po_unit.specs.declared.decl.Decl.{Decl}
 use Rattle.po_unit.specs.Meaning.{Meaning, IsLawful, LowersRank}
 use Rattle.po_unit.specs.declared.outcome.Outcome.{Outcome}
 use Rattle.po_unit.specs.declared.outcome.Outcome.TheVariants.{Complete}
@@ -33,8 +33,8 @@ abbrev pub has_room : BufferState → Bool
 has_room b = nat_lt (length b.values) b.capacity
 
 -- Put, the entry 0, is open while there is room, and Get, the entry 1, while there is a value
-abbrev pub buffer_gate : BufferState → ℕ → Bool
-buffer_gate b e = if e == 0 then has_room b else nat_lt 0 (length b.values)
+abbrev pub buffer_barrier : BufferState → ℕ → Bool
+buffer_barrier b e = if e == 0 then has_room b else nat_lt 0 (length b.values)
 
 -- Put adds the call's value as the last one, unless there is no room
 abbrev pub put : BufferState → ℕ → BufferState × Outcome ℕ
@@ -53,7 +53,7 @@ buffer_meaning = record {
   entries = λ b. 2;
   procedures = λ b. 0;
   functions = λ b. 1;
-  gate = λ b e c. Ok (buffer_gate b e);
+  barrier = λ b e c. Ok (buffer_barrier b e);
   body = λ b e v c. buffer_body b e v;
   procedure = λ b op v c. (b, Ok v);
   function = λ b op v c. Ok (length b.values);

@@ -1,6 +1,6 @@
 -- Declarations of entries (9.5.2).
 use Rattle.std.specs.Prelude.{true, false, ℤ, pos}
-use Rattle.po_index.specs.declared.decl.Decl.{Decl}
+use Rattle.po_unit.specs.declared.decl.Decl.{Decl}
 
 -- a single entry in the visible part
 abbrev pub public_entry : Decl

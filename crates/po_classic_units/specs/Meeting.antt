@@ -1,6 +1,6 @@
 -- What a meeting means: calls on the entry Wait go together, as many as its size.
 use Rattle.std.specs.Prelude.{ℕ, ◌≡◌, List, [], ◌∷◌, slice_index, nat_lt, ◌==◌, ◌||◌, Bool, false, Ok, refl, codes, true}
-use Rattle.po_index.specs.declared.decl.Decl.{Decl}
+use Rattle.po_unit.specs.declared.decl.Decl.{Decl}
 use Rattle.po_unit.specs.Meaning.{Meaning, IsLawful}
 use Rattle.po_unit.specs.declared.outcome.Outcome.TheVariants.{Complete}
 use Rattle.po_classic_units.specs.Declarations.{public_entry}
@@ -22,8 +22,8 @@ pub record IsNewMeeting (s : MeetingState) : Type 0 where
   pub sized : IsSize s.size
 
 -- Wait, the only entry, is open while calls are leaving, and when as many are queued on it as the meeting is of (9.9)
-abbrev pub meeting_gate : MeetingState → ℕ → Bool
-meeting_gate s queued = s.leaving || (queued == s.size)
+abbrev pub meeting_barrier : MeetingState → ℕ → Bool
+meeting_barrier s queued = s.leaving || (queued == s.size)
 
 -- The body of Wait lets the others leave too.
 abbrev pub meeting_meaning : Meaning MeetingState ℕ
@@ -31,7 +31,7 @@ meeting_meaning = record {
   entries = λ s. 1;
   procedures = λ s. 0;
   functions = λ s. 1;
-  gate = λ s e c. Ok (meeting_gate s (slice_index c 0));
+  barrier = λ s e c. Ok (meeting_barrier s (slice_index c 0));
   body = λ s e v c. (record s { leaving = nat_lt 0 (slice_index c 0) }, Complete v);
   procedure = λ s op v c. (s, Ok v);
   function = λ s op v c. Ok (slice_index c 0);

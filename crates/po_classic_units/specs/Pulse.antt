@@ -1,7 +1,7 @@
 -- What a pulse means: a call on the entry Signal lets all calls go that wait on the entry Wait.
 use Rattle.std.specs.Prelude.{ℕ, ◌≡◌, List, [], ◌∷◌, slice_index, ◌==◌, Bool, true, false, Ok, refl, codes, if◌then◌else◌}
 use Rattle.std.proofs.Common.{arith}
-use Rattle.po_index.specs.declared.decl.Decl.{Decl}
+use Rattle.po_unit.specs.declared.decl.Decl.{Decl}
 use Rattle.po_unit.specs.Meaning.{Meaning, IsLawful, LowersRank}
 use Rattle.po_unit.specs.declared.outcome.Outcome.{Outcome}
 use Rattle.po_unit.specs.declared.outcome.Outcome.TheVariants.{Complete, Requeue}
@@ -22,8 +22,8 @@ pub record IsNewPulse (p : PulseState) : Type 0 where
 
 -- Wait, the entry 0, is open once the pulse has occurred; Signal, the entry 1, always; and Reset, the entry 2, when no call
 -- is queued on Wait (9.9)
-abbrev pub pulse_gate : PulseState → ℕ → ℕ → Bool
-pulse_gate p e waiting = if e == 0 then p.occurred else (if e == 1 then true else waiting == 0)
+abbrev pub pulse_barrier : PulseState → ℕ → ℕ → Bool
+pulse_barrier p e waiting = if e == 0 then p.occurred else (if e == 1 then true else waiting == 0)
 
 -- where calls wait, the pulse occurs, and the Signal is requeued on Reset without abort (9.5.4); else it completes
 abbrev pub signal : PulseState → ℕ → ℕ → PulseState × Outcome ℕ
@@ -44,7 +44,7 @@ pulse_meaning = record {
   entries = λ p. 3;
   procedures = λ p. 0;
   functions = λ p. 1;
-  gate = λ p e c. Ok (pulse_gate p e (slice_index c 0));
+  barrier = λ p e c. Ok (pulse_barrier p e (slice_index c 0));
   body = λ p e v c. pulse_body p e v (slice_index c 0);
   procedure = λ p op v c. (p, Ok v);
   function = λ p op v c. Ok (if p.occurred then 1 else 0);

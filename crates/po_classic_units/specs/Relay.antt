@@ -1,7 +1,7 @@
 -- What a relay means: the entries First, Second and Third hand a call on, by a level.
 use Rattle.std.specs.Prelude.{◌≡◌, ℕ, List, [], ◌∷◌, nat_le, ◌==◌, Bool, true, false, Ok, refl, codes, if◌then◌else◌}
 use Rattle.std.proofs.Common.{arith}
-use Rattle.po_index.specs.declared.decl.Decl.{Decl}
+use Rattle.po_unit.specs.declared.decl.Decl.{Decl}
 use Rattle.po_unit.specs.Meaning.{Meaning, IsLawful, LowersRank}
 use Rattle.po_unit.specs.declared.outcome.Outcome.{Outcome}
 use Rattle.po_unit.specs.declared.outcome.Outcome.TheVariants.{Complete, Requeue}
@@ -17,8 +17,8 @@ abbrev pub new_relay : RelayState
 new_relay = record { level = 0 }
 
 -- First, the entry 0, is always open, Second, the entry 1, from the level 1 on, and Third, the entry 2, from the level 2 on
-abbrev pub relay_gate : ℕ → ℕ → Bool
-relay_gate level e = if e == 0 then true else (if e == 1 then nat_le 1 level else nat_le 2 level)
+abbrev pub relay_barrier : ℕ → ℕ → Bool
+relay_barrier level e = if e == 0 then true else (if e == 1 then nat_le 1 level else nat_le 2 level)
 
 -- First requeues on Second without abort, Second on Third with abort, and Third completes: the value goes along (9.5.4)
 abbrev pub relay_outcome : ℕ → ℕ → Outcome ℕ
@@ -33,7 +33,7 @@ relay_meaning = record {
   entries = λ r. 3;
   procedures = λ r. 1;
   functions = λ r. 1;
-  gate = λ r e c. Ok (relay_gate r.level e);
+  barrier = λ r e c. Ok (relay_barrier r.level e);
   body = λ r e v c. (r, relay_outcome e v);
   procedure = λ r op v c. (record { level = v }, Ok v);
   function = λ r op v c. Ok r.level;

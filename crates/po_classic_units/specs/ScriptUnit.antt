@@ -1,6 +1,6 @@
 -- What scripts know of a unit.
 use Rattle.std.specs.Prelude.{ℕ, ◌<◌, ◌^◌, List, Bool}
-use Rattle.po_index.specs.declared.decl.Decl.{Decl}
+use Rattle.po_unit.specs.declared.decl.Decl.{Decl}
 
 -- the names by which scripts know a unit and its operations, each table in the order of their numbers
 pub record KnownNames : Type 0 where

@@ -1,6 +1,6 @@
 -- What a signal means: the procedure Send lets one call on the entry Wait go, now or later.
 use Rattle.std.specs.Prelude.{ℕ, List, [], ◌∷◌, Bool, true, false, Ok, refl, codes, if◌then◌else◌}
-use Rattle.po_index.specs.declared.decl.Decl.{Decl}
+use Rattle.po_unit.specs.declared.decl.Decl.{Decl}
 use Rattle.po_unit.specs.Meaning.{Meaning, IsLawful}
 use Rattle.po_unit.specs.declared.outcome.Outcome.TheVariants.{Complete}
 use Rattle.po_classic_units.specs.Declarations.{public_entry}
@@ -20,7 +20,7 @@ signal_meaning = record {
   entries = λ s. 1;
   procedures = λ s. 1;
   functions = λ s. 1;
-  gate = λ s e c. Ok s.set;
+  barrier = λ s e c. Ok s.set;
   body = λ s e v c. (record { set = false }, Complete v);
   procedure = λ s op v c. (record { set = true }, Ok v);
   function = λ s op v c. Ok (if s.set then 1 else 0);

@@ -1,6 +1,6 @@
 -- What a trap means: a barrier that faults, a body that raises, and a barrier on a count.
 use Rattle.std.specs.Prelude.{ℕ, ◌+◌, List, [], ◌∷◌, min, slice_index, nat_lt, nat_le, ◌==◌, ◌&&◌, pos, Bool, true, false, Result, Ok, Err, refl, codes, if◌then◌else◌}
-use Rattle.po_index.specs.declared.decl.Decl.{Decl}
+use Rattle.po_unit.specs.declared.decl.Decl.{Decl}
 use Rattle.po_unit.specs.Meaning.{Meaning, IsLawful, LowersRank}
 use Rattle.po_unit.specs.declared.outcome.Outcome.{Outcome}
 use Rattle.po_unit.specs.declared.outcome.Outcome.TheVariants.{Complete, Raise}
@@ -16,18 +16,18 @@ abbrev pub new_trap : TrapState
 new_trap = record { level = 0 }
 
 -- Wait(i) faults with the number 13 at the level 13, and else is open from the level i on (9.5.2, 9.5.3)
-abbrev pub wait_gate : ℕ → ℕ → Result Bool ℕ
-wait_gate level i = if level == 13 then Err 13 else Ok (nat_le i level)
+abbrev pub wait_barrier : ℕ → ℕ → Result Bool ℕ
+wait_barrier level i = if level == 13 then Err 13 else Ok (nat_le i level)
 
 -- Exact is open where the level is above 0 and as many calls are queued on it
-abbrev pub exact_gate : ℕ → ℕ → Bool
-exact_gate level queued = nat_lt 0 level && (queued == level)
+abbrev pub exact_barrier : ℕ → ℕ → Bool
+exact_barrier level queued = nat_lt 0 level && (queued == level)
 
 -- Wait(1), Wait(2) and Wait(3) are the entries 0 to 2; Fail, the entry 3, is always open; and Exact is the entry 4
-abbrev pub trap_gate : ℕ → ℕ → List ℕ → Result Bool ℕ
-trap_gate level e c =
-    if nat_lt e 3 then wait_gate level (e + 1)
-    else (if e == 3 then Ok true else Ok (exact_gate level (slice_index c 4)))
+abbrev pub trap_barrier : ℕ → ℕ → List ℕ → Result Bool ℕ
+trap_barrier level e c =
+    if nat_lt e 3 then wait_barrier level (e + 1)
+    else (if e == 3 then Ok true else Ok (exact_barrier level (slice_index c 4)))
 
 -- Fail sets the level, and raises the value or the greatest number of an exception where the value is greater (9.5.2)
 abbrev pub fail : ℕ → TrapState × Outcome ℕ
@@ -42,7 +42,7 @@ trap_meaning = record {
   entries = λ t. 5;
   procedures = λ t. 1;
   functions = λ t. 1;
-  gate = λ t e c. trap_gate t.level e c;
+  barrier = λ t e c. trap_barrier t.level e c;
   body = λ t e v c. trap_body t e v;
   procedure = λ t op v c. (record { level = v }, Ok v);
   function = λ t op v c. Ok t.level;

@@ -36,8 +36,7 @@ ghost use Rattle.po_classic_units.specs.Buffer.{IsNewBuffer, buffer_meaning};
 
 use crate::declarations::PUBLIC_ENTRY;
 use crate::script_unit::{ScriptUnit, UnitNames};
-use po_index::{Decl, Shape, ShapeFault};
-use po_unit::{Outcome, Unit};
+use po_unit::{Decl, Outcome, Shape, ShapeFault, Unit};
 use std::alloc::{AllocError, Global};
 use std::collections::VecDeque;
 use std::marker::Model;

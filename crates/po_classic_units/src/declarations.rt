@@ -1,5 +1,5 @@
 //! Declarations of entries (9.5.2).
-use po_index::Decl;
+use po_unit::Decl;
 
 /// A single entry in the visible part.
 pub(crate) const PUBLIC_ENTRY: Decl = Decl {

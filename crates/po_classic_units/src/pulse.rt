@@ -37,8 +37,7 @@ ghost use Rattle.po_classic_units.specs.Pulse.{IsNewPulse, pulse_meaning};
 
 use crate::declarations::{PRIVATE_ENTRY, PUBLIC_ENTRY};
 use crate::script_unit::{ScriptUnit, UnitNames};
-use po_index::{Decl, Shape, ShapeFault};
-use po_unit::{Outcome, Unit};
+use po_unit::{Decl, Outcome, Shape, ShapeFault, Unit};
 use std::alloc::{AllocError, Global};
 use std::marker::Model;
 

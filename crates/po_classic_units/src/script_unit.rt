@@ -2,8 +2,7 @@
 ghost use Rattle.std.specs.Prelude.{◌≡◌, ◌≢◌, IfOk};
 
 use crate::names::number_of_name;
-use po_index::{Shape, ShapeFault};
-use po_unit::Unit;
+use po_unit::{Shape, ShapeFault, Unit};
 use std::alloc::{AllocError, Global};
 use std::marker::Model;
 
@@ -61,7 +60,7 @@ impl UnitNames {
 
 /// A unit that scripts can name and begin.
 pub trait ScriptUnit: Unit<Value = u64> + Drop {
-    ghost use Rattle.po_index.specs.Numbering.{entry_count};
+    ghost use Rattle.po_unit.specs.Numbering.{entry_count};
     ghost use Rattle.po_classic_units.specs.Names.{texts_of};
     ghost use Rattle.po_classic_units.specs.ScriptUnit.{KnownUnit};
     ghost use Rattle.po_classic_units.specs.Sizes.{IsSizeWhere};

@@ -27,8 +27,7 @@ ghost use Rattle.std.specs.Prelude.{◌≡◌, ◌≢◌, IfOk};
 
 use crate::declarations::PUBLIC_ENTRY;
 use crate::script_unit::{ScriptUnit, UnitNames};
-use po_index::{Decl, Shape, ShapeFault};
-use po_unit::{Outcome, Unit};
+use po_unit::{Decl, Outcome, Shape, ShapeFault, Unit};
 use std::alloc::{AllocError, Global};
 use std::marker::Model;
 

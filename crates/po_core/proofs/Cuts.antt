@@ -3,17 +3,17 @@ use Rattle.std.proofs.Common.{◌≡◌, ◌∙◌, ap, sym, arith, ℕ, ◌+◌
 use Rattle.std.proofs.lemmas.List.Elements.{All-nil}
 use Rattle.po_unit.specs.Meaning.{Meaning, IsLawful}
 use Rattle.po_history.specs.Histories.{HistoryView}
-use Rattle.po_accepted.specs.declared.ended.Ended.{Ended}
+use Rattle.po_engine.specs.declared.ended.Ended.{Ended}
 use Rattle.po_engine.specs.Pick.{owed}
 use Rattle.po_engine.specs.StateView.{StateView}
-use Rattle.po_actions.specs.Arrival.{arrival}
-use Rattle.po_actions.specs.Base.{Base, arrived}
-use Rattle.po_actions.specs.Making.{Making}
-use Rattle.po_actions.specs.Public.{NamesPublic}
-use Rattle.po_actions.specs.View.{View}
-use Rattle.po_actions.specs.Cutting.{present_base}
-use Rattle.po_actions.proofs.CutLemmas.{same_base, at_by, present_state, present_is_base, keeps_arrivals}
-use Rattle.po_actions.proofs.PlacesKept.{arrivals_are_places}
+use Rattle.po_core.specs.Arrival.{arrival}
+use Rattle.po_core.specs.Base.{Base, arrived}
+use Rattle.po_core.specs.Setup.{Setup}
+use Rattle.po_core.specs.Public.{NamesPublic}
+use Rattle.po_core.specs.View.{View}
+use Rattle.po_core.specs.Cutting.{present_base}
+use Rattle.po_core.proofs.CutLemmas.{same_base, at_by, present_state, present_is_base, keeps_arrivals}
+use Rattle.po_core.proofs.PlacesKept.{arrivals_are_places}
 use Rattle.po_core.specs.Tracking.{IsTracked}
 use Rattle.po_core.specs.Noting.{known_of}
 use Rattle.po_core.specs.Recording.{IsRecording}
@@ -31,25 +31,25 @@ pub record IsPicture {S V : Type 0} (s : StateView S V) (h : HistoryView V) (ser
   pub ran : new.ran ≡ procedures
   pub last : new.last ≡ served
 
-module _ {S V A B : Type 0} (m : Meaning S V) (making : Making S) (b : Base S V) (s : StateView S V) (h : HistoryView V) (keys : Vec ℕ A) (ends : Vec (Ended V) B) (served : Option ℕ) (place ran : ℕ) where
+module _ {S V A B : Type 0} (m : Meaning S V) (setup : Setup S) (b : Base S V) (s : StateView S V) (h : HistoryView V) (keys : Vec ℕ A) (ends : Vec (Ended V) B) (served : Option ℕ) (place ran : ℕ) where
   -- what is seen of the object
   abbrev pub viewed : View S V
-  viewed = record { making = making; base = b; events = h.events; state = s.state; ended_before = s.before }
+  viewed = record { setup = setup; base = b; events = h.events; state = s.state; ended_before = s.before }
 
   -- a base with the parts of the present picture is that picture
-  pub is_picture : (new : Base S V) → IsTracked m making b s h.events place served → IsRecording making (known_of s) (owed m s.state) 0 b h keys ends ran → IsPicture s h served ran new → new ≡ present_base m viewed
+  pub is_picture : (new : Base S V) → IsTracked m setup b s h.events place served → IsRecording setup (known_of s) (owed m s.state) 0 b h keys ends ran → IsPicture s h served ran new → new ≡ present_base m viewed
   is_picture new t r is =
       let arrivals : new.arrivals ≡ map (λ x. arrival m viewed x.number) s.state.waiting = is.arrivals ∙ sym (arrivals_are_places (arrival m viewed) s.state.waiting s.places t.placed) in
       same_base new (present_base m viewed) is.unit is.waiting arrivals is.ended is.next is.clock is.finalized (is.place ∙ ap (λ p. p + length h.events) r.place) (is.ran ∙ r.ran) (is.last ∙ t.last)
 
   -- what is tracked from the present picture on
-  tracked_present : IsLawful m → IsTracked m making b s h.events place served → IsTracked m making (present_base m viewed) s [] place served
+  tracked_present : IsLawful m → IsTracked m setup b s h.events place served → IsTracked m setup (present_base m viewed) s [] place served
   tracked_present law t = record {
     history = record {
       base = present_is_base m law viewed t.history;
       legal = tt;
       leads = present_state m viewed;
-      public = All-nil (NamesPublic making.shape);
+      public = All-nil (NamesPublic setup.shape);
     };
     last = t.last;
     placed = at_by (arrival m viewed) (arrived (present_base m viewed)) s.state.waiting s.places (keeps_arrivals m viewed) t.placed;
@@ -60,12 +60,12 @@ module _ {S V A B : Type 0} (m : Meaning S V) (making : Making S) (b : Base S V)
     idle = t.idle;
   }
 
-  pub tracked_cut : IsLawful m → (new : Base S V) (rest : HistoryView V) → IsTracked m making b s h.events place served → IsRecording making (known_of s) (owed m s.state) 0 b h keys ends ran
-      → IsPicture s h served ran new → rest ≡ record h { place = h.place + length h.events; events = [] } → IsTracked m making new s rest.events place served
+  pub tracked_cut : IsLawful m → (new : Base S V) (rest : HistoryView V) → IsTracked m setup b s h.events place served → IsRecording setup (known_of s) (owed m s.state) 0 b h keys ends ran
+      → IsPicture s h served ran new → rest ≡ record h { place = h.place + length h.events; events = [] } → IsTracked m setup new s rest.events place served
   tracked_cut law new rest t r is after = rw (is_picture new t r is, after) (tracked_present law t)
 
-  pub recording_cut : (new : Base S V) (rest : HistoryView V) → IsRecording making (known_of s) (owed m s.state) 0 b h keys ends ran
-      → IsPicture s h served ran new → rest ≡ record h { place = h.place + length h.events; events = [] } → IsRecording making (known_of s) (owed m s.state) 0 new rest keys ends ran
+  pub recording_cut : (new : Base S V) (rest : HistoryView V) → IsRecording setup (known_of s) (owed m s.state) 0 b h keys ends ran
+      → IsPicture s h served ran new → rest ≡ record h { place = h.place + length h.events; events = [] } → IsRecording setup (known_of s) (owed m s.state) 0 new rest keys ends ran
   recording_cut new rest r is after = rw after (record {
     counted = r.counted;
     ran = omega (arith, is.ran);

@@ -3,9 +3,9 @@ use Rattle.std.proofs.Common.{◌∙◌, ◌≡◌, ℕ, List, Option, Some, Non
 use Rattle.std.specs.List.{find}
 use Rattle.po_calls.specs.declared.call.Call.{Call}
 use Rattle.po_calls.specs.declared.ticket.Ticket.{Ticket}
-use Rattle.po_accepted.specs.WaitingCalls.{has_number}
-use Rattle.po_accepted.specs.Tickets.{is_live, is_number, number_at, waiting_among}
-use Rattle.po_accepted.specs.Calls.{HasTicket, key_of}
+use Rattle.po_engine.specs.WaitingCalls.{has_number}
+use Rattle.po_engine.specs.Tickets.{is_live, is_number, number_at, waiting_among}
+use Rattle.po_engine.specs.Calls.{HasTicket, key_of}
 use Rattle.std.proofs.lemmas.Bool.{eq-eqb}
 
 either_same : {X : Type 0} (b : Bool) (o : Option X) → (if b then o else o) ≡ o

@@ -9,8 +9,8 @@ use Rattle.std.proofs.lemmas.List.Sums.{count_by_more_yes, sum_by-take-le}
 use Rattle.std.proofs.lemmas.Bool.Decides.{nat_tests}
 use Rattle.std.proofs.lemmas.Bool.{cases_eq}
 use Rattle.po_history.specs.Histories.{HistoryView, outcome_of}
-use Rattle.po_accepted.specs.declared.ended.Ended.{Ended}
-use Rattle.po_accepted.specs.Ending.{has_ended}
+use Rattle.po_engine.specs.declared.ended.Ended.{Ended}
+use Rattle.po_engine.specs.Ending.{has_ended}
 use Rattle.po_core.specs.Outcomes.{AreOutcomes}
 use Rattle.po_engine.proofs.Absent.{eq_self}
 use Rattle.po_engine.proofs.Sums.{sum_by-cons}

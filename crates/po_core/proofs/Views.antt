@@ -1,7 +1,7 @@
 -- What is seen of a core, by its object.
 use Rattle.std.proofs.Common.{◌≡◌, Bool, false, Option, Some, None, ap}
 use Rattle.std.specs.Prelude.{MatchOption}
-use Rattle.po_actions.specs.View.{View}
+use Rattle.po_core.specs.View.{View}
 use Rattle.po_core.specs.Tickets.{CoreView}
 use Rattle.po_core.proofs.TicketLemmas.{same_core}
 

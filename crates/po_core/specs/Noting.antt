@@ -7,10 +7,10 @@ use Rattle.po_engine.specs.ObjectState.{ObjectState}
 use Rattle.po_engine.specs.Step.{step, Needs}
 use Rattle.po_engine.specs.Pick.{owed}
 use Rattle.po_engine.specs.StateView.{StateView}
-use Rattle.po_actions.specs.Making.{Making}
-use Rattle.po_actions.specs.Base.{Base, is_ran}
-use Rattle.po_actions.specs.Public.{NamesPublic}
-use Rattle.po_actions.specs.History.{IsHistory}
+use Rattle.po_core.specs.Setup.{Setup}
+use Rattle.po_core.specs.Base.{Base, is_ran}
+use Rattle.po_core.specs.Public.{NamesPublic}
+use Rattle.po_core.specs.History.{IsHistory}
 
 -- What a record has to know of a state.
 pub record Known (S V : Type 0) : Type 0 where
@@ -37,12 +37,12 @@ keys_on keys (Some ticket) = keys ++ ticket.key ∷ []
 
 -- The event leads from the state p to the state r, after this history; so many of the calls that the command ended had
 -- ended before it.
-pub record Follows {S V : Type 0} (m : Meaning S V) (making : Making S) (b : Base S V) (events : List (Event V)) (p r : StateView S V) (event : Event V) (noted : ℕ) (ticket : Option Ticket) : Type 0 where
-  pub history : IsHistory m making b p.state events
+pub record Follows {S V : Type 0} (m : Meaning S V) (setup : Setup S) (b : Base S V) (events : List (Event V)) (p r : StateView S V) (event : Event V) (noted : ℕ) (ticket : Option Ticket) : Type 0 where
+  pub history : IsHistory m setup b p.state events
   pub need : Needs m p.state event
-  pub named : NamesPublic making.shape event
-  pub is : r.state ≡ step m making.max_queue p.state event
-  pub hand : r.hand ≡ None
+  pub named : NamesPublic setup.shape event
+  pub is : r.state ≡ step m setup.max_queue p.state event
+  pub serving : r.serving ≡ None
   pub keys : r.keys ≡ keys_on p.keys ticket
   pub first : r.first ≡ p.first
   pub fixed : r.is_fixed ≡ p.is_fixed
@@ -52,31 +52,31 @@ pub record Follows {S V : Type 0} (m : Meaning S V) (making : Making S) (b : Bas
   pub spent : is_ran event ≡ true → b.place + length events < 18_446_744_073_709_551_615
 
 -- An event that follows may be added to a record that has room for it, whatever the object and its state are.
-pub record MayPush {S V : Type 0} (m : Meaning S V) (IsOf : Making S → Known S V → ℕ → ℕ → Type 0) (b : Making S → Base S V) (events : List (Event V)) (event : Event V) : Type 0 where
-  pub making : Making S
+pub record MayPush {S V : Type 0} (m : Meaning S V) (IsOf : Setup S → Known S V → ℕ → ℕ → Type 0) (b : Setup S → Base S V) (events : List (Event V)) (event : Event V) : Type 0 where
+  pub setup : Setup S
   pub from : StateView S V
   pub to : StateView S V
   pub room : ℕ
   pub noted : ℕ
   pub ticket : Option Ticket
-  pub has : IsOf making (known_of from) (room + 1) (calls_of ticket)
-  pub follows : Follows m making (b making) events from to event noted ticket
+  pub has : IsOf setup (known_of from) (room + 1) (calls_of ticket)
+  pub follows : Follows m setup (b setup) events from to event noted ticket
 
 -- The last event was added, and the record isn't yet that of the state after it.
-pub record IsPushed {S V : Type 0} (IsOf : Known S V → ℕ → ℕ → Type 0) (m : Meaning S V) (making : Making S) (b : Base S V) (events : List (Event V)) (r : StateView S V) (noted : ℕ) (ticket : Option Ticket) : Type 0 where
+pub record IsPushed {S V : Type 0} (IsOf : Known S V → ℕ → ℕ → Type 0) (m : Meaning S V) (setup : Setup S) (b : Base S V) (events : List (Event V)) (r : StateView S V) (noted : ℕ) (ticket : Option Ticket) : Type 0 where
   pub event : Event V
   pub before : List (Event V)
   pub is : events ≡ before ++ event ∷ []
   pub from : StateView S V
   pub room : ℕ
   pub has : IsOf (known_of from) room (calls_of ticket)
-  pub follows : Follows m making b before from r event noted ticket
+  pub follows : Follows m setup b before from r event noted ticket
   pub fits : owed m r.state ≤ room
 
 -- The event has led to the state r, and the record, which has room for it, is yet that of the state before it.
-pub record MayNote {S V : Type 0} (IsOf : Known S V → ℕ → ℕ → Type 0) (m : Meaning S V) (making : Making S) (b : Base S V) (events : List (Event V)) (r : StateView S V) (event : Event V) (noted : ℕ) (ticket : Option Ticket) : Type 0 where
+pub record MayNote {S V : Type 0} (IsOf : Known S V → ℕ → ℕ → Type 0) (m : Meaning S V) (setup : Setup S) (b : Base S V) (events : List (Event V)) (r : StateView S V) (event : Event V) (noted : ℕ) (ticket : Option Ticket) : Type 0 where
   pub from : StateView S V
   pub room : ℕ
   pub has : IsOf (known_of from) (room + 1) (calls_of ticket)
-  pub follows : Follows m making b events from r event noted ticket
+  pub follows : Follows m setup b events from r event noted ticket
   pub fits : owed m r.state ≤ room

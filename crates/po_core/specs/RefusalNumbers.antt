@@ -1,7 +1,7 @@
 -- The numbers of refusals (this project's own).
 use Rattle.std.specs.Prelude.{ℕ}
-use Rattle.po_index.specs.declared.fault.IndexFault.{IndexFault}
-use Rattle.po_index.specs.declared.fault.IndexFault.TheVariants.{NoSuchEntry as HasNoEntry, NotAFamily, IndexMissing, BadIndex as HasBadIndex}
+use Rattle.po_unit.specs.declared.fault.IndexFault.{IndexFault}
+use Rattle.po_unit.specs.declared.fault.IndexFault.TheVariants.{NoSuchEntry as HasNoEntry, NotAFamily, IndexMissing, BadIndex as HasBadIndex}
 use Rattle.po_core.specs.declared.refusal.Refusal.{Refusal}
 use Rattle.po_core.specs.declared.refusal.Refusal.TheVariants.{NoSuchEntry, PrivateEntry, BadIndex, NoSuchOperation, UnknownCall, AlreadyEnded, Finalized, NumbersSpent, OutOfMemory, NoCall, TooManyCalls}
 

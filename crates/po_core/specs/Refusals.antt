@@ -2,16 +2,16 @@
 use Rattle.std.specs.Prelude.{ℕ, ◌≡◌, ◌||◌, Option, Some, None, Result, Ok, Err, List, nat_lt, nat_le, if◌then◌else◌, find, is_some}
 use Rattle.std.specs.List.{slice_get}
 use Rattle.po_unit.specs.Meaning.{Meaning}
-use Rattle.po_index.specs.declared.decl.Decl.{Decl}
-use Rattle.po_index.specs.declared.decl.EntryRef.{EntryRef}
-use Rattle.po_index.specs.declared.fault.IndexFault.{IndexFault}
-use Rattle.po_index.specs.Numbering.{flat_number}
-use Rattle.po_calls.specs.declared.end.Place.{Place}
-use Rattle.po_calls.specs.declared.end.Place.TheVariants.{Unknown, Waiting, Ended}
-use Rattle.po_accepted.specs.WaitingCalls.{has_number}
-use Rattle.po_accepted.specs.Tickets.{uncollected}
+use Rattle.po_unit.specs.declared.decl.Decl.{Decl}
+use Rattle.po_unit.specs.declared.decl.EntryRef.{EntryRef}
+use Rattle.po_unit.specs.declared.fault.IndexFault.{IndexFault}
+use Rattle.po_unit.specs.Numbering.{flat_number}
+use Rattle.po_calls.specs.declared.end.CallStatus.{CallStatus}
+use Rattle.po_calls.specs.declared.end.CallStatus.TheVariants.{Unknown, Waiting, Ended}
+use Rattle.po_engine.specs.WaitingCalls.{has_number}
+use Rattle.po_engine.specs.Tickets.{uncollected}
 use Rattle.po_engine.specs.ObjectState.{ObjectState}
-use Rattle.po_actions.specs.View.{View, next_place}
+use Rattle.po_core.specs.View.{View, next_place}
 use Rattle.po_core.specs.declared.refusal.Refusal.{Refusal}
 use Rattle.po_core.specs.declared.refusal.Refusal.TheVariants.{NoSuchEntry, PrivateEntry, NoSuchOperation, UnknownCall, AlreadyEnded, Finalized, NumbersSpent, OutOfMemory, TooManyCalls}
 use Rattle.po_core.specs.RefusalNumbers.{refusal_of}
@@ -53,7 +53,7 @@ MayRefuse capacity (Some why) refusal = refusal ≡ why
 MayRefuse capacity None refusal = (capacity ≡ None) × (refusal ≡ OutOfMemory)
 
 -- the refusal of an attempt to cancel the call that is there
-abbrev pub cancel_refusal : {V : Type 0} → Place V → Option Refusal
+abbrev pub cancel_refusal : {V : Type 0} → CallStatus V → Option Refusal
 cancel_refusal Unknown = Some UnknownCall
 cancel_refusal Waiting = None
 cancel_refusal (Ended end) = Some AlreadyEnded
@@ -66,7 +66,7 @@ module _ {S V : Type 0} where
   -- the refusal of a call from outside, by its entry and the object's state
   abbrev pub issue_refusal : View S V → EntryRef → Option Refusal
   issue_refusal view reference =
-      entry_refusal view.making.shape reference
+      entry_refusal view.setup.shape reference
       (if_finalized view.state
       (if nat_le 18_446_744_073_709_551_615 view.state.next then Some NumbersSpent else None))
 
@@ -89,7 +89,7 @@ module _ {S V : Type 0} where
   -- the refusal of an attempt to cancel the call with number n
   abbrev pub abort_refusal : View S V → ℕ → Option Refusal
   abort_refusal view n =
-      if nat_lt n view.making.first_number || nat_le view.state.next n
+      if nat_lt n view.setup.first_number || nat_le view.state.next n
       then Some UnknownCall
       else (if is_some (find (has_number n) view.state.waiting) then None else Some AlreadyEnded)
 
@@ -107,4 +107,4 @@ module _ {S V : Type 0} where
 
   -- the refusal of a look at how many calls are queued on an entry
   abbrev pub count_refusal : View S V → EntryRef → Option Refusal
-  count_refusal view reference = if_unindexed (flat_number view.making.shape reference) None
+  count_refusal view reference = if_unindexed (flat_number view.setup.shape reference) None

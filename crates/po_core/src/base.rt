@@ -1,9 +1,9 @@
 //! From where the present history of an object replays.
 
 ghost use Rattle.std.specs.Prelude.{◌≡◌, map, IfOk};
-ghost use Rattle.po_actions.specs.Base.{opening_base};
+ghost use Rattle.po_core.specs.Base.{opening_base};
 
-use po_accepted::Arrival;
+use po_engine::Arrival;
 use po_unit::Unit;
 use std::alloc::{AllocError, Global};
 use std::marker::Model;
@@ -27,7 +27,7 @@ pub struct Base<U: Unit> {
 
 impl<U: Unit> Model for Base<U> {
     ghost use Rattle.std.specs.Prelude.{map};
-    ghost use Rattle.po_actions.specs.Base.{Base as BaseView};
+    ghost use Rattle.po_core.specs.Base.{Base as BaseView};
 
     ghost Value = { BaseView U U.Value };
 

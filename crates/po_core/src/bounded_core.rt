@@ -1,19 +1,18 @@
 //! A core that takes all its memory when it is made: how it is made, and how many calls it was given.
 
 ghost use Rattle.std.specs.Prelude.{◌≡◌, ◌≢◌, ◌+◌, [], ◌↔◌, count_by, Some, IfOk};
-ghost use Rattle.po_index.specs.Numbering.{entry_count};
-ghost use Rattle.po_actions.specs.Base.{is_issue};
-ghost use Rattle.po_actions.specs.View.{opening_view};
-ghost use Rattle.po_actions.specs.Cutting.{AreVolumes};
+ghost use Rattle.po_unit.specs.Numbering.{entry_count};
+ghost use Rattle.po_core.specs.Base.{is_issue};
+ghost use Rattle.po_core.specs.View.{opening_view};
+ghost use Rattle.po_core.specs.Cutting.{AreVolumes};
 
 use crate::object_core::Core;
 use crate::tracked_object::TrackedObject;
 use crate::unrecorded::Unrecorded;
-use po_actions::{MakeFault, Making, Start};
-use po_barriers::Order;
+use crate::{MakeFault, Setup, Start};
 use po_engine::State;
-use po_index::Shape;
-use po_unit::Unit;
+use po_queues::Order;
+use po_unit::{Shape, Unit};
 use std::alloc::Global;
 
 impl<U: Unit + Drop> Core<U, Unrecorded<U>> {
@@ -48,11 +47,11 @@ impl<U: Unit + Drop> Core<U, Unrecorded<U>> {
         if unit.entries() != shape.total() {
             return Err(MakeFault::ShapeMismatch);
         }
-        let making = Making::new(unit, shape, order, start);
-        let now = making.opening().copy()?;
-        let state = State::with_capacity(alloc, now, making.first_number(), most)?;
+        let setup = Setup::new(unit, shape, order, start);
+        let now = setup.opening().copy()?;
+        let state = State::with_capacity(alloc, now, setup.first_number(), most)?;
         Ok(Core {
-            tracked: TrackedObject::new(making, state, Unrecorded::new()),
+            tracked: TrackedObject::new(setup, state, Unrecorded::new()),
         })
     }
 }
@@ -61,9 +60,9 @@ impl<U: Unit> TrackedObject<U, Unrecorded<U>> {
     /// How many calls were issued: the history, which proofs alone know, has as many.
     fn issued(&self) -> u64
         ensures counted { result ≡ count_by is_issue self.now.object.events }
-        ensures numbered { self.now.object.state.next ≡ self.now.object.making.first_number + result }
+        ensures numbered { self.now.object.state.next ≡ self.now.object.setup.first_number + result }
     {
-        self.state.next() - self.making.first_number()
+        self.state.next() - self.setup.first_number()
     }
 }
 
@@ -72,7 +71,7 @@ impl<U: Unit> Core<U, Unrecorded<U>> {
     pub fn issued(&self) -> u64
         ensures counted { result ≡ count_by is_issue self.now.object.events }
         // They are numbered from the first number on.
-        ensures numbered { self.now.object.state.next ≡ self.now.object.making.first_number + result }
+        ensures numbered { self.now.object.state.next ≡ self.now.object.setup.first_number + result }
     {
         self.tracked.issued()
     }

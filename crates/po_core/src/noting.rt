@@ -1,12 +1,11 @@
 //! The calls that an event ended are noted in a record, once the event is.
 
 ghost use Rattle.std.specs.Prelude.{◌≡◌, ◌<◌, ◌≤◌, ◌+◌, ◌-◌, ◌∷◌, ◌++◌, ℕ, [], None, All, count_by, length, take, vec_len, vec_capacity};
-ghost use Rattle.po_accepted.specs.Ending.{has_ended};
+ghost use Rattle.po_engine.specs.Ending.{has_ended};
 ghost use Rattle.po_engine.specs.Pick.{owed};
 ghost use Rattle.po_core.specs.Outcomes.{AreOutcomes, IsCallOf};
 
-use po_accepted::Ended;
-use po_engine::State;
+use po_engine::{Ended, State};
 use po_history::History;
 use po_unit::Unit;
 
@@ -36,7 +35,7 @@ pub(crate) fn note_calls<U: Unit>(
     state: &State<U>,
     noted: usize,
 )
-    requires hand { state.now.hand ≡ None }
+    requires serving { state.now.serving ≡ None }
     requires noted { state.now.before + noted ≡ vec_len ended.old }
     requires shown { ended.old.items ≡ take (vec_len ended.old) state.now.state.ended }
     requires for_all { length state.now.keys ≤ vec_capacity ended.old }

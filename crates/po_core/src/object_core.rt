@@ -1,31 +1,30 @@
 //! A protected object between two protected actions: its core, which carries out every operation on it.
 
 ghost use Rattle.std.specs.Prelude.{◌≡◌, ◌∷◌, ◌++◌, [], slice_index, find, option_map, None, Some, Option, true, IfOk, IfErr, IfNone, IfSome, is_some, OnSome, MatchResult, OnOk, OnErr};
-ghost use Rattle.po_index.specs.Numbering.{flat_number, is_public};
-ghost use Rattle.po_accepted.specs.Tickets.{number_at, is_live, SetsTicket};
-ghost use Rattle.po_accepted.specs.WaitingCalls.{has_number, is_of};
+ghost use Rattle.po_unit.specs.Numbering.{flat_number, is_public};
+ghost use Rattle.po_engine.specs.Tickets.{number_at, is_live, SetsTicket};
+ghost use Rattle.po_engine.specs.WaitingCalls.{has_number, is_of};
 ghost use Rattle.po_engine.specs.ObjectState.{counts_in};
-ghost use Rattle.po_actions.specs.View.{ended_now, next_place};
-ghost use Rattle.po_actions.specs.ProtectedAction.{IsProtectedAction, IsAbortOf, after_action, after_abort, abort_answer};
-ghost use Rattle.po_actions.specs.Commands.{entry_of, issue_of, reply_of};
-ghost use Rattle.po_actions.specs.Headline.{Headline};
-ghost use Rattle.po_actions.specs.Cutting.{KeepsVolumes, AreVolumes};
-ghost use Rattle.po_core.specs.Tickets.{place_of_ticket, end_of_ticket, AreIssued};
+ghost use Rattle.po_core.specs.View.{ended_now, next_place};
+ghost use Rattle.po_core.specs.ProtectedAction.{IsProtectedAction, IsAbortOf, after_action, after_abort, abort_answer};
+ghost use Rattle.po_core.specs.Commands.{entry_of, issue_of, reply_of};
+ghost use Rattle.po_core.specs.Headline.{Headline};
+ghost use Rattle.po_core.specs.Cutting.{KeepsVolumes, AreVolumes};
+ghost use Rattle.po_core.specs.Tickets.{status_of_ticket, end_of_ticket, AreIssued};
 ghost use Rattle.po_core.specs.Refusals.{MayRefuse, entry_refusal, call_refusal, run_refusal, read_refusal, cancel_refusal, tick_refusal, finalized_refusal, count_refusal};
 ghost use Rattle.po_core.specs.declared.refusal.Refusal.{Refusal};
 
+use crate::Aborted;
 use crate::record::Record;
 use crate::recorded::Recorded;
 use crate::refusal::Refusal;
 use crate::tracked_object::TrackedObject;
 use crate::unrecorded::Unrecorded;
-use po_accepted::Ended;
-use po_actions::Aborted;
-use po_barriers::Order;
-use po_calls::{Call, Deadline, End, Place, Ticket};
+use po_calls::{Call, CallStatus, Deadline, End, Ticket};
+use po_engine::Ended;
 use po_history::Event;
-use po_index::{EntryRef, Shape};
-use po_unit::Unit;
+use po_queues::Order;
+use po_unit::{EntryRef, Shape, Unit};
 use std::marker::Model;
 
 /// The core of a protected object (9.4), with a record of what has happened: in memory, or for proofs alone.
@@ -58,7 +57,7 @@ impl<U: Unit, R: Record<U>> Model for Core<U, R> {
 impl<U: Unit, R: Record<U>> Core<U, R> {
     /// Issues a call on an entry (9.5.3).
     ///
-    /// Refused 1, 2, 3, 7 and 8; where the number of calls is fixed 11, and else 9.
+    /// Refused as `NoSuchEntry`, `PrivateEntry`, `BadIndex`, `Finalized` and `NumbersSpent`; where the number of calls is fixed `TooManyCalls`, and else `OutOfMemory`.
     pub fn issue(
         &mut self,
         owner: u16,
@@ -96,7 +95,7 @@ impl<U: Unit, R: Record<U>> Core<U, R> {
 
     /// Runs a protected procedure (9.5.1). The reply is a value, or the number of the exception that it propagates.
     ///
-    /// Refused 4, 7 and 8; where the number of calls isn't fixed also 9.
+    /// Refused as `NoSuchOperation`, `Finalized` and `NumbersSpent`; where the number of calls isn't fixed also `OutOfMemory`.
     pub fn run(
         &mut self,
         owner: u16,
@@ -131,7 +130,7 @@ impl<U: Unit, R: Record<U>> Core<U, R> {
 
     /// What a protected function replies (9.5.1). Nothing changes, and no memory is taken.
     ///
-    /// Refused 4 and 7.
+    /// Refused as `NoSuchOperation` and `Finalized`.
     pub fn read(&self, op: u16, value: U::Value) -> Result<Result<U::Value, u32>, Refusal>
         ensures reply { IfOk result (λ reply. reply ≡
             U.meaning.function self.now.object.state.unit op value
@@ -151,7 +150,7 @@ impl<U: Unit, R: Record<U>> Core<U, R> {
 
     /// Attempts to cancel the call of a ticket (9.5.3, 9.5.4). No memory is taken.
     ///
-    /// Refused 5, where the ticket is of no uncollected call, and 6.
+    /// Refused as `UnknownCall`, where the ticket is of no uncollected call, and `AlreadyEnded`.
     pub fn cancel(&mut self, ticket: Ticket) -> Result<Aborted, Refusal>
         ensures after { OnOk result (self.new ≡ record self.old {
           object = after_abort U.meaning self.old.object ticket.number;
@@ -160,8 +159,8 @@ impl<U: Unit, R: Record<U>> Core<U, R> {
         ensures volumes { OnOk result (KeepsVolumes U.meaning self.old.object self.new.object) }
         ensures action { OnOk result (IsAbortOf U.meaning self.old.object self.new.object ticket.number) }
         ensures refused { MatchResult result
-            (λ _. cancel_refusal (place_of_ticket self.old ticket) ≡ None)
-            (λ r. cancel_refusal (place_of_ticket self.old ticket) ≡ Some r) }
+            (λ _. cancel_refusal (status_of_ticket self.old ticket) ≡ None)
+            (λ r. cancel_refusal (status_of_ticket self.old ticket) ≡ Some r) }
         ensures unchanged { OnErr result (self.new ≡ self.old) }
     {
         let call = self.tracked.cancellable(ticket)?;
@@ -180,7 +179,7 @@ impl<U: Unit, R: Record<U>> Core<U, R> {
         ensures action { IsAbortOf U.meaning self.old.object self.new.object ticket.number }
     {
         self.tracked.recall_invariant();
-        if !call.sealed {
+        if !call.without_abort {
             self.tracked.cancel(ticket);
             self.tracked.settle();
             return Aborted::Cancelled;
@@ -195,7 +194,7 @@ impl<U: Unit, R: Record<U>> Core<U, R> {
 
     /// Raises the clock to t, if it is lower, and answers the clock.
     ///
-    /// Refused 7; where the number of calls is fixed 8, and else 9.
+    /// Refused as `Finalized`; where the number of calls is fixed `NumbersSpent`, and else `OutOfMemory`.
     pub fn tick(&mut self, t: u64) -> Result<u64, Refusal>
         ensures after { OnOk result (self.new ≡ record self.old {
           object = after_action U.meaning self.old.object (Event.Tick t);
@@ -219,7 +218,7 @@ impl<U: Unit, R: Record<U>> Core<U, R> {
 
     /// Finalizes the object: Program_Error is raised at each queued call (9.4). No memory is taken.
     ///
-    /// Refused 7.
+    /// Refused as `Finalized`.
     pub fn finalize(&mut self) -> Result<(), Refusal>
         ensures after { OnOk result (self.new ≡ record self.old {
           object = after_action U.meaning self.old.object Event.Final;
@@ -242,10 +241,10 @@ impl<U: Unit, R: Record<U>> Core<U, R> {
     }
 
     /// Where the call of a ticket is.
-    pub fn end_of(&self, ticket: Ticket) -> Place<U::Value>
-        ensures { result ≡ place_of_ticket self.now ticket }
+    pub fn end_of(&self, ticket: Ticket) -> CallStatus<U::Value>
+        ensures { result ≡ status_of_ticket self.now ticket }
     {
-        self.tracked.place_of(ticket)
+        self.tracked.status_of(ticket)
     }
 
     /// Takes the end of the call of a ticket, if it has ended, and makes the ticket Unknown for good. Else nothing
@@ -262,16 +261,16 @@ impl<U: Unit, R: Record<U>> Core<U, R> {
 
     /// How many calls are queued on an entry: the attribute Count (9.9). Private entries are counted too.
     ///
-    /// Refused 1 and 3.
+    /// Refused as `NoSuchEntry` and `BadIndex`.
     pub fn count(&self, entry: EntryRef) -> Result<u64, Refusal>
         ensures count { IfOk result (λ n. n ≡
             slice_index (counts_in U.meaning self.now.object.state)
-            (entry_of self.now.object.making.shape entry)) }
+            (entry_of self.now.object.setup.shape entry)) }
         ensures refused { MatchResult result
             (λ _. count_refusal self.now.object entry ≡ None)
             (λ r. count_refusal self.now.object entry ≡ Some r) }
     {
-        let e = self.tracked.making().shape().flat(entry)?;
+        let e = self.tracked.setup().shape().flat(entry)?;
         self.tracked.recall_invariant();
         Ok(self.tracked.state().count(e))
     }
@@ -315,9 +314,9 @@ impl<U: Unit, R: Record<U>> Core<U, R> {
 
     /// The unit as the object was made with it.
     pub fn opening(&self) -> &U
-        ensures { result.now ≡ self.now.object.making.opening }
+        ensures { result.now ≡ self.now.object.setup.opening }
     {
-        self.tracked.making().opening()
+        self.tracked.setup().opening()
     }
 
     /// The unit as it is now.
@@ -329,16 +328,16 @@ impl<U: Unit, R: Record<U>> Core<U, R> {
 
     /// The declarations of the object's entries.
     pub fn shape(&self) -> &Shape
-        ensures { result.now ≡ self.now.object.making.shape }
+        ensures { result.now ≡ self.now.object.setup.shape }
     {
-        self.tracked.making().shape()
+        self.tracked.setup().shape()
     }
 
     /// The service order.
     pub fn order(&self) -> Order
-        ensures { result ≡ self.now.object.making.order }
+        ensures { result ≡ self.now.object.setup.order }
     {
-        self.tracked.making().order()
+        self.tracked.setup().order()
     }
 
     /// The place of the next event in the whole history.
@@ -350,23 +349,23 @@ impl<U: Unit, R: Record<U>> Core<U, R> {
 
     /// The place of the first event.
     pub fn first_place(&self) -> u64
-        ensures { result ≡ self.now.object.making.first_place }
+        ensures { result ≡ self.now.object.setup.first_place }
     {
-        self.tracked.making().first_place()
+        self.tracked.setup().first_place()
     }
 
     /// The number of the first call.
     pub fn first_number(&self) -> u64
-        ensures { result ≡ self.now.object.making.first_number }
+        ensures { result ≡ self.now.object.setup.first_number }
     {
-        self.tracked.making().first_number()
+        self.tracked.setup().first_number()
     }
 
     /// How many calls may be queued on an entry, where there is such a limit.
     pub fn max_queue(&self) -> Option<u64>
-        ensures { result ≡ self.now.object.making.max_queue }
+        ensures { result ≡ self.now.object.setup.max_queue }
     {
-        self.tracked.making().max_queue()
+        self.tracked.setup().max_queue()
     }
 
     /// The headline, which holds of every core, whatever commands it has carried out or refused: no queued call has an
@@ -377,7 +376,7 @@ impl<U: Unit, R: Record<U>> Core<U, R> {
         ensures headline { Headline U.meaning self.now.object }
         ensures tickets { AreIssued self.now }
         // Where the base is at the place of the first event, no volume is before it.
-        ensures uncut { self.now.object.base.place ≡ self.now.object.making.first_place → AreVolumes U.meaning self.now.object [] }
+        ensures uncut { self.now.object.base.place ≡ self.now.object.setup.first_place → AreVolumes U.meaning self.now.object [] }
     {
         self.tracked.recall_invariant();
     }
@@ -391,14 +390,14 @@ impl<U: Unit, R: Record<U>> Core<U, R> {
 
     /// The flat number of a public entry, for a call from outside.
     fn entry_from_outside(&self, entry: EntryRef) -> Result<u16, Refusal>
-        ensures number { IfOk result (λ e. flat_number self.now.object.making.shape entry ≡ Ok e) }
-        ensures public { IfOk result (λ e. is_public self.now.object.making.shape e ≡ true) }
+        ensures number { IfOk result (λ e. flat_number self.now.object.setup.shape entry ≡ Ok e) }
+        ensures public { IfOk result (λ e. is_public self.now.object.setup.shape e ≡ true) }
         ensures allowed { OnOk result ((other : Option Refusal) →
-            entry_refusal self.now.object.making.shape entry other ≡ other) }
+            entry_refusal self.now.object.setup.shape entry other ≡ other) }
         ensures refused { IfErr result (λ r. (other : Option Refusal) →
-            entry_refusal self.now.object.making.shape entry other ≡ Some r) }
+            entry_refusal self.now.object.setup.shape entry other ≡ Some r) }
     {
-        let shape = self.tracked.making().shape();
+        let shape = self.tracked.setup().shape();
         let Some(decl) = shape.decl(entry.entry) else {
             return Err(Refusal::NoSuchEntry);
         };

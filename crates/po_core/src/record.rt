@@ -1,17 +1,17 @@
 //! What an object keeps of what has happened, and how an event comes into it.
 
 ghost use Rattle.std.specs.Prelude.{◌≡◌, ◌<◌, ◌+◌, ◌∷◌, ◌++◌, [], ℕ, Bool, List, None, length, OnOk, OnErr, IfErr};
-ghost use Rattle.po_accepted.specs.Tickets.{uncollected};
+ghost use Rattle.po_engine.specs.Tickets.{uncollected};
 ghost use Rattle.po_history.specs.declared.event.Event.{Event as AnEvent};
 ghost use Rattle.po_engine.specs.Pick.{owed};
-ghost use Rattle.po_actions.specs.Base.{Base as BaseView};
-ghost use Rattle.po_actions.specs.Making.{Making as WhatWasMade};
+ghost use Rattle.po_core.specs.Base.{Base as BaseView};
+ghost use Rattle.po_core.specs.Setup.{Setup as WhatWasMade};
 ghost use Rattle.po_core.specs.Tickets.{capacity_of};
 ghost use Rattle.po_core.specs.Refusals.{MayRefuse, if_full, if_uncounted};
 ghost use Rattle.po_core.specs.Noting.{Known, known_of, MayPush, IsPushed, MayNote};
 
+use crate::Setup;
 use crate::refusal::Refusal;
-use po_actions::Making;
 use po_calls::Ticket;
 use po_engine::State;
 use po_history::Event;
@@ -32,81 +32,81 @@ pub trait Record<U: Unit> {
     ghost is_bounded: { Bool };
 
     /// All memory was taken when the object was made, or some is taken for each call.
-    fn recall_kind(&self, making: &Making<U>, state: &State<U>)
-        requires { IsOf making.now self.now (known_of state.now) (owed U.meaning state.now.state) 0 }
+    fn recall_kind(&self, setup: &Setup<U>, state: &State<U>)
+        requires { IsOf setup.now self.now (known_of state.now) (owed U.meaning state.now.state) 0 }
         ensures { state.now.is_fixed ≡ is_bounded };
 
     /// Makes room for a call on an entry of this rank, and for all events that it may bring.
     fn reserve_call(
         &mut self,
-        making: &Making<U>,
+        setup: &Setup<U>,
         state: &mut State<U>,
         rank: u8,
     ) -> Result<(), Refusal>
-        requires { IsOf making.now self.old (known_of state.old) (owed U.meaning state.old.state) 0 }
+        requires { IsOf setup.now self.old (known_of state.old) (owed U.meaning state.old.state) 0 }
         ensures same { state.new ≡ record state.old { most = state.new.most } }
         ensures capacity { capacity_of state.new ≡ capacity_of state.old }
-        ensures base { base making.now self.new ≡ base making.now self.old }
+        ensures base { base setup.now self.new ≡ base setup.now self.old }
         ensures events { events self.new ≡ events self.old }
-        ensures ok { OnOk result (IsOf making.now self.new (known_of state.new) (owed U.meaning state.old.state + rank + 3) 1) }
+        ensures ok { OnOk result (IsOf setup.now self.new (known_of state.new) (owed U.meaning state.old.state + rank + 3) 1) }
         ensures room { OnOk result (uncollected state.new.tickets < state.new.most) }
-        ensures err { OnErr result (IsOf making.now self.new (known_of state.new) (owed U.meaning state.old.state) 0) }
+        ensures err { OnErr result (IsOf setup.now self.new (known_of state.new) (owed U.meaning state.old.state) 0) }
         ensures allowed { OnOk result (if_full (capacity_of state.old) state.old.tickets ≡ None) }
         ensures refused { IfErr result (MayRefuse (capacity_of state.old) (if_full (capacity_of state.old) state.old.tickets)) };
 
     /// Makes room for one event that is no call's, at this place.
     fn reserve_event(
         &mut self,
-        making: &Making<U>,
+        setup: &Setup<U>,
         state: &State<U>,
         place: u128,
     ) -> Result<(), Refusal>
-        requires has { IsOf making.now self.old (known_of state.now) (owed U.meaning state.now.state) 0 }
-        requires place { place ≡ (base making.now self.old).place + length (events self.old) }
-        ensures base { base making.now self.new ≡ base making.now self.old }
+        requires has { IsOf setup.now self.old (known_of state.now) (owed U.meaning state.now.state) 0 }
+        requires place { place ≡ (base setup.now self.old).place + length (events self.old) }
+        ensures base { base setup.now self.new ≡ base setup.now self.old }
         ensures events { events self.new ≡ events self.old }
-        ensures ok { OnOk result (IsOf making.now self.new (known_of state.now) (owed U.meaning state.now.state + 1) 0) }
+        ensures ok { OnOk result (IsOf setup.now self.new (known_of state.now) (owed U.meaning state.now.state + 1) 0) }
         ensures low { OnOk result (place < 36_893_488_147_419_103_232) }
-        ensures err { OnErr result (IsOf making.now self.new (known_of state.now) (owed U.meaning state.now.state) 0) }
+        ensures err { OnErr result (IsOf setup.now self.new (known_of state.now) (owed U.meaning state.now.state) 0) }
         ensures allowed { OnOk result (if_uncounted (capacity_of state.now) place ≡ None) }
         ensures refused { IfErr result (MayRefuse (capacity_of state.now) (if_uncounted (capacity_of state.now) place)) };
 
     /// Adds an event as the last.
     fn push(&mut self, event: Event<U::Value>)
-        requires { MayPush U.meaning (λ making. IsOf making self.old) (λ making. base making self.old) (events self.old) event }
-        ensures base { (making : WhatWasMade U) → base making self.new ≡ base making self.old }
+        requires { MayPush U.meaning (λ setup. IsOf setup self.old) (λ setup. base setup self.old) (events self.old) event }
+        ensures base { (setup : WhatWasMade U) → base setup self.new ≡ base setup self.old }
         ensures events { events self.new ≡ events self.old ++ event ∷ [] }
-        ensures has { (making : WhatWasMade U) (s : Known U U.Value) (room calls : ℕ) → IsOf making self.old s (room + 1) calls → IsOf making self.new s room calls };
+        ensures has { (setup : WhatWasMade U) (s : Known U U.Value) (room calls : ℕ) → IsOf setup self.old s (room + 1) calls → IsOf setup self.new s room calls };
 
     /// Notes the calls that the last event ended and the one that it issued, and gives back the room that the state after it
     /// doesn't need. So many of the calls that the command ended are noted already.
     fn note_calls(
         &mut self,
-        making: &Making<U>,
+        setup: &Setup<U>,
         state: &State<U>,
         noted: usize,
         ticket: Option<Ticket>,
     )
-        requires { IsPushed (IsOf making.now self.old) U.meaning making.now (base making.now self.old) (events self.old) state.now noted ticket }
-        ensures base { base making.now self.new ≡ base making.now self.old }
+        requires { IsPushed (IsOf setup.now self.old) U.meaning setup.now (base setup.now self.old) (events self.old) state.now noted ticket }
+        ensures base { base setup.now self.new ≡ base setup.now self.old }
         ensures events { events self.new ≡ events self.old }
-        ensures has { IsOf making.now self.new (known_of state.now) (owed U.meaning state.now.state) 0 };
+        ensures has { IsOf setup.now self.new (known_of state.now) (owed U.meaning state.now.state) 0 };
 }
 
 /// Notes the event that has led to this state. So many of the calls that the command ended are noted already.
 pub(crate) fn note<U: Unit, R: Record<U>>(
     kept: &mut R,
-    making: &Making<U>,
+    setup: &Setup<U>,
     state: &State<U>,
     event: Event<U::Value>,
     noted: usize,
     ticket: Option<Ticket>,
 )
-    requires { MayNote (R.IsOf making.now kept.old) U.meaning making.now (R.base making.now kept.old) (R.events kept.old) state.now event noted ticket }
-    ensures base { R.base making.now kept.new ≡ R.base making.now kept.old }
+    requires { MayNote (R.IsOf setup.now kept.old) U.meaning setup.now (R.base setup.now kept.old) (R.events kept.old) state.now event noted ticket }
+    ensures base { R.base setup.now kept.new ≡ R.base setup.now kept.old }
     ensures events { R.events kept.new ≡ R.events kept.old ++ event ∷ [] }
-    ensures has { R.IsOf making.now kept.new (known_of state.now) (owed U.meaning state.now.state) 0 }
+    ensures has { R.IsOf setup.now kept.new (known_of state.now) (owed U.meaning state.now.state) 0 }
 {
     kept.push(event);
-    kept.note_calls(making, state, noted, ticket);
+    kept.note_calls(setup, state, noted, ticket);
 }

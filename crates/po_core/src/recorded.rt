@@ -1,22 +1,21 @@
 //! A record in memory.
 
 ghost use Rattle.std.specs.Prelude.{ℕ, ◌≡◌, ◌+◌, ◌≤◌, ◌<◌, ◌∷◌, ◌++◌, [], None, Some, true, false, length, vec_len, vec_capacity, MatchOption, IfOk, OnOk, if◌then◌else◌};
-ghost use Rattle.po_accepted.specs.Calls.{key_of};
+ghost use Rattle.po_engine.specs.Calls.{key_of};
 ghost use Rattle.po_engine.specs.ObjectState.{opening_state};
-ghost use Rattle.po_actions.specs.Base.{is_ran};
-ghost use Rattle.po_actions.specs.Making.{Making as WhatWasMade};
+ghost use Rattle.po_core.specs.Base.{is_ran};
+ghost use Rattle.po_core.specs.Setup.{Setup as WhatWasMade};
 ghost use Rattle.po_core.specs.Tracking.{opening_of};
 ghost use Rattle.po_core.specs.Noting.{Known, MayPush, calls_of, keys_on};
 ghost use Rattle.po_core.specs.Recording.{IsRecording};
 
+use crate::Setup;
 use crate::base::Base;
 use crate::noting::note_calls;
 use crate::record::Record;
 use crate::refusal::Refusal;
-use po_accepted::Ended;
-use po_actions::Making;
 use po_calls::Ticket;
-use po_engine::State;
+use po_engine::{Ended, State};
 use po_history::{Event, History};
 use po_unit::Unit;
 use std::alloc::{AllocError, Global};
@@ -80,15 +79,15 @@ fn recall_place<U: Unit>(base: &Base<U>, history: &History<U::Value>)
 
 impl<U: Unit + Drop> Recorded<U> {
     /// The record of an object without events.
-    pub(crate) fn new(alloc: Global, making: &Making<U>) -> Result<Recorded<U>, AllocError>
-        ensures base { IfOk result (λ r. r.base ≡ opening_of making.now) }
+    pub(crate) fn new(alloc: Global, setup: &Setup<U>) -> Result<Recorded<U>, AllocError>
+        ensures base { IfOk result (λ r. r.base ≡ opening_of setup.now) }
         ensures events { IfOk result (λ r. r.history.events ≡ []) }
-        ensures has { IfOk result (λ r. (s : Known U U.Value) → s.state ≡ opening_state making.now.opening making.now.first_number
-            → s.keys ≡ [] → s.first ≡ making.now.first_number → s.is_fixed ≡ false
-            → IsRecording making.now s 1 0 r.base r.history r.keys r.ended r.ran) }
+        ensures has { IfOk result (λ r. (s : Known U U.Value) → s.state ≡ opening_state setup.now.opening setup.now.first_number
+            → s.keys ≡ [] → s.first ≡ setup.now.first_number → s.is_fixed ≡ false
+            → IsRecording setup.now s 1 0 r.base r.history r.keys r.ended r.ran) }
     {
-        let unit = making.opening().copy()?;
-        let (first_number, first_place) = (making.first_number(), making.first_place());
+        let unit = setup.opening().copy()?;
+        let (first_number, first_place) = (setup.first_number(), setup.first_place());
         let history = History::new(alloc, first_number, first_place)?;
         Ok(Recorded {
             base: Base::new(alloc, unit, first_number, first_place),
@@ -115,19 +114,19 @@ impl<U: Unit> Recorded<U> {
 }
 
 impl<U: Unit> Record<U> for Recorded<U> {
-    ghost base = { λ making r. r.base };
+    ghost base = { λ setup r. r.base };
 
     ghost events = { λ r. r.history.events };
 
-    ghost IsOf = { λ making r s room calls. IsRecording making s room calls r.base r.history r.keys r.ended r.ran };
+    ghost IsOf = { λ setup r s room calls. IsRecording setup s room calls r.base r.history r.keys r.ended r.ran };
 
     ghost is_bounded = { false };
 
-    fn recall_kind(&self, _making: &Making<U>, _state: &State<U>) {}
+    fn recall_kind(&self, _setup: &Setup<U>, _state: &State<U>) {}
 
     fn reserve_call(
         &mut self,
-        _making: &Making<U>,
+        _setup: &Setup<U>,
         state: &mut State<U>,
         rank: u8,
     ) -> Result<(), Refusal> {
@@ -139,7 +138,7 @@ impl<U: Unit> Record<U> for Recorded<U> {
 
     fn reserve_event(
         &mut self,
-        _making: &Making<U>,
+        _setup: &Setup<U>,
         _state: &State<U>,
         _place: u128,
     ) -> Result<(), Refusal> {
@@ -149,10 +148,10 @@ impl<U: Unit> Record<U> for Recorded<U> {
     }
 
     fn push(&mut self, event: Event<U::Value>)
-        requires { MayPush U.meaning (λ making s room calls. IsRecording making s room calls self.old.base self.old.history self.old.keys self.old.ended self.old.ran) (λ making. self.old.base) self.old.history.events event }
-        ensures base { (making : WhatWasMade U) → self.new.base ≡ self.old.base }
+        requires { MayPush U.meaning (λ setup s room calls. IsRecording setup s room calls self.old.base self.old.history self.old.keys self.old.ended self.old.ran) (λ setup. self.old.base) self.old.history.events event }
+        ensures base { (setup : WhatWasMade U) → self.new.base ≡ self.old.base }
         ensures events { self.new.history.events ≡ self.old.history.events ++ event ∷ [] }
-        ensures has { (making : WhatWasMade U) (s : Known U U.Value) (room calls : ℕ) → IsRecording making s (room + 1) calls self.old.base self.old.history self.old.keys self.old.ended self.old.ran → IsRecording making s room calls self.new.base self.new.history self.new.keys self.new.ended self.new.ran }
+        ensures has { (setup : WhatWasMade U) (s : Known U U.Value) (room calls : ℕ) → IsRecording setup s (room + 1) calls self.old.base self.old.history self.old.keys self.old.ended self.old.ran → IsRecording setup s room calls self.new.base self.new.history self.new.keys self.new.ended self.new.ran }
     {
         self.ran = counted(self.ran, event);
         self.history.push_owed(event);
@@ -160,7 +159,7 @@ impl<U: Unit> Record<U> for Recorded<U> {
 
     fn note_calls(
         &mut self,
-        _making: &Making<U>,
+        _setup: &Setup<U>,
         state: &State<U>,
         noted: usize,
         ticket: Option<Ticket>,

@@ -1,13 +1,13 @@
 //! A core with a record in memory: how it is made, what is read off its record, a call by its number, and the cut.
 
 ghost use Rattle.std.specs.Prelude.{◌≡◌, ◌≢◌, ◌∷◌, ◌++◌, [], ◌↔◌, unwrap_or, None, Some, find, option_map, is_some, List, IfOk, IfErr, MatchResult, OnOk, OnErr};
-ghost use Rattle.po_index.specs.Numbering.{entry_count};
-ghost use Rattle.po_accepted.specs.WaitingCalls.{has_number};
-ghost use Rattle.po_accepted.specs.Ending.{has_ended};
+ghost use Rattle.po_unit.specs.Numbering.{entry_count};
+ghost use Rattle.po_engine.specs.WaitingCalls.{has_number};
+ghost use Rattle.po_engine.specs.Ending.{has_ended};
 ghost use Rattle.po_history.specs.Histories.{VolumeView};
-ghost use Rattle.po_actions.specs.View.{opening_view, base_state};
-ghost use Rattle.po_actions.specs.ProtectedAction.{IsAbortOf, after_abort, abort_answer};
-ghost use Rattle.po_actions.specs.Cutting.{cut, cut_off, Leads, KeepsArrivals, KeepsVolumes, procedures_run, AreVolumes};
+ghost use Rattle.po_core.specs.View.{opening_view, base_state};
+ghost use Rattle.po_core.specs.ProtectedAction.{IsAbortOf, after_abort, abort_answer};
+ghost use Rattle.po_core.specs.Cutting.{cut, cut_off, Leads, KeepsArrivals, KeepsVolumes, procedures_run, AreVolumes};
 ghost use Rattle.po_core.specs.Refusals.{abort_refusal, cut_refusal};
 ghost use Rattle.po_core.specs.declared.refusal.Refusal.{Refusal};
 
@@ -16,14 +16,12 @@ use crate::object_core::Core;
 use crate::recorded::Recorded;
 use crate::refusal::Refusal;
 use crate::tracked_object::TrackedObject;
-use po_accepted::Ended;
-use po_actions::{Aborted, MakeFault, Making, Start};
-use po_barriers::Order;
+use crate::{Aborted, MakeFault, Setup, Start};
 use po_calls::End;
-use po_engine::State;
+use po_engine::{Ended, State};
 use po_history::{Event, Volume};
-use po_index::Shape;
-use po_unit::Unit;
+use po_queues::Order;
+use po_unit::{Shape, Unit};
 use std::alloc::Global;
 
 impl<U: Unit + Drop> Core<U, Recorded<U>> {
@@ -97,12 +95,12 @@ impl<U: Unit + Drop> Core<U, Recorded<U>> {
         if unit.entries() != shape.total() {
             return Err(MakeFault::ShapeMismatch);
         }
-        let making = Making::new(unit, shape, order, start);
-        let now = making.opening().copy()?;
-        let state = State::new(alloc, now, making.first_number())?;
-        let kept = Recorded::new(alloc, &making)?;
+        let setup = Setup::new(unit, shape, order, start);
+        let now = setup.opening().copy()?;
+        let state = State::new(alloc, now, setup.first_number())?;
+        let kept = Recorded::new(alloc, &setup)?;
         Ok(Core {
-            tracked: TrackedObject::new(making, state, kept),
+            tracked: TrackedObject::new(setup, state, kept),
         })
     }
 
@@ -110,12 +108,12 @@ impl<U: Unit + Drop> Core<U, Recorded<U>> {
     /// becomes the base from where the history replays; the place of the next event, the outcomes, the tickets and the
     /// calls that the last command ended stay.
     ///
-    /// Refused 8 and 9, also on a finalized object.
+    /// Refused as `NumbersSpent` and `OutOfMemory`, also on a finalized object.
     pub fn cut(&mut self) -> Result<Volume<U::Value>, Refusal>
         ensures volume { IfOk result (λ volume. volume ≡ cut_off self.old.object) }
         ensures after { OnOk result (self.new ≡ record self.old { object = cut U.meaning self.old.object }) }
         // The volume replays from the old base to the new one.
-        ensures leads { IfOk result (λ volume. Leads U.meaning self.old.object.making volume.events
+        ensures leads { IfOk result (λ volume. Leads U.meaning self.old.object.setup volume.events
             (base_state self.old.object) (base_state self.new.object)) }
         // A waiting call keeps the place at which it arrived.
         ensures arrivals { OnOk result (KeepsArrivals U.meaning self.old.object self.new.object) }
@@ -141,7 +139,7 @@ impl<U: Unit + Drop> Core<U, Recorded<U>> {
 impl<U: Unit> Core<U, Recorded<U>> {
     /// Attempts to cancel the call with number n (9.5.3, 9.5.4). No memory is taken.
     ///
-    /// Refused 5 and 6.
+    /// Refused as `UnknownCall` and `AlreadyEnded`.
     pub fn abort(&mut self, n: u64) -> Result<Aborted, Refusal>
         ensures after { OnOk result (self.new ≡ record self.old {
           object = after_abort U.meaning self.old.object n;

@@ -1,17 +1,17 @@
 //! What an object with a record in memory does with it: looks, a call by its number, and the cut.
 
 ghost use Rattle.std.specs.Prelude.{◌≡◌, ◌<◌, find, option_map, None, true, IfOk, OnOk, OnErr, IfSome};
-ghost use Rattle.po_accepted.specs.Ending.{has_ended};
-ghost use Rattle.po_accepted.specs.Tickets.{is_live};
-ghost use Rattle.po_accepted.specs.WaitingCalls.{has_number};
-ghost use Rattle.po_actions.specs.View.{base_state, next_place};
-ghost use Rattle.po_actions.specs.Cutting.{cut, cut_off, procedures_run};
+ghost use Rattle.po_engine.specs.Ending.{has_ended};
+ghost use Rattle.po_engine.specs.Tickets.{is_live};
+ghost use Rattle.po_engine.specs.WaitingCalls.{has_number};
+ghost use Rattle.po_core.specs.View.{base_state, next_place};
+ghost use Rattle.po_core.specs.Cutting.{cut, cut_off, procedures_run};
 
 use crate::base::Base;
 use crate::recorded::Recorded;
 use crate::tracked_object::TrackedObject;
-use po_accepted::Ended;
 use po_calls::{Call, End, Ticket};
+use po_engine::Ended;
 use po_history::{Event, Volume};
 use po_unit::Unit;
 use std::alloc::AllocError;
@@ -51,7 +51,7 @@ impl<U: Unit> TrackedObject<U, Recorded<U>> {
         ensures number { IfSome result (λ found. found.0.number ≡ n) }
     {
         self.state.recall_invariant();
-        let ticket = self.kept.ticket_of(self.making.first_number(), n)?;
+        let ticket = self.kept.ticket_of(self.setup.first_number(), n)?;
         let call = self.state.waiting_call(ticket)?;
         Some((ticket, call))
     }

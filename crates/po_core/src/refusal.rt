@@ -4,7 +4,7 @@ ghost use Rattle.std.specs.Prelude.{◌≡◌};
 ghost use Rattle.po_core.specs.RefusalNumbers.{refusal_number};
 ghost use Rattle.po_core.specs.declared.refusal.Refusal.TheVariants.{OutOfMemory};
 
-use po_index::IndexFault;
+use po_unit::IndexFault;
 use std::alloc::AllocError;
 use thiserror::Error;
 

@@ -1,28 +1,27 @@
 //! An object with its record, in the middle of a protected action or between two.
 
 ghost use Rattle.std.specs.Prelude.{◌≡◌, ◌<◌, ◌≤◌, ◌&&◌, [], find, is_some, option_map, None, Some, true, false, MatchOption, MatchBool, MatchResult, IfOk, IfErr, IfNone, IfSome, OnSome, OnOk, OnErr};
-ghost use Rattle.po_index.specs.Numbering.{entry_count, is_public};
-ghost use Rattle.po_accepted.specs.Finding.{IsFound};
-ghost use Rattle.po_accepted.specs.Tickets.{number_at, is_live, SetsTicket};
-ghost use Rattle.po_accepted.specs.WaitingCalls.{has_number, is_of};
+ghost use Rattle.po_unit.specs.Numbering.{entry_count, is_public};
+ghost use Rattle.po_engine.specs.Finding.{IsFound};
+ghost use Rattle.po_engine.specs.Tickets.{number_at, is_live, SetsTicket};
+ghost use Rattle.po_engine.specs.WaitingCalls.{has_number, is_of};
 ghost use Rattle.po_engine.specs.ObjectState.{IsAtRest, counts_in, opening_state};
 ghost use Rattle.po_engine.specs.Step.{MayBegin};
 ghost use Rattle.po_engine.specs.Pick.{pick, weight};
-ghost use Rattle.po_actions.specs.View.{ended_now, last_served, next_place, opening_view};
-ghost use Rattle.po_actions.specs.Progress.{Settles, Begins, Happens, IsSameCommand};
-ghost use Rattle.po_actions.specs.ProtectedAction.{settled, without_event};
-ghost use Rattle.po_actions.specs.Headline.{IsSound};
-ghost use Rattle.po_core.specs.Tickets.{capacity_of, place_of_ticket, end_of_ticket};
+ghost use Rattle.po_core.specs.View.{ended_now, last_served, next_place, opening_view};
+ghost use Rattle.po_core.specs.Progress.{Settles, Begins, Happens, IsSameCommand};
+ghost use Rattle.po_core.specs.ProtectedAction.{settled, without_event};
+ghost use Rattle.po_core.specs.Headline.{IsSound};
+ghost use Rattle.po_core.specs.Tickets.{capacity_of, status_of_ticket, end_of_ticket};
 ghost use Rattle.po_core.specs.Refusals.{MayRefuse, cancel_refusal, if_full, if_uncounted};
 ghost use Rattle.po_core.specs.Tracking.{opening_of};
 ghost use Rattle.po_core.specs.Noting.{known_of};
 
+use crate::Setup;
 use crate::record::{Record, note};
 use crate::refusal::Refusal;
-use po_accepted::Ended;
-use po_actions::Making;
-use po_calls::{Call, Deadline, End, Place, Ticket};
-use po_engine::{State, served_by};
+use po_calls::{Call, CallStatus, Deadline, End, Ticket};
+use po_engine::{Ended, State, served_by};
 use po_history::Event;
 use po_unit::Unit;
 use std::marker::Model;
@@ -30,7 +29,7 @@ use std::marker::Model;
 /// An object in the middle of a protected action or between two: its state, and a record of what has happened.
 #[derive(Drop)]
 pub(crate) struct TrackedObject<U: Unit, R: Record<U>> {
-    pub(crate) making: Making<U>,
+    pub(crate) setup: Setup<U>,
     pub(crate) state: State<U>,
     pub(crate) kept: R,
     /// The place of the next event.
@@ -49,8 +48,8 @@ impl<U: Unit, R: Record<U>> Model for TrackedObject<U, R> {
 
     ghost view = { λ a. record {
       object = record {
-        making = a.making;
-        base = R.base a.making a.kept;
+        setup = a.setup;
+        base = R.base a.setup a.kept;
         events = R.events a.kept;
         state = a.state.state;
         ended_before = a.state.before;
@@ -60,8 +59,8 @@ impl<U: Unit, R: Record<U>> Model for TrackedObject<U, R> {
     } };
 
     ghost invariant = { λ a. record {
-      tracked : IsTracked U.meaning a.making (R.base a.making a.kept) a.state (R.events a.kept) a.place a.last;
-      has : R.IsOf a.making a.kept (what_is_known a.state) (owed U.meaning a.state.state) 0;
+      tracked : IsTracked U.meaning a.setup (R.base a.setup a.kept) a.state (R.events a.kept) a.place a.last;
+      has : R.IsOf a.setup a.kept (what_is_known a.state) (owed U.meaning a.state.state) 0;
     } };
 }
 
@@ -75,27 +74,27 @@ fn rank_of<U: Unit>(e: u16, v: U::Value) -> u8
 
 impl<U: Unit, R: Record<U>> TrackedObject<U, R> {
     /// An object without events.
-    pub(crate) fn new(making: Making<U>, state: State<U>, kept: R) -> TrackedObject<U, R>
-        requires total { U.meaning.entries making.opening ≡ entry_count making.shape }
+    pub(crate) fn new(setup: Setup<U>, state: State<U>, kept: R) -> TrackedObject<U, R>
+        requires total { U.meaning.entries setup.opening ≡ entry_count setup.shape }
         requires state { state ≡ record {
-          state = opening_state making.opening making.first_number;
+          state = opening_state setup.opening setup.first_number;
           places = [];
-          hand = None;
+          serving = None;
           tickets = [];
           keys = [];
-          first = making.first_number;
+          first = setup.first_number;
           most = state.most;
           is_fixed = state.is_fixed;
           before = 0;
         } }
-        requires base { R.base making kept ≡ opening_of making }
+        requires base { R.base setup kept ≡ opening_of setup }
         requires events { R.events kept ≡ [] }
-        requires has { R.IsOf making kept (known_of state) 1 0 }
-        ensures { result ≡ record { object = opening_view making; tickets = []; capacity = capacity_of state } }
+        requires has { R.IsOf setup kept (known_of state) 1 0 }
+        ensures { result ≡ record { object = opening_view setup; tickets = []; capacity = capacity_of state } }
     {
-        let (place, _number) = (u128::from(making.first_place()), making.first_number());
+        let (place, _number) = (u128::from(setup.first_place()), setup.first_number());
         TrackedObject {
-            making,
+            setup,
             state,
             kept,
             place,
@@ -105,7 +104,7 @@ impl<U: Unit, R: Record<U>> TrackedObject<U, R> {
 
     /// The next inner event happens, if there is one.
     fn step(&mut self) -> bool
-        ensures step { MatchOption (pick U.meaning self.old.object.making.order (last_served self.old.object) self.old.object.state)
+        ensures step { MatchOption (pick U.meaning self.old.object.setup.order (last_served self.old.object) self.old.object.state)
             ((result ≡ false) × (self.new ≡ self.old))
             (λ e. (result ≡ true) × Happens U.meaning self.old.object self.new.object e) }
         ensures same { IsSameCommand self.old.object self.new.object }
@@ -113,19 +112,12 @@ impl<U: Unit, R: Record<U>> TrackedObject<U, R> {
         ensures capacity { self.new.capacity ≡ self.old.capacity }
         ensures falls { MatchBool result (weight U.meaning self.new.object.state < weight U.meaning self.old.object.state) (IsAtRest U.meaning self.new.object.state) }
     {
-        match self.state.pick(self.making.order(), self.last) {
+        match self.state.pick(self.setup.order(), self.last) {
             Some(event) => {
                 let noted = self.state.ended_now().len();
-                let queueing = self.making.queueing(self.place);
+                let queueing = self.setup.queueing(self.place);
                 self.state.perform(queueing, event);
-                note(
-                    &mut self.kept,
-                    &self.making,
-                    &self.state,
-                    event,
-                    noted,
-                    None,
-                );
+                note(&mut self.kept, &self.setup, &self.state, event, noted, None);
                 self.place += 1;
                 self.last = served_by(self.last, event);
                 true
@@ -154,7 +146,7 @@ impl<U: Unit, R: Record<U>> TrackedObject<U, R> {
     ) -> Result<Ticket, Refusal>
         requires begin { MayBegin U.meaning self.old.object.state }
         requires entry { e < U.meaning.entries self.old.object.state.unit }
-        requires public { is_public self.old.object.making.shape e ≡ true }
+        requires public { is_public self.old.object.setup.shape e ≡ true }
         requires number { self.old.object.state.next < u64.MAX }
         ensures begins { OnOk result (Begins U.meaning self.old.object self.new.object (Event.Issue self.old.object.state.next owner e v deadline)) }
         ensures number { IfOk result (λ ticket. ticket.number ≡ self.old.object.state.next) }
@@ -167,7 +159,7 @@ impl<U: Unit, R: Record<U>> TrackedObject<U, R> {
         ensures err { OnErr result (self.new ≡ self.old) }
     {
         let rank = rank_of::<U>(e, v);
-        self.kept.reserve_call(&self.making, &mut self.state, rank)?;
+        self.kept.reserve_call(&self.setup, &mut self.state, rank)?;
         self.state.begin();
         let event = Event::Issue {
             n: self.state.next(),
@@ -176,11 +168,11 @@ impl<U: Unit, R: Record<U>> TrackedObject<U, R> {
             v,
             deadline,
         };
-        let queueing = self.making.queueing(self.place);
+        let queueing = self.setup.queueing(self.place);
         let ticket = self.state.issue(queueing, owner, e, v, deadline);
         note(
             &mut self.kept,
-            &self.making,
+            &self.setup,
             &self.state,
             event,
             0,
@@ -208,7 +200,7 @@ impl<U: Unit, R: Record<U>> TrackedObject<U, R> {
         ensures err { OnErr result (self.new ≡ self.old) }
     {
         self.kept
-            .reserve_event(&self.making, &self.state, self.place)?;
+            .reserve_event(&self.setup, &self.state, self.place)?;
         self.state.recall_invariant();
         self.state.begin();
         let reply = self.state.run(op, v);
@@ -218,7 +210,7 @@ impl<U: Unit, R: Record<U>> TrackedObject<U, R> {
             v,
             reply,
         };
-        note(&mut self.kept, &self.making, &self.state, event, 0, None);
+        note(&mut self.kept, &self.setup, &self.state, event, 0, None);
         self.place += 1;
         Ok(reply)
     }
@@ -227,7 +219,7 @@ impl<U: Unit, R: Record<U>> TrackedObject<U, R> {
     pub(crate) fn cancel(&mut self, ticket: Ticket)
         requires begin { MayBegin U.meaning self.old.object.state }
         requires live { is_live self.old.tickets ticket ≡ true }
-        requires found { IsFound (λ x. (x.sealed && x.aborted) ≡ false) (find (has_number ticket.number) self.old.object.state.waiting) }
+        requires found { IsFound (λ x. (x.without_abort && x.aborted) ≡ false) (find (has_number ticket.number) self.old.object.state.waiting) }
         ensures begins { Begins U.meaning self.old.object self.new.object (Event.Abort ticket.number) }
         ensures tickets { self.new.tickets ≡ self.old.tickets }
         ensures capacity { self.new.capacity ≡ self.old.capacity }
@@ -235,7 +227,7 @@ impl<U: Unit, R: Record<U>> TrackedObject<U, R> {
         self.state.begin();
         self.state.abort(ticket);
         let event = Event::Abort(ticket.number);
-        note(&mut self.kept, &self.making, &self.state, event, 0, None);
+        note(&mut self.kept, &self.setup, &self.state, event, 0, None);
         self.place += 1;
     }
 
@@ -250,12 +242,12 @@ impl<U: Unit, R: Record<U>> TrackedObject<U, R> {
         ensures err { OnErr result (self.new ≡ self.old) }
     {
         self.kept
-            .reserve_event(&self.making, &self.state, self.place)?;
+            .reserve_event(&self.setup, &self.state, self.place)?;
         self.state.recall_invariant();
         self.state.begin();
         self.state.tick(t);
         let event = Event::Tick(t);
-        note(&mut self.kept, &self.making, &self.state, event, 0, None);
+        note(&mut self.kept, &self.setup, &self.state, event, 0, None);
         self.place += 1;
         Ok(())
     }
@@ -270,7 +262,7 @@ impl<U: Unit, R: Record<U>> TrackedObject<U, R> {
         self.state.begin();
         self.state.finalize();
         let event = Event::Final;
-        note(&mut self.kept, &self.making, &self.state, event, 0, None);
+        note(&mut self.kept, &self.setup, &self.state, event, 0, None);
         self.place += 1;
     }
 
@@ -286,13 +278,13 @@ impl<U: Unit, R: Record<U>> TrackedObject<U, R> {
         ensures live { OnOk result (is_live self.now.tickets ticket ≡ true) }
         ensures found { IfOk result (λ x. find (has_number ticket.number) self.now.object.state.waiting ≡ Some x) }
         ensures refused { MatchResult result
-            (λ _. cancel_refusal (place_of_ticket self.now ticket) ≡ None)
-            (λ r. cancel_refusal (place_of_ticket self.now ticket) ≡ Some r) }
+            (λ _. cancel_refusal (status_of_ticket self.now ticket) ≡ None)
+            (λ r. cancel_refusal (status_of_ticket self.now ticket) ≡ Some r) }
     {
-        match self.state.place(ticket) {
-            Place::Unknown => Err(Refusal::UnknownCall),
-            Place::Ended(_) => Err(Refusal::AlreadyEnded),
-            Place::Waiting => match self.state.waiting_call(ticket) {
+        match self.state.status(ticket) {
+            CallStatus::Unknown => Err(Refusal::UnknownCall),
+            CallStatus::Ended(_) => Err(Refusal::AlreadyEnded),
+            CallStatus::Waiting => match self.state.waiting_call(ticket) {
                 Some(call) => Ok(call),
                 None => Err(Refusal::AlreadyEnded),
             },
@@ -312,10 +304,10 @@ impl<U: Unit, R: Record<U>> TrackedObject<U, R> {
     }
 
     /// Where the call of a ticket is.
-    pub(crate) fn place_of(&self, ticket: Ticket) -> Place<U::Value>
-        ensures { result ≡ place_of_ticket self.now ticket }
+    pub(crate) fn status_of(&self, ticket: Ticket) -> CallStatus<U::Value>
+        ensures { result ≡ status_of_ticket self.now ticket }
     {
-        self.state.place(ticket)
+        self.state.status(ticket)
     }
 
     /// The ticket of the owner's earliest queued call.
@@ -338,14 +330,14 @@ impl<U: Unit, R: Record<U>> TrackedObject<U, R> {
     pub(crate) fn recall_kind(&self)
         ensures { is_some self.now.capacity ≡ R.is_bounded }
     {
-        self.kept.recall_kind(&self.making, &self.state);
+        self.kept.recall_kind(&self.setup, &self.state);
     }
 
     /// With what the object was made.
-    pub(crate) fn making(&self) -> &Making<U>
-        ensures { result.now ≡ self.now.object.making }
+    pub(crate) fn setup(&self) -> &Setup<U>
+        ensures { result.now ≡ self.now.object.setup }
     {
-        &self.making
+        &self.setup
     }
 
     /// The data of the object and its calls.

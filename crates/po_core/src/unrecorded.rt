@@ -4,13 +4,12 @@ ghost use Rattle.std.specs.Prelude.{◌≡◌, ◌∷◌, ◌++◌, [], true};
 ghost use Rattle.po_core.specs.Tracking.{opening_of};
 ghost use Rattle.po_core.specs.Noting.{MayPush};
 
+use crate::Setup;
 use crate::record::Record;
 use crate::refusal::Refusal;
-use po_actions::Making;
 use po_calls::Ticket;
 use po_engine::State;
-use po_history::Event;
-use po_trace::Trace;
+use po_history::{Event, Trace};
 use po_unit::Unit;
 
 /// No record. The object takes all its memory when it is made, and what happens is known to proofs alone.
@@ -31,19 +30,19 @@ impl<U: Unit> Unrecorded<U> {
 }
 
 impl<U: Unit> Record<U> for Unrecorded<U> {
-    ghost base = { λ making _. opening_of making };
+    ghost base = { λ setup _. opening_of setup };
 
     ghost events = { λ r. r.events.items };
 
-    ghost IsOf = { λ making r s room calls. s.is_fixed ≡ true };
+    ghost IsOf = { λ setup r s room calls. s.is_fixed ≡ true };
 
     ghost is_bounded = { true };
 
-    fn recall_kind(&self, _making: &Making<U>, _state: &State<U>) {}
+    fn recall_kind(&self, _setup: &Setup<U>, _state: &State<U>) {}
 
     fn reserve_call(
         &mut self,
-        _making: &Making<U>,
+        _setup: &Setup<U>,
         state: &mut State<U>,
         _rank: u8,
     ) -> Result<(), Refusal> {
@@ -56,7 +55,7 @@ impl<U: Unit> Record<U> for Unrecorded<U> {
 
     fn reserve_event(
         &mut self,
-        _making: &Making<U>,
+        _setup: &Setup<U>,
         _state: &State<U>,
         place: u128,
     ) -> Result<(), Refusal> {
@@ -68,7 +67,7 @@ impl<U: Unit> Record<U> for Unrecorded<U> {
     }
 
     fn push(&mut self, event: Event<U::Value>)
-        requires { MayPush U.meaning (λ making s room calls. s.is_fixed ≡ true) (λ making. opening_of making) self.old.events.items event }
+        requires { MayPush U.meaning (λ setup s room calls. s.is_fixed ≡ true) (λ setup. opening_of setup) self.old.events.items event }
         ensures events { self.new.events.items ≡ self.old.events.items ++ event ∷ [] }
     {
         self.events = self.events.then(&event);
@@ -76,7 +75,7 @@ impl<U: Unit> Record<U> for Unrecorded<U> {
 
     fn note_calls(
         &mut self,
-        _making: &Making<U>,
+        _setup: &Setup<U>,
         _state: &State<U>,
         _noted: usize,
         _ticket: Option<Ticket>,

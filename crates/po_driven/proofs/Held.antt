@@ -8,18 +8,18 @@ use Rattle.po_unit.specs.declared.outcome.Outcome.TheVariants.{Requeue}
 use Rattle.po_calls.specs.declared.end.End.{End}
 use Rattle.po_calls.specs.declared.end.End.TheVariants.{Cancelled, ProgramError}
 use Rattle.po_calls.specs.declared.ticket.Ticket.{Ticket}
-use Rattle.po_accepted.specs.declared.ended.Ended.{Ended}
-use Rattle.po_accepted.specs.Ending.{ended_as, has_ended}
-use Rattle.po_accepted.specs.Finding.{without_first}
-use Rattle.po_calls.specs.declared.end.Place.TheVariants.{Unknown}
-use Rattle.po_accepted.specs.WaitingCalls.{has_number, is_on}
-use Rattle.po_accepted.specs.Tickets.{is_live, is_number, number_at, place_among, place_by, end_at, SetsTicket, uncollected}
-use Rattle.po_accepted.proofs.Lists.{without_none}
-use Rattle.po_accepted.proofs.TicketCounts.{one-less}
+use Rattle.po_engine.specs.declared.ended.Ended.{Ended}
+use Rattle.po_engine.specs.Ending.{ended_as, has_ended}
+use Rattle.po_engine.specs.Finding.{without_first}
+use Rattle.po_calls.specs.declared.end.CallStatus.TheVariants.{Unknown}
+use Rattle.po_engine.specs.WaitingCalls.{has_number, is_on}
+use Rattle.po_engine.specs.Tickets.{is_live, is_number, number_at, status_among, status_by, end_at, SetsTicket, uncollected}
+use Rattle.po_engine.proofs.Lists.{without_none}
+use Rattle.po_engine.proofs.TicketCounts.{one-less}
 use Rattle.po_engine.specs.ObjectState.{ObjectState}
-use Rattle.po_engine.specs.Step.{cancel, end_call, enter, is_full, land}
+use Rattle.po_engine.specs.Step.{cancel, end_call, enter, is_full, conclude}
 use Rattle.po_engine.proofs.Absent.{eq_self}
-use Rattle.po_driven.specs.OnePlace.{hands}
+use Rattle.po_driven.specs.OnePlace.{calls_in_service}
 use Rattle.po_driven.proofs.Numbers.{found_number}
 
 module _ (test : Call ℕ → Bool) where
@@ -32,7 +32,7 @@ module _ (test : Call ℕ → Bool) where
   found_len (x ∷ xs) y h = taken_len (test x) x y xs h (found_len xs y)
 
   -- the call that is taken, if one is, is one less in the queues
-  pub length_taken : (xs : List (Call ℕ)) (o : Option (Call ℕ)) → find test xs ≡ o → length (without_first test xs) + hands o ≡ length xs
+  pub length_taken : (xs : List (Call ℕ)) (o : Option (Call ℕ)) → find test xs ≡ o → length (without_first test xs) + calls_in_service o ≡ length xs
   length_taken xs None h = omega (arith, ap (λ (l : List (Call ℕ)). length l) (without_none test xs h))
   length_taken xs (Some y) h = found_len xs y h
 
@@ -40,7 +40,7 @@ number_of : (n : ℕ) (o : Option ℕ) → is_number n o ≡ true → o ≡ Some
 number_of n None h = let bad : false ≡ true = h in absurd (cc)
 number_of n (Some k) h = ap (λ j. Some j) (eqb-true k n h)
 
-ended_end : (o : Option (Ended ℕ)) (p : Option (Call ℕ)) (live : Bool) → live ≡ true → IsSome o → IsSome (end_at (if live then place_by o p else Unknown))
+ended_end : (o : Option (Ended ℕ)) (p : Option (Call ℕ)) (live : Bool) → live ≡ true → IsSome o → IsSome (end_at (if live then status_by o p else Unknown))
 ended_end None p live is some = absurd (cc)
 ended_end (Some x) p live is some = rw is refl
 
@@ -50,7 +50,7 @@ some_end (Some e) old new key n some sets there = one-less old new key n there s
 
 -- a collected call has no ticket any more
 pub collected : (waiting : List (Call ℕ)) (ended : List (Ended ℕ)) (old new : List (Option ℕ)) (ticket : Ticket) (r : Option (End ℕ)) → is_live old ticket ≡ true → IsSome (find (has_ended ticket.number) ended)
-    → r ≡ end_at (place_among waiting ended old ticket) → OnSome r (SetsTicket old new ticket.key None) → uncollected new + 1 ≡ uncollected old
+    → r ≡ end_at (status_among waiting ended old ticket) → OnSome r (SetsTicket old new ticket.key None) → uncollected new + 1 ≡ uncollected old
 collected waiting ended old new ticket r live over is sets =
     some_end r old new ticket.key ticket.number (subst (λ o. IsSome o) (sym is) (ended_end (find (has_ended ticket.number) ended) (find (has_number ticket.number) waiting) (is_live old ticket) live over)) sets (number_of ticket.number (number_at old ticket.key) live)
 
@@ -78,12 +78,12 @@ full_len limit s x full = rw full refl
 pub full_ended : (limit : Option ℕ) (s : ObjectState ℕ ℕ) (x : Call ℕ) (n : ℕ) → x.number ≡ n → is_full limit (count_by (is_on x.entry) s.waiting) ≡ true → IsSome (find (has_ended n) (enter limit s x).ended)
 full_ended limit s x n is full = rw full (ended_last n s.ended x ProgramError is)
 
-landed_if : (b : Bool) (p q : ObjectState ℕ ℕ) → b ≡ false → (if b then p else q) ≡ q
-landed_if true p q off = absurd (cc)
-landed_if false p q off = refl
+concluded_if : (b : Bool) (p q : ObjectState ℕ ℕ) → b ≡ false → (if b then p else q) ≡ q
+concluded_if true p q off = absurd (cc)
+concluded_if false p q off = refl
 
 -- a requeue that isn't cancelled is an arrival
-pub landed_is : (limit : Option ℕ) (s : ObjectState ℕ ℕ) (x : Call ℕ) (target : ℕ) (with_abort : Bool) → ((with_abort ≡ true) → (x.aborted ≡ false))
-    → land limit s x (Requeue target with_abort x.value) ≡ enter limit s (record x { entry = target; sealed = not with_abort })
-landed_is limit s x target true kept = landed_if (true && x.aborted) (end_call s x Cancelled) (enter limit s (record x { entry = target; sealed = not true })) (kept refl)
-landed_is limit s x target false kept = refl
+pub concluded_is : (limit : Option ℕ) (s : ObjectState ℕ ℕ) (x : Call ℕ) (target : ℕ) (with_abort : Bool) → ((with_abort ≡ true) → (x.aborted ≡ false))
+    → conclude limit s x (Requeue target with_abort x.value) ≡ enter limit s (record x { entry = target; without_abort = not with_abort })
+concluded_is limit s x target true kept = concluded_if (true && x.aborted) (end_call s x Cancelled) (enter limit s (record x { entry = target; without_abort = not true })) (kept refl)
+concluded_is limit s x target false kept = refl

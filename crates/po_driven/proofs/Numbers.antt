@@ -5,10 +5,10 @@ use Rattle.std.specs.Option.{option_map}
 use Rattle.std.proofs.lemmas.Bool.{eqb-true}
 use Rattle.po_calls.specs.declared.call.Call.{Call}
 use Rattle.po_calls.specs.declared.ticket.Ticket.{Ticket}
-use Rattle.po_accepted.specs.WaitingCalls.{has_number, is_due}
-use Rattle.po_accepted.specs.Tickets.{is_live, waiting_among}
+use Rattle.po_engine.specs.WaitingCalls.{has_number, is_due}
+use Rattle.po_engine.specs.Tickets.{is_live, waiting_among}
 use Rattle.po_engine.specs.StateView.{StateView}
-use Rattle.po_accepted.proofs.Lists.{found_passes}
+use Rattle.po_engine.proofs.Lists.{found_passes}
 use Rattle.po_engine.proofs.Absent.{eq_self}
 use Rattle.po_engine.proofs.Alone.{found_alone}
 use Rattle.po_driven.specs.OnePlace.{IsThereOnce, times_in}
@@ -19,7 +19,7 @@ at_most false n h = omega arith
 
 -- a number is at most once among the queued calls
 pub once : (o : StateView ℕ ℕ) (n : ℕ) → IsThereOnce o → count_by (has_number n) o.state.waiting ≤ 1
-once o n placed = omega (arith, at_most (nat_le 1 n && nat_lt n o.state.next) (times_in n o.state o.hand) (placed.each n))
+once o n placed = omega (arith, at_most (nat_le 1 n && nat_lt n o.state.next) (times_in n o.state o.serving) (placed.each n))
 
 one_number : (x y : Call ℕ) → Some x.number ≡ Some y.number → x.number ≡ y.number
 one_number x y e = cc

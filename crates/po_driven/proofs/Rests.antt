@@ -4,7 +4,7 @@ use Rattle.std.specs.Prelude.{if◌then◌else◌, IsSome}
 use Rattle.std.specs.List.{All, find}
 use Rattle.std.proofs.lemmas.List.Elements.{All-head, All-nil, All-map, All-push, All-weaker}
 use Rattle.po_calls.specs.declared.call.Call.{Call}
-use Rattle.po_accepted.specs.WaitingCalls.{has_number, is_due, mark}
+use Rattle.po_engine.specs.WaitingCalls.{has_number, is_due, mark}
 use Rattle.po_engine.specs.ObjectState.{ObjectState}
 use Rattle.po_engine.specs.StateView.{StateView}
 use Rattle.po_engine.specs.Step.{abort}
@@ -31,15 +31,15 @@ none_marked t n (x ∷ xs) h =
     let still : is_due t (mark n x) ≡ false = marked_due t (has_number n x) x ∙ off in
     simp still (none_marked t n xs later)
 
-marks : (s : ObjectState ℕ ℕ) (n : ℕ) (x : Call ℕ) (o : Option (Call ℕ)) → o ≡ Some x → x.sealed ≡ true → abort s n o ≡ record s { waiting = map (mark n) s.waiting }
-marks s n x o found sealed = rw (found, sealed) refl
+marks : (s : ObjectState ℕ ℕ) (n : ℕ) (x : Call ℕ) (o : Option (Call ℕ)) → o ≡ Some x → x.without_abort ≡ true → abort s n o ≡ record s { waiting = map (mark n) s.waiting }
+marks s n x o found without_abort = rw (found, without_abort) refl
 
 -- a mark leaves an object at rest
-pub rests_marked : (o new : StateView ℕ ℕ) (n : ℕ) (x : Call ℕ) → find (has_number n) o.state.waiting ≡ Some x → x.sealed ≡ true
-    → new.state ≡ abort o.state n (find (has_number n) o.state.waiting) → new.hand ≡ o.hand → (closed : List ℕ) → IsAtRest o closed → IsAtRest new closed
-rests_marked o new n x found sealed is hand closed rest =
-    let now = is ∙ marks o.state n x (find (has_number n) o.state.waiting) found sealed in record {
-      idle = hand ∙ rest.idle;
+pub rests_marked : (o new : StateView ℕ ℕ) (n : ℕ) (x : Call ℕ) → find (has_number n) o.state.waiting ≡ Some x → x.without_abort ≡ true
+    → new.state ≡ abort o.state n (find (has_number n) o.state.waiting) → new.serving ≡ o.serving → (closed : List ℕ) → IsAtRest o closed → IsAtRest new closed
+rests_marked o new n x found without_abort is serving closed rest =
+    let now = is ∙ marks o.state n x (find (has_number n) o.state.waiting) found without_abort in record {
+      idle = serving ∙ rest.idle;
       closed = subst (λ s. All (λ y. told closed y.entry ≡ true) s.waiting) (sym now)
           (All-map (λ y. told closed y.entry ≡ true) (mark n) o.state.waiting (All-weaker (λ y. told closed y.entry ≡ true) (λ y. told closed (mark n y).entry ≡ true) (λ y k. subst (λ e. told closed e ≡ true) (sym (marked_entry (has_number n y) y)) k) o.state.waiting rest.closed));
       none_due = subst (λ s. find (is_due s.clock) s.waiting ≡ None) (sym now) (none_marked o.state.clock n o.state.waiting rest.none_due);
@@ -56,7 +56,7 @@ none_waits [] h = refl
 none_waits (x ∷ xs) h = absurd (omega (arith, All-head (λ y. y.entry < 0) x xs h))
 
 -- an object with no queued call and no body that runs is at rest
-pub rests_idle : (o : StateView ℕ ℕ) (closed : List ℕ) → o.hand ≡ None → o.state.waiting ≡ [] → IsAtRest o closed
+pub rests_idle : (o : StateView ℕ ℕ) (closed : List ℕ) → o.serving ≡ None → o.state.waiting ≡ [] → IsAtRest o closed
 rests_idle o closed idle none = record {
   idle = idle;
   closed = subst (All (λ x. told closed x.entry ≡ true)) (sym none) (All-nil (λ x. told closed x.entry ≡ true));

@@ -1,4 +1,4 @@
--- Each call stays in one place: what each word of a step does to the numbers that wait, are in hand or have ended.
+-- Each call stays in one place: what each word of a step does to the numbers that wait, are in service or have ended.
 use Rattle.std.proofs.Common.{◌≡◌, ℕ, ◌+◌, ◌≤◌, map, refl, ap, ap₂, sym, subst, ◌∙◌, arith, Bool, true, false, cond, ◌&&◌, Option, Some, None, nat_le, nat_lt, if◌then◌else◌}
 use Rattle.std.specs.List.{count_by, find}
 use Rattle.po_calls.specs.declared.call.Call.{Call}
@@ -6,12 +6,12 @@ use Rattle.po_calls.specs.declared.end.End.{End}
 use Rattle.po_calls.specs.declared.end.End.TheVariants.{Cancelled}
 use Rattle.po_engine.specs.ObjectState.{ObjectState}
 use Rattle.po_engine.specs.StateView.{StateView}
-use Rattle.po_accepted.specs.WaitingCalls.{has_number, mark}
-use Rattle.po_accepted.specs.Ending.{ended_as, has_ended}
-use Rattle.po_accepted.proofs.Lists.{without_none}
+use Rattle.po_engine.specs.WaitingCalls.{has_number, mark}
+use Rattle.po_engine.specs.Ending.{ended_as, has_ended}
+use Rattle.po_engine.proofs.Lists.{without_none}
 use Rattle.po_engine.specs.Step.{end_call, take_out, cancel, abort}
 use Rattle.po_engine.proofs.Sums.{sum_by-push, sum_by-without, sum_by-mapped}
-use Rattle.po_driven.specs.OnePlace.{in_hands, times_in, IsThereOnce}
+use Rattle.po_driven.specs.OnePlace.{times_in_service, times_in, IsThereOnce}
 
 abbrev one_if : ℕ → Call ℕ → ℕ
 one_if n x = cond (has_number n x) 1 0
@@ -43,17 +43,17 @@ module _ (n : ℕ) where
 
   places-abort : (p : S) (k : ℕ) (o : Option (Call ℕ)) → find (has_number k) p.waiting ≡ o → places_of (abort p k o) ≡ places_of p
   places-abort p k None h = refl
-  places-abort p k (Some x) h = places-aborted p k x.sealed x h
+  places-abort p k (Some x) h = places-aborted p k x.without_abort x h
 
-  spots-take : (p : S) (hand : Option (Call ℕ)) (test : Call ℕ → Bool) (o : Option (Call ℕ)) → hand ≡ None → find test p.waiting ≡ o → times_in n (take_out p test) o ≡ times_in n p hand
-  spots-take p hand test None h f = omega (arith, ap (λ xs. count_by (has_number n) xs) (without_none test p.waiting f), ap (in_hands n) h)
-  spots-take p hand test (Some x) h f = omega (arith, places-take p test x f, ap (in_hands n) h)
+  spots-take : (p : S) (serving : Option (Call ℕ)) (test : Call ℕ → Bool) (o : Option (Call ℕ)) → serving ≡ None → find test p.waiting ≡ o → times_in n (take_out p test) o ≡ times_in n p serving
+  spots-take p serving test None h f = omega (arith, ap (λ xs. count_by (has_number n) xs) (without_none test p.waiting f), ap (times_in_service n) h)
+  spots-take p serving test (Some x) h f = omega (arith, places-take p test x f, ap (times_in_service n) h)
 
-  spots-cancel : (p : S) (hand : Option (Call ℕ)) (k : ℕ) → hand ≡ None → times_in n (cancel p k (find (has_number k) p.waiting)) None ≡ times_in n p hand
-  spots-cancel p hand k h = omega (arith, places-cancel p k (find (has_number k) p.waiting) refl, ap (in_hands n) h)
+  spots-cancel : (p : S) (serving : Option (Call ℕ)) (k : ℕ) → serving ≡ None → times_in n (cancel p k (find (has_number k) p.waiting)) None ≡ times_in n p serving
+  spots-cancel p serving k h = omega (arith, places-cancel p k (find (has_number k) p.waiting) refl, ap (times_in_service n) h)
 
-  spots-abort : (p : S) (hand : Option (Call ℕ)) (k : ℕ) → hand ≡ None → times_in n (abort p k (find (has_number k) p.waiting)) None ≡ times_in n p hand
-  spots-abort p hand k h = omega (arith, places-abort p k (find (has_number k) p.waiting) refl, ap (in_hands n) h)
+  spots-abort : (p : S) (serving : Option (Call ℕ)) (k : ℕ) → serving ≡ None → times_in n (abort p k (find (has_number k) p.waiting)) None ≡ times_in n p serving
+  spots-abort p serving k h = omega (arith, places-abort p k (find (has_number k) p.waiting) refl, ap (times_in_service n) h)
 
 next-cancel : (p : S) (k : ℕ) (o : Option (Call ℕ)) → (cancel p k o).next ≡ p.next
 next-cancel p k None = refl
@@ -65,21 +65,21 @@ next-aborted p k false x = refl
 
 next-abort : (p : S) (k : ℕ) (o : Option (Call ℕ)) → (abort p k o).next ≡ p.next
 next-abort p k None = refl
-next-abort p k (Some x) = next-aborted p k x.sealed x
+next-abort p k (Some x) = next-aborted p k x.without_abort x
 
--- where the state and the hand are so, and the numbers are in as many places as before, each call is in one place
-moved : (a b : StateView ℕ ℕ) (s : S) (hand : Option (Call ℕ)) → b.state ≡ s → b.hand ≡ hand → s.next ≡ a.state.next → ((n : ℕ) → times_in n s hand ≡ times_in n a.state a.hand) → IsThereOnce a → IsThereOnce b
-moved a b s hand st ha nx k p =
+-- where the state and the call in service are so, and the numbers are in as many places as before, each call is in one place
+moved : (a b : StateView ℕ ℕ) (s : S) (serving : Option (Call ℕ)) → b.state ≡ s → b.serving ≡ serving → s.next ≡ a.state.next → ((n : ℕ) → times_in n s serving ≡ times_in n a.state a.serving) → IsThereOnce a → IsThereOnce b
+moved a b s serving st ha nx k p =
     let next : b.state.next ≡ a.state.next = ap (λ t. t.next) st ∙ nx in record {
       low = subst (λ j. 1 ≤ j) (sym next) p.low;
-      each = λ n. subst (λ j. times_in n b.state b.hand ≡ (if nat_le 1 n && nat_lt n j then 1 else 0)) (sym next) (ap₂ (times_in n) st ha ∙ (k n ∙ p.each n));
+      each = λ n. subst (λ j. times_in n b.state b.serving ≡ (if nat_le 1 n && nat_lt n j then 1 else 0)) (sym next) (ap₂ (times_in n) st ha ∙ (k n ∙ p.each n));
     }
 
-pub took : (a b : StateView ℕ ℕ) (test : Call ℕ → Bool) (o : Option (Call ℕ)) → a.hand ≡ None → find test a.state.waiting ≡ o → b.state ≡ take_out a.state test → b.hand ≡ o → IsThereOnce a → IsThereOnce b
-took a b test o h f st ha p = moved a b (take_out a.state test) o st ha refl (λ n. spots-take n a.state a.hand test o h f) p
+pub took : (a b : StateView ℕ ℕ) (test : Call ℕ → Bool) (o : Option (Call ℕ)) → a.serving ≡ None → find test a.state.waiting ≡ o → b.state ≡ take_out a.state test → b.serving ≡ o → IsThereOnce a → IsThereOnce b
+took a b test o h f st ha p = moved a b (take_out a.state test) o st ha refl (λ n. spots-take n a.state a.serving test o h f) p
 
-pub cancelled : (a b : StateView ℕ ℕ) (k : ℕ) → a.hand ≡ None → b.state ≡ cancel a.state k (find (has_number k) a.state.waiting) → b.hand ≡ None → IsThereOnce a → IsThereOnce b
-cancelled a b k h st ha p = moved a b (cancel a.state k (find (has_number k) a.state.waiting)) None st ha (next-cancel a.state k (find (has_number k) a.state.waiting)) (λ n. spots-cancel n a.state a.hand k h) p
+pub cancelled : (a b : StateView ℕ ℕ) (k : ℕ) → a.serving ≡ None → b.state ≡ cancel a.state k (find (has_number k) a.state.waiting) → b.serving ≡ None → IsThereOnce a → IsThereOnce b
+cancelled a b k h st ha p = moved a b (cancel a.state k (find (has_number k) a.state.waiting)) None st ha (next-cancel a.state k (find (has_number k) a.state.waiting)) (λ n. spots-cancel n a.state a.serving k h) p
 
-pub attempted : (a b : StateView ℕ ℕ) (k : ℕ) → a.hand ≡ None → b.state ≡ abort a.state k (find (has_number k) a.state.waiting) → b.hand ≡ None → IsThereOnce a → IsThereOnce b
-attempted a b k h st ha p = moved a b (abort a.state k (find (has_number k) a.state.waiting)) None st ha (next-abort a.state k (find (has_number k) a.state.waiting)) (λ n. spots-abort n a.state a.hand k h) p
+pub attempted : (a b : StateView ℕ ℕ) (k : ℕ) → a.serving ≡ None → b.state ≡ abort a.state k (find (has_number k) a.state.waiting) → b.serving ≡ None → IsThereOnce a → IsThereOnce b
+attempted a b k h st ha p = moved a b (abort a.state k (find (has_number k) a.state.waiting)) None st ha (next-abort a.state k (find (has_number k) a.state.waiting)) (λ n. spots-abort n a.state a.serving k h) p

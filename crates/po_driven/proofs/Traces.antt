@@ -8,14 +8,14 @@ use Rattle.std.proofs.lemmas.List.Elements.{All-weaker}
 use Rattle.po_unit.specs.declared.outcome.Outcome.TheVariants.{Requeue}
 use Rattle.po_calls.specs.declared.call.Call.{Call}
 use Rattle.po_calls.specs.declared.end.End.TheVariants.{Cancelled}
-use Rattle.po_accepted.specs.Ending.{has_ended}
-use Rattle.po_accepted.specs.WaitingCalls.{has_number, is_on}
+use Rattle.po_engine.specs.Ending.{has_ended}
+use Rattle.po_engine.specs.WaitingCalls.{has_number, is_on}
 use Rattle.po_engine.specs.Arrival.{Increases}
 use Rattle.po_engine.specs.ObjectState.{ObjectState}
 use Rattle.po_engine.specs.StateView.{StateView}
-use Rattle.po_engine.specs.Step.{enter, end_call, is_full, land}
+use Rattle.po_engine.specs.Step.{enter, end_call, is_full, conclude}
 use Rattle.po_driven.specs.Happening.{Driving, happen, opening, replay}
-use Rattle.po_driven.specs.OnePlace.{HasTickets, IsInOnePlace, IsLedTo, IsThereOnce, in_hands, places_with, times_in}
+use Rattle.po_driven.specs.OnePlace.{HasTickets, IsInOnePlace, IsLedTo, IsThereOnce, times_in_service, places_with, times_in}
 use Rattle.po_driven.specs.TracedView.{TracedView, IsTraced, led_by}
 use Rattle.po_driven.specs.declared.happening.Happening.{Happening}
 
@@ -28,8 +28,8 @@ pub there : (d : Driving) (o : StateView ℕ ℕ) → IsLedTo d o → IsInOnePla
 there d o l p =
     let waiting = ap (λ s. s.waiting) l.state in let next = ap (λ s. s.next) l.state in record {
       low = subst (λ k. 1 ≤ k) (sym next) p.low;
-      each = λ n. subst (λ k. times_in n o.state o.hand ≡ (if nat_le 1 n && nat_lt n k then 1 else 0)) (sym next)
-          (omega (arith, ap (λ (xs : List (Call ℕ)). count_by (has_number n) xs) waiting, ap (in_hands n) l.hand, l.left (has_ended n), p.each n));
+      each = λ n. subst (λ k. times_in n o.state o.serving ≡ (if nat_le 1 n && nat_lt n k then 1 else 0)) (sym next)
+          (omega (arith, ap (λ (xs : List (Call ℕ)). count_by (has_number n) xs) waiting, ap (times_in_service n) l.serving, l.left (has_ended n), p.each n));
     }
 
 in_place : (d : Driving) (o : StateView ℕ ℕ) → IsLedTo d o → IsThereOnce o → IsInOnePlace d
@@ -37,7 +37,7 @@ in_place d o l p =
     let waiting = ap (λ s. s.waiting) l.state in let next = ap (λ s. s.next) l.state in record {
       low = subst (λ k. 1 ≤ k) next p.low;
       each = λ n. subst (λ k. places_with n d ≡ (if nat_le 1 n && nat_lt n k then 1 else 0)) next
-          (omega (arith, ap (λ (xs : List (Call ℕ)). count_by (has_number n) xs) waiting, ap (in_hands n) l.hand, l.left (has_ended n), p.each n));
+          (omega (arith, ap (λ (xs : List (Call ℕ)). count_by (has_number n) xs) waiting, ap (times_in_service n) l.serving, l.left (has_ended n), p.each n));
     }
 
 leads_on : (old new : TracedView) (h : Happening) → new.object.state.unit ≡ old.object.state.unit → new.happened ≡ old.happened ++ h ∷ [] → led_by new ≡ happen h (led_by old)
@@ -91,10 +91,10 @@ queued_if p true s t off h = absurd (cc)
 queued_if p false s t off h = h
 
 -- so is one that is requeued, unless it is cancelled
-pub moved_on : (p : Call ℕ → Bool) (limit : Option ℕ) (s : ObjectState ℕ ℕ) (x : Call ℕ) (target : ℕ) (with_abort : Bool) (n : ℕ) (b : Bool) → ((sealed : Bool) → p (record x { entry = target; sealed = sealed }) ≡ true)
+pub moved_on : (p : Call ℕ → Bool) (limit : Option ℕ) (s : ObjectState ℕ ℕ) (x : Call ℕ) (target : ℕ) (with_abort : Bool) (n : ℕ) (b : Bool) → ((without_abort : Bool) → p (record x { entry = target; without_abort = without_abort }) ≡ true)
     → b ≡ option_eq nat_eq limit (Some n) → n ≡ count_by (is_on target) s.waiting → b ≡ false
-    → ((with_abort ≡ true) → (x.aborted ≡ false)) → IsSome (find p (land limit s x (Requeue target with_abort x.value)).waiting)
+    → ((with_abort ≡ true) → (x.aborted ≡ false)) → IsSome (find p (conclude limit s x (Requeue target with_abort x.value)).waiting)
 moved_on p limit s x target true n b is test count off kept =
-    let y = record x { entry = target; sealed = not true } in
+    let y = record x { entry = target; without_abort = not true } in
     queued_if p (true && x.aborted) (end_call s x Cancelled) (enter limit s y) (kept refl) (queued_on p limit s y n b (is (not true)) test count off)
-moved_on p limit s x target false n b is test count off kept = queued_on p limit s (record x { entry = target; sealed = not false }) n b (is (not false)) test count off
+moved_on p limit s x target false n b is test count off kept = queued_on p limit s (record x { entry = target; without_abort = not false }) n b (is (not false)) test count off

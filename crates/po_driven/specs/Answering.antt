@@ -15,7 +15,7 @@ use Rattle.po_driven.specs.declared.words.Step.{Step}
 
 -- whether the call is cancelled before its barrier is looked at: its caller was aborted, and no requeue without abort brings it
 abbrev pub is_withdrawn : Arriving ℕ → Bool
-is_withdrawn a = a.aborted && not a.sealed
+is_withdrawn a = a.aborted && not a.without_abort
 
 -- A call whose barrier is open is served, one whose barrier is closed is queued or finds its queue full, and where the barrier
 -- raised all calls end by Program_Error, one after the other (9.5.3, D.7).

@@ -2,7 +2,7 @@
 use Rattle.std.specs.Prelude.{ℕ, ◌≡◌, ◌<◌, ◌==◌, List, Bool, true, None, All, find}
 use Rattle.std.specs.List.{list_any}
 use Rattle.po_calls.specs.declared.call.Call.{Call}
-use Rattle.po_accepted.specs.WaitingCalls.{is_due}
+use Rattle.po_engine.specs.WaitingCalls.{is_due}
 use Rattle.po_engine.specs.StateView.{StateView}
 
 -- whether the entry was answered to be closed
@@ -20,6 +20,6 @@ AskedBelow closed from = All (λ e. e < from) closed
 -- The object is at rest: no body runs, each queued call is on an entry that the client has answered to be closed since
 -- anything last changed, and none is due.
 pub record IsAtRest (o : StateView ℕ ℕ) (answered : List ℕ) : Type 0 where
-  pub idle : o.hand ≡ None
+  pub idle : o.serving ≡ None
   pub closed : All (λ x. told answered x.entry ≡ true) o.state.waiting
   pub none_due : find (is_due o.state.clock) o.state.waiting ≡ None

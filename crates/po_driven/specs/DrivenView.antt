@@ -1,6 +1,6 @@
 -- What contracts see of an object that its client drives, and what it keeps (9.5.1 to 9.5.4).
 use Rattle.std.specs.Prelude.{ℕ, replicate, ◌≡◌, ◌≢◌, ◌<◌, List, [], ◌∷◌, ◌++◌, length, false, None, find, IsSome}
-use Rattle.po_accepted.specs.WaitingCalls.{is_on}
+use Rattle.po_engine.specs.WaitingCalls.{is_on}
 use Rattle.po_engine.specs.StateView.{StateView}
 use Rattle.po_driven.specs.AtRest.{AskedBelow, IsAtRest, ToldBelow}
 use Rattle.po_driven.specs.TracedView.{KeepsRoom, TracedView, IsTraced}
@@ -28,13 +28,13 @@ at_opening calls entries = record { calls = calls; limits = replicate entries 0;
 
 -- What is so while an object waits for this: where it rests, it is at rest; where the client is asked for the barrier of an
 -- entry, a call is queued on it, and the client has answered for the entries below, and for no other, so that none is asked for
--- twice; and a call is in hand while its body runs.
+-- twice; and a call is in service while its body runs.
 abbrev pub Awaits : Phase → StateView ℕ ℕ → List ℕ → Type 0
 Awaits Resting o closed = IsAtRest o closed
-Awaits (Asked e) o closed = (o.hand ≡ None) × (e < o.state.unit) × IsSome (find (is_on e) o.state.waiting) × ToldBelow closed e o.state.waiting × AskedBelow closed e
-Awaits Running o closed = IsSome o.hand
-Awaits Settling o closed = o.hand ≡ None
-Awaits Breaking o closed = o.hand ≡ None
+Awaits (Asked e) o closed = (o.serving ≡ None) × (e < o.state.unit) × IsSome (find (is_on e) o.state.waiting) × ToldBelow closed e o.state.waiting × AskedBelow closed e
+Awaits Running o closed = IsSome o.serving
+Awaits Settling o closed = o.serving ≡ None
+Awaits Breaking o closed = o.serving ≡ None
 
 -- What a driven object keeps beside its calls: a limit for each entry, and what is so while it waits.
 pub record IsWaiting (d : DrivenView) : Type 0 where
@@ -79,7 +79,7 @@ KeepsAll other old new = Unit {0}
 
 -- What an object was made with stays: how many entries it has, the limits of their queues, whether its memory is fixed, and then
 -- for how many calls it is.
-pub record KeepsMaking (old new : DrivenView) : Type 0 where
+pub record KeepsSetup (old new : DrivenView) : Type 0 where
   pub entries : new.calls.object.state.unit ≡ old.calls.object.state.unit
   pub limits : new.limits ≡ old.limits
   pub room : KeepsRoom old.calls.object new.calls.object

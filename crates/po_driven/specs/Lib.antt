@@ -1,9 +1,9 @@
-pub mod Unknown
-pub mod OnePlace
-pub mod Happening
-pub mod TracedView
+pub mod Answering
 pub mod AtRest
 pub mod DrivenView
+pub mod Happening
 pub mod Noted
-pub mod Answering
+pub mod OnePlace
 pub mod Steps
+pub mod TracedView
+pub mod Unknown

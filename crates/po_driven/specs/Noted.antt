@@ -5,8 +5,8 @@ use Rattle.po_unit.specs.declared.outcome.Outcome.TheVariants.{Requeue as Requeu
 use Rattle.po_calls.specs.declared.call.Call.{Call}
 use Rattle.po_calls.specs.declared.end.End.TheVariants.{Completed, Raised, Cancelled as IsCancelled}
 use Rattle.po_calls.specs.declared.ticket.Ticket.{Ticket}
-use Rattle.po_accepted.specs.Tickets.{is_live}
-use Rattle.po_accepted.specs.WaitingCalls.{has_number, is_on, is_due}
+use Rattle.po_engine.specs.Tickets.{is_live}
+use Rattle.po_engine.specs.WaitingCalls.{has_number, is_on, is_due}
 use Rattle.po_engine.specs.Driving.{new_call}
 use Rattle.po_engine.specs.Step.{is_full}
 use Rattle.po_engine.specs.declared.arriving.Arriving.{Arriving}
@@ -54,7 +54,7 @@ Notes hs old new = new.calls.happened ≡ old.calls.happened ++ hs
 -- Whom an answer names: the caller of the call whose body runs, of the one that is queued with this ticket, of the one that was
 -- due, or of the one that was queued first of all.
 abbrev pub Names : Action → Step → DrivenView → DrivenView → Type 0
-Names (Run e) step old new = IfSome new.calls.object.hand (λ x. (x.entry ≡ e) × (step.caller ≡ x.value))
+Names (Run e) step old new = IfSome new.calls.object.serving (λ x. (x.entry ≡ e) × (step.caller ≡ x.value))
 Names (Queued e) step old new = IfSome (find (has_number step.number) new.calls.object.state.waiting) (λ x. step.caller ≡ x.value)
 Names Cancelled step old new = IfSome (find (is_due old.calls.object.state.clock) old.calls.object.state.waiting) (λ x. step.caller ≡ x.value)
 Names ProgramError step old new = IfSome (slice_get old.calls.object.state.waiting 0) (λ x. step.caller ≡ x.value)
@@ -73,14 +73,14 @@ abbrev pub HasTicket : Action → Ticket → Step → Type 0
 HasTicket (Queued e) ticket step = (step.key ≡ ticket.key) × (step.number ≡ ticket.number)
 HasTicket other ticket step = ⊥
 
--- what has happened when a body has ended so, whose call was in hand
-abbrev pub landed : BodyEnd → Call ℕ → Action → DrivenView → List Happening
-landed IsComplete x action d = Ended (Completed x.value) ∷ serviced action d
-landed Failed x action d = Ended (Raised 0) ∷ serviced action d
-landed IsRequeuedElsewhere x action d = RequeuedElsewhere ∷ serviced action d
-landed (IsRequeued r) x Refused d = []
-landed (IsRequeued r) x Cancelled d = Ended IsCancelled ∷ []
-landed (IsRequeued r) x action d = (if r.due then Due ∷ [] else []) ++ Requeued (RequeueTo r.target r.with_abort x.value) (longest_on d r.target) ∷ []
+-- what has happened when a body has ended so, whose call was in service
+abbrev pub concluded : BodyEnd → Call ℕ → Action → DrivenView → List Happening
+concluded IsComplete x action d = Ended (Completed x.value) ∷ serviced action d
+concluded Failed x action d = Ended (Raised 0) ∷ serviced action d
+concluded IsRequeuedElsewhere x action d = RequeuedElsewhere ∷ serviced action d
+concluded (IsRequeued r) x Refused d = []
+concluded (IsRequeued r) x Cancelled d = Ended IsCancelled ∷ []
+concluded (IsRequeued r) x action d = (if r.due then Due ∷ [] else []) ++ Requeued (RequeueTo r.target r.with_abort x.value) (longest_on d r.target) ∷ []
 
 -- what has happened when an object is finalized with this answer
 abbrev pub finalized : Action → DrivenView → List Happening
@@ -107,8 +107,8 @@ IsNoRequeue other = Unit {0}
 
 -- An attempt to cancel ends so, where the ticket is of this queued call: one that a requeue without abort queued is kept (9.5.4).
 abbrev pub Cancels : Cancellation → Option (Call ℕ) → Type 0
-Cancels Made queued = IsSomeAnd queued (λ x. x.sealed ≡ false)
-Cancels Kept queued = IsSomeAnd queued (λ x. x.sealed ≡ true)
+Cancels Made queued = IsSomeAnd queued (λ x. x.without_abort ≡ false)
+Cancels Kept queued = IsSomeAnd queued (λ x. x.without_abort ≡ true)
 Cancels Unknown queued = queued ≡ None
 Cancels IsRefused queued = Unit {0}
 

@@ -2,11 +2,11 @@
 use Rattle.std.specs.Prelude.{ℕ, Bool, ◌≡◌, ◌≢◌, ◌<◌, None, Some, IsSome}
 use Rattle.po_calls.specs.declared.call.Call.{Call}
 use Rattle.po_calls.specs.declared.ticket.Ticket.{Ticket}
-use Rattle.po_accepted.specs.Tickets.{uncollected, waiting_among}
+use Rattle.po_engine.specs.Tickets.{uncollected, waiting_among}
 use Rattle.po_engine.specs.declared.arriving.Arriving.{Arriving}
 use Rattle.po_driven.specs.Answering.{AnswersCall, Breaks, LooksOn, Moves, WaitsForNext}
-use Rattle.po_driven.specs.DrivenView.{DrivenView, Fresh, KeepsAll, KeepsMaking, MayIssue, Tells, closed_after}
-use Rattle.po_driven.specs.Noted.{Cancels, EndsWhereFull, IsNoRequeue, KeepsCalls, Names, NamesCaller, NamesTicket, Notes, attempted, finalized, issued, landed, serviced}
+use Rattle.po_driven.specs.DrivenView.{DrivenView, Fresh, KeepsAll, KeepsSetup, MayIssue, Tells, closed_after}
+use Rattle.po_driven.specs.Noted.{Cancels, EndsWhereFull, IsNoRequeue, KeepsCalls, Names, NamesCaller, NamesTicket, Notes, attempted, finalized, issued, concluded, serviced}
 use Rattle.po_driven.specs.declared.action.Action.{Action}
 use Rattle.po_driven.specs.declared.action.Action.TheVariants.{NoMemory, Refused, Run}
 use Rattle.po_driven.specs.declared.phase.Phase.TheVariants.{Asked, Breaking, Resting, Settling}
@@ -23,7 +23,7 @@ use Rattle.po_driven.specs.declared.words.Step.{Step}
 pub record Issues (a : Arriving ℕ) (barrier : Barrier) (step : Step) (old new : DrivenView) (action : Action) : Type 0 where
   pub tells : Tells action new
   pub kept : KeepsAll action old new
-  pub making : KeepsMaking old new
+  pub setup : KeepsSetup old new
   pub accepted : MayIssue old a.entry → action ≢ Refused
   pub refused : (MayIssue old a.entry → ⊥) → action ≡ Refused
   pub room : uncollected old.calls.object.tickets < old.calls.object.most → action ≢ NoMemory
@@ -38,7 +38,7 @@ pub record Issues (a : Arriving ℕ) (barrier : Barrier) (step : Step) (old new 
 pub record Evaluates (barrier : Barrier) (step : Step) (old new : DrivenView) (action : Action) : Type 0 where
   pub tells : Tells action new
   pub kept : KeepsAll action old new
-  pub making : KeepsMaking old new
+  pub setup : KeepsSetup old new
   pub accepted : (e : ℕ) → old.phase ≡ Asked e → action ≢ Refused
   pub refused : ((e : ℕ) → old.phase ≡ Asked e → ⊥) → action ≡ Refused
   pub closed : (e : ℕ) → old.phase ≡ Asked e → new.closed ≡ closed_after old.closed e barrier
@@ -48,28 +48,28 @@ pub record Evaluates (barrier : Barrier) (step : Step) (old new : DrivenView) (a
   pub looks_on : (e : ℕ) → old.phase ≡ Asked e → barrier ≡ Closed → LooksOn action old.calls.object.state.waiting new.closed
   pub breaks : (e : ℕ) → old.phase ≡ Asked e → barrier ≡ Raised → Breaks action old new
 
--- The body of the call in hand has ended so (9.5.2, 9.5.4).
+-- The body of the call in service has ended so (9.5.2, 9.5.4).
 pub record EndsBody (end : BodyEnd) (step : Step) (old new : DrivenView) (action : Action) : Type 0 where
   pub tells : Tells action new
   pub kept : KeepsAll action old new
-  pub making : KeepsMaking old new
-  pub accepted : IsSome old.calls.object.hand → IsNoRequeue end → action ≢ Refused
-  pub refused : old.calls.object.hand ≡ None → action ≡ Refused
+  pub setup : KeepsSetup old new
+  pub accepted : IsSome old.calls.object.serving → IsNoRequeue end → action ≢ Refused
+  pub refused : old.calls.object.serving ≡ None → action ≡ Refused
   pub fresh : Fresh action new
-  pub noted : (x : Call ℕ) → old.calls.object.hand ≡ Some x → Notes (landed end x action old) old new
+  pub noted : (x : Call ℕ) → old.calls.object.serving ≡ Some x → Notes (concluded end x action old) old new
   pub names : IsNoRequeue end → Names action step old new
-  pub moves : (requeue : Requeue) (x : Call ℕ) → end ≡ Requeued requeue → old.calls.object.hand ≡ Some x → Moves action requeue x step old
+  pub moves : (requeue : Requeue) (x : Call ℕ) → end ≡ Requeued requeue → old.calls.object.serving ≡ Some x → Moves action requeue x step old
   pub ticket : NamesTicket action step new
   pub full : (requeue : Requeue) → end ≡ Requeued requeue → EndsWhereFull action requeue.target old
-  pub looks_on : IsSome old.calls.object.hand → end ≡ Completed → LooksOn action old.calls.object.state.waiting new.closed
-  pub leaves : IsSome old.calls.object.hand → end ≡ RequeuedElsewhere → LooksOn action old.calls.object.state.waiting new.closed
-  pub breaks : IsSome old.calls.object.hand → end ≡ Failed → Breaks action old new
+  pub looks_on : IsSome old.calls.object.serving → end ≡ Completed → LooksOn action old.calls.object.state.waiting new.closed
+  pub leaves : IsSome old.calls.object.serving → end ≡ RequeuedElsewhere → LooksOn action old.calls.object.state.waiting new.closed
+  pub breaks : IsSome old.calls.object.serving → end ≡ Failed → Breaks action old new
 
 -- The client asks for what is next (9.5.1, 9.5.3).
 pub record GoesOn (step : Step) (old new : DrivenView) (action : Action) : Type 0 where
   pub tells : Tells action new
   pub kept : KeepsAll action old new
-  pub making : KeepsMaking old new
+  pub setup : KeepsSetup old new
   pub accepted : WaitsForNext old.phase → action ≢ Refused
   pub refused : (WaitsForNext old.phase → ⊥) → action ≡ Refused
   pub fresh : Fresh action new
@@ -82,7 +82,7 @@ pub record GoesOn (step : Step) (old new : DrivenView) (action : Action) : Type 
 pub record Finalizes (step : Step) (old new : DrivenView) (action : Action) : Type 0 where
   pub tells : Tells action new
   pub kept : KeepsAll action old new
-  pub making : KeepsMaking old new
+  pub setup : KeepsSetup old new
   pub accepted : old.phase ≡ Resting → action ≢ Refused
   pub refused : old.phase ≢ Resting → action ≡ Refused
   pub fresh : Fresh action new
@@ -97,6 +97,6 @@ pub record Attempts (ticket : Ticket) (expired : Bool) (old new : DrivenView) (w
   pub refused : old.phase ≢ Resting → what ≡ IsRefused
   pub made : what ≡ Made → new.phase ≡ Settling
   pub same : KeepsCalls what old new
-  pub making : KeepsMaking old new
+  pub setup : KeepsSetup old new
   pub noted : Notes (attempted what ticket.number expired) old new
   pub call : Cancels what (waiting_among old.calls.object.state.waiting old.calls.object.tickets ticket)

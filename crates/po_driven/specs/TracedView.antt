@@ -1,6 +1,6 @@
 -- What contracts see of the calls of a driven object with their history, and what is kept of them (this project's own).
 use Rattle.std.specs.Prelude.{ℕ, ◌≡◌, ◌<◌, List, [], length, Bool, true, None, All}
-use Rattle.po_accepted.specs.Tickets.{uncollected}
+use Rattle.po_engine.specs.Tickets.{uncollected}
 use Rattle.po_engine.specs.Arrival.{Increases}
 use Rattle.po_engine.specs.ObjectState.{opening_state}
 use Rattle.po_engine.specs.StateView.{StateView}
@@ -9,7 +9,7 @@ use Rattle.po_driven.specs.OnePlace.{HasTickets, IsInOnePlace, IsLedTo}
 use Rattle.po_driven.specs.declared.happening.Happening.{Happening}
 
 pub record TracedView : Type 0 where
-  -- the calls, their tickets, and the call in hand, whose body the client runs
+  -- the calls, their tickets, and the call in service, whose body the client runs
   pub object : StateView ℕ ℕ
   -- how many calls have arrived
   pub place : ℕ
@@ -22,7 +22,7 @@ opening_calls entries most is_fixed = record {
   object = record {
     state = opening_state entries 1;
     places = [];
-    hand = None;
+    serving = None;
     tickets = [];
     keys = [];
     first = 1;
@@ -42,9 +42,9 @@ led_by t = replay (opening t.object.state.unit) t.happened
 pub record IsTraced (t : TracedView) : Type 0 where
   -- what has happened leads to them
   pub leads : IsLedTo (led_by t) t.object
-  -- each accepted call is in one place: queued, in hand, ended, or requeued elsewhere
+  -- each accepted call is in one place: queued, in service, ended, or requeued elsewhere
   pub placed : IsInOnePlace (led_by t)
-  -- those that are queued or in hand have a ticket, and no other has one
+  -- those that are queued or in service have a ticket, and no other has one
   pub tickets : HasTickets t.object
   -- the queued calls stand in order of arrival, and all arrived before the present (9.5.3, D.4)
   pub rises : Increases t.object.places
@@ -53,7 +53,7 @@ pub record IsTraced (t : TracedView) : Type 0 where
 -- One more call of this entry may be accepted: no body runs, there is memory for it, its command has begun, there is such an entry,
 -- and a number and a place are left.
 pub record IsReady (t : TracedView) (e : ℕ) : Type 0 where
-  pub idle : t.object.hand ≡ None
+  pub idle : t.object.serving ≡ None
   pub room : uncollected t.object.tickets < t.object.most
   pub begun : t.object.before ≡ length t.object.state.ended
   pub entry : e < t.object.state.unit

@@ -4,15 +4,15 @@ ghost use Rattle.std.specs.Prelude.{◌≡◌, ◌≢◌, ◌<◌, ◌≤◌, �
 ghost use Rattle.std.specs.List.{slice_get};
 ghost use Rattle.po_calls.specs.declared.call.Call.{Call};
 ghost use Rattle.po_calls.specs.declared.end.End.TheVariants.{Completed as IsCompleted};
-ghost use Rattle.po_accepted.specs.Tickets.{uncollected, waiting_among};
-ghost use Rattle.po_accepted.specs.WaitingCalls.{is_on};
+ghost use Rattle.po_engine.specs.Tickets.{uncollected, waiting_among};
+ghost use Rattle.po_engine.specs.WaitingCalls.{is_on};
 ghost use Rattle.po_engine.specs.Step.{end_call};
 ghost use Rattle.po_engine.specs.declared.arriving.Arriving.{Arriving};
 ghost use Rattle.po_driven.specs.AtRest.{AskedBelow, ToldBelow, told};
-ghost use Rattle.po_driven.specs.DrivenView.{DrivenView, IsDriven, KeepsMaking, Tells, Fresh, KeepsAll, MayIssue, at_opening, closed_after};
+ghost use Rattle.po_driven.specs.DrivenView.{DrivenView, IsDriven, KeepsSetup, Tells, Fresh, KeepsAll, MayIssue, at_opening, closed_after};
 ghost use Rattle.po_driven.specs.TracedView.{IsReady, opening_calls};
 ghost use Rattle.po_driven.specs.Answering.{AnswersCall, FollowsBarrier, LooksOn, Breaks, Moves, WaitsForNext};
-ghost use Rattle.po_driven.specs.Noted.{Notes, serviced, issued, landed, attempted, Names, NamesCaller, NamesTicket, HasTicket, EndsWhereFull, IsNoRequeue, Cancels, KeepsCalls, longest_on};
+ghost use Rattle.po_driven.specs.Noted.{Notes, serviced, issued, concluded, attempted, Names, NamesCaller, NamesTicket, HasTicket, EndsWhereFull, IsNoRequeue, Cancels, KeepsCalls, longest_on};
 ghost use Rattle.po_driven.specs.declared.action.Action.TheVariants.{Run, ProgramError, NoMemory, Refused};
 ghost use Rattle.po_driven.specs.declared.happening.Happening.TheVariants.{Ended, Finalized, RequeuedElsewhere as HasRequeuedElsewhere};
 ghost use Rattle.po_driven.specs.declared.words.BodyEnd.TheVariants.{Completed, Failed, Requeued, RequeuedElsewhere};
@@ -28,7 +28,7 @@ use crate::traced_state::TracedState;
 use crate::words::{Barrier, BodyEnd, Cancellation, Requeue, Step};
 use po_calls::{Call, End, Ticket};
 use po_engine::Arriving;
-use po_trace::Trace;
+use po_history::Trace;
 use std::alloc::{AllocError, Global};
 use std::marker::Model;
 
@@ -66,7 +66,7 @@ impl Model for DrivenObject {
 /// A driven object at rest, with these calls and so many entries.
 fn at_rest(alloc: Global, calls: TracedState, entries: u16) -> Result<DrivenObject, AllocError>
     requires unit { calls.object.state.unit ≡ entries }
-    requires idle { calls.object.hand ≡ None }
+    requires idle { calls.object.serving ≡ None }
     requires none { calls.object.state.waiting ≡ [] }
     ensures { IfOk result (λ d. d ≡ at_opening calls entries) }
 {
@@ -87,7 +87,7 @@ impl DrivenObject {
         at_rest(alloc, calls, entries)
     }
 
-    /// The same with all its memory, for so many calls at once that are queued or in hand.
+    /// The same with all its memory, for so many calls at once that are queued or in service.
     pub fn with_capacity(
         alloc: Global,
         entries: u16,
@@ -164,12 +164,12 @@ impl DrivenObject {
         ensures refused { (MayIssue self.old arriving.entry → ⊥) → result ≡ Refused }
         ensures follows { AnswersCall result arriving barrier self.new }
         ensures room { uncollected self.old.calls.object.tickets < self.old.calls.object.most → result ≢ NoMemory }
-        ensures making { KeepsMaking self.old self.new }
+        ensures setup { KeepsSetup self.old self.new }
     {
         if !self.may_issue(arriving.entry) {
             return Action::Refused;
         }
-        if arriving.aborted && !arriving.sealed {
+        if arriving.aborted && !arriving.without_abort {
             self.closed = Trace::new();
             self.phase = Phase::Settling;
             step.caller = arriving.value;
@@ -201,7 +201,7 @@ impl DrivenObject {
         ensures full { IfOk result (λ action. (barrier ≡ Raised → ⊥) → EndsWhereFull action arriving.entry self.old) }
         ensures follows { IfOk result (λ action. FollowsBarrier action arriving barrier self.new) }
         ensures room { uncollected self.old.calls.object.tickets < self.old.calls.object.most → IsOk result }
-        ensures making { IfOk result (λ _. KeepsMaking self.old self.new) }
+        ensures setup { IfOk result (λ _. KeepsSetup self.old self.new) }
     {
         self.calls.make_room()?;
         let action = match barrier {
@@ -226,7 +226,7 @@ impl DrivenObject {
         ensures ticket { NamesTicket result step.new self.new }
         ensures full { EndsWhereFull result arriving.entry self.old }
         ensures follows { FollowsBarrier result arriving Open self.new }
-        ensures making { KeepsMaking self.old self.new }
+        ensures setup { KeepsSetup self.old self.new }
     {
         self.calls.accept_open(arriving);
         self.phase = Phase::Running;
@@ -248,7 +248,7 @@ impl DrivenObject {
         ensures ticket { NamesTicket result step.new self.new }
         ensures full { EndsWhereFull result arriving.entry self.old }
         ensures follows { FollowsBarrier result arriving Closed self.new }
-        ensures making { KeepsMaking self.old self.new }
+        ensures setup { KeepsSetup self.old self.new }
     {
         let longest = self.longest(arriving.entry);
         let queued = self.calls.accept_closed(arriving, longest);
@@ -269,7 +269,7 @@ impl DrivenObject {
         ensures names { NamesCaller result arriving Raised step.new self.old }
         ensures ticket { NamesTicket result step.new self.new }
         ensures follows { FollowsBarrier result arriving Raised self.new }
-        ensures making { KeepsMaking self.old self.new }
+        ensures setup { KeepsSetup self.old self.new }
     {
         self.calls.accept_closed(arriving, None);
         self.closed = Trace::new();
@@ -279,7 +279,7 @@ impl DrivenObject {
 
     /// What the client is told of a call that has arrived on the queue of the entry, or has ended since that was full.
     fn arrived(&mut self, queued: Option<Ticket>, e: u16, step: &mut Step) -> Action
-        requires idle { self.old.calls.object.hand ≡ None }
+        requires idle { self.old.calls.object.serving ≡ None }
         requires phase { self.old.phase ≡ Settling }
         requires fresh { self.old.closed ≡ [] }
         requires queued { IfSome queued (λ _. IsSome (find (is_on e) self.old.calls.object.state.waiting)) }
@@ -292,7 +292,7 @@ impl DrivenObject {
         ensures full { queued ≡ None → result ≡ ProgramError }
         ensures ticket { IfSome queued (λ ticket. HasTicket result ticket step.new) }
         ensures follows { (arriving : Arriving ℕ) → FollowsBarrier result arriving Closed self.new }
-        ensures making { KeepsMaking self.old self.new }
+        ensures setup { KeepsSetup self.old self.new }
     {
         let Some(ticket) = queued else {
             return Action::ProgramError;
@@ -318,7 +318,7 @@ impl DrivenObject {
         ensures refused { ((e : ℕ) → self.old.phase ≡ Asked e → ⊥) → result ≡ Refused }
         ensures looks_on { (e : ℕ) → self.old.phase ≡ Asked e → barrier ≡ Closed → LooksOn result self.old.calls.object.state.waiting self.new.closed }
         ensures breaks { (e : ℕ) → self.old.phase ≡ Asked e → barrier ≡ Raised → Breaks result self.old self.new }
-        ensures making { KeepsMaking self.old self.new }
+        ensures setup { KeepsSetup self.old self.new }
     {
         let Phase::Asked(e) = self.phase else {
             return Action::Refused;
@@ -340,7 +340,7 @@ impl DrivenObject {
         ensures same { self.new ≡ record self.old { phase = Settling; closed = self.old.closed ++ e ∷ [] } }
         ensures below { ToldBelow self.new.closed result self.new.calls.object.state.waiting }
         ensures once { AskedBelow self.new.closed result }
-        ensures idle { self.new.calls.object.hand ≡ None }
+        ensures idle { self.new.calls.object.serving ≡ None }
     {
         // An entry's number is below theirs, so there is a next one.
         let _ = self.entries();
@@ -349,19 +349,19 @@ impl DrivenObject {
         e.saturating_add(1)
     }
 
-    /// The first call on the entry is taken in hand.
-    #[tactic(auto, using(po_accepted::proofs::Lists::found_on))]
+    /// The first call on the entry is taken in service.
+    #[tactic(auto, using(po_engine::proofs::Lists::found_on))]
     fn serve(&mut self, e: u16, step: &mut Step) -> Action
         requires { self.old.phase ≡ Asked e }
         ensures tells { Tells result self.new }
         ensures fresh { self.new.closed ≡ [] }
         ensures answers { result ≢ Refused }
         ensures proceeds { (old new : DrivenView) → KeepsAll result old new }
-        ensures serves { self.new.calls.object.hand ≡ find (is_on e) self.old.calls.object.state.waiting }
+        ensures serves { self.new.calls.object.serving ≡ find (is_on e) self.old.calls.object.state.waiting }
         ensures runs { result ≡ Run e }
         ensures noted { Notes (serviced result self.old) self.old self.new }
         ensures names { Names result step.new self.old self.new }
-        ensures making { KeepsMaking self.old self.new }
+        ensures setup { KeepsSetup self.old self.new }
     {
         self.closed = Trace::new();
         self.phase = Phase::Running;
@@ -372,25 +372,25 @@ impl DrivenObject {
         Action::Run(e)
     }
 
-    /// How the body of the call in hand ended.
+    /// How the body of the call in service ended.
     #[inline(always)]
     pub fn body_ended(&mut self, end: BodyEnd, step: &mut Step) -> Action
         ensures tells { Tells result self.new }
         ensures fresh { Fresh result self.new }
         ensures kept { KeepsAll result self.old self.new }
-        ensures noted { (x : Call ℕ) → self.old.calls.object.hand ≡ Some x → Notes (landed end x result self.old) self.old self.new }
-        ensures accepted { IsSome self.old.calls.object.hand → IsNoRequeue end → result ≢ Refused }
+        ensures noted { (x : Call ℕ) → self.old.calls.object.serving ≡ Some x → Notes (concluded end x result self.old) self.old self.new }
+        ensures accepted { IsSome self.old.calls.object.serving → IsNoRequeue end → result ≢ Refused }
         ensures ticket { NamesTicket result step.new self.new }
         ensures full { (requeue : Requeue) → end ≡ Requeued requeue → EndsWhereFull result requeue.target self.old }
-        ensures refused { self.old.calls.object.hand ≡ None → result ≡ Refused }
-        ensures looks_on { IsSome self.old.calls.object.hand → end ≡ Completed → LooksOn result self.old.calls.object.state.waiting self.new.closed }
-        ensures leaves { IsSome self.old.calls.object.hand → end ≡ RequeuedElsewhere → LooksOn result self.old.calls.object.state.waiting self.new.closed }
-        ensures breaks { IsSome self.old.calls.object.hand → end ≡ Failed → Breaks result self.old self.new }
+        ensures refused { self.old.calls.object.serving ≡ None → result ≡ Refused }
+        ensures looks_on { IsSome self.old.calls.object.serving → end ≡ Completed → LooksOn result self.old.calls.object.state.waiting self.new.closed }
+        ensures leaves { IsSome self.old.calls.object.serving → end ≡ RequeuedElsewhere → LooksOn result self.old.calls.object.state.waiting self.new.closed }
+        ensures breaks { IsSome self.old.calls.object.serving → end ≡ Failed → Breaks result self.old self.new }
         ensures names { IsNoRequeue end → Names result step.new self.old self.new }
-        ensures moves { (requeue : Requeue) (x : Call ℕ) → end ≡ Requeued requeue → self.old.calls.object.hand ≡ Some x → Moves result requeue x step.new self.old }
-        ensures making { KeepsMaking self.old self.new }
+        ensures moves { (requeue : Requeue) (x : Call ℕ) → end ≡ Requeued requeue → self.old.calls.object.serving ≡ Some x → Moves result requeue x step.new self.old }
+        ensures setup { KeepsSetup self.old self.new }
     {
-        let Some(call) = self.calls.state().in_hand() else {
+        let Some(call) = self.calls.state().in_service() else {
             return Action::Refused;
         };
         match end {
@@ -410,49 +410,49 @@ impl DrivenObject {
         }
     }
 
-    /// The call in hand ends.
+    /// The call in service ends.
     #[inline(always)]
     fn end(&mut self, call: Call<u64>, end: End<u64>)
-        requires { self.old.calls.object.hand ≡ Some call }
-        ensures idle { self.new.calls.object.hand ≡ None }
+        requires { self.old.calls.object.serving ≡ Some call }
+        ensures idle { self.new.calls.object.serving ≡ None }
         ensures fresh { self.new.closed ≡ [] }
         ensures settles { self.new.phase ≡ Settling }
         ensures state { self.new.calls.object.state ≡ end_call self.old.calls.object.state call end }
         ensures noted { Notes (Ended end ∷ []) self.old self.new }
-        ensures making { KeepsMaking self.old self.new }
+        ensures setup { KeepsSetup self.old self.new }
     {
         self.calls.end(call, end);
         self.phase = Phase::Settling;
         self.closed = Trace::new();
     }
 
-    /// The call in hand leaves the object: its body requeued it to another one or a task.
+    /// The call in service leaves the object: its body requeued it to another one or a task.
     #[inline(always)]
     fn requeue_elsewhere(&mut self, call: Call<u64>)
-        requires { self.old.calls.object.hand ≡ Some call }
-        ensures idle { self.new.calls.object.hand ≡ None }
+        requires { self.old.calls.object.serving ≡ Some call }
+        ensures idle { self.new.calls.object.serving ≡ None }
         ensures fresh { self.new.closed ≡ [] }
         ensures settles { self.new.phase ≡ Settling }
         ensures state { self.new.calls.object.state ≡ end_call self.old.calls.object.state call (IsCompleted call.value) }
         ensures noted { Notes (HasRequeuedElsewhere ∷ []) self.old self.new }
-        ensures making { KeepsMaking self.old self.new }
+        ensures setup { KeepsSetup self.old self.new }
     {
         self.calls.requeue_elsewhere(call);
         self.phase = Phase::Settling;
         self.closed = Trace::new();
     }
 
-    /// The call in hand goes to the end of the queue of an entry, or is cancelled where its caller was aborted (9.5.4).
+    /// The call in service goes to the end of the queue of an entry, or is cancelled where its caller was aborted (9.5.4).
     fn requeue(&mut self, call: Call<u64>, requeue: Requeue, step: &mut Step) -> Action
-        requires { self.old.calls.object.hand ≡ Some call }
+        requires { self.old.calls.object.serving ≡ Some call }
         ensures tells { Tells result self.new }
         ensures fresh { Fresh result self.new }
         ensures kept { KeepsAll result self.old self.new }
-        ensures noted { Notes (landed (Requeued requeue) call result self.old) self.old self.new }
+        ensures noted { Notes (concluded (Requeued requeue) call result self.old) self.old self.new }
         ensures ticket { NamesTicket result step.new self.new }
         ensures full { EndsWhereFull result requeue.target self.old }
         ensures moves { Moves result requeue call step.new self.old }
-        ensures making { KeepsMaking self.old self.new }
+        ensures setup { KeepsSetup self.old self.new }
     {
         if requeue.target >= self.entries() || !self.calls.has_place() {
             return Action::Refused;
@@ -481,7 +481,7 @@ impl DrivenObject {
         ensures looks_on { self.old.phase ≢ Breaking → result ≢ Refused → LooksOn result self.old.calls.object.state.waiting self.new.closed }
         ensures breaks { self.old.phase ≡ Breaking → Breaks result self.old self.new }
         ensures accepted { WaitsForNext self.old.phase → result ≢ Refused }
-        ensures making { KeepsMaking self.old self.new }
+        ensures setup { KeepsSetup self.old self.new }
     {
         match self.phase {
             Phase::Resting | Phase::Settling => {
@@ -498,7 +498,7 @@ impl DrivenObject {
     /// cancelled, and where none is the object is at rest.
     #[inline(always)]
     fn ask(&mut self, from: u16, step: &mut Step) -> Action
-        requires idle { self.old.calls.object.hand ≡ None }
+        requires idle { self.old.calls.object.serving ≡ None }
         requires below { ToldBelow self.old.closed from self.old.calls.object.state.waiting }
         requires once { AskedBelow self.old.closed from }
         ensures tells { Tells result self.new }
@@ -509,7 +509,7 @@ impl DrivenObject {
         ensures names { Names result step.new self.old self.new }
         ensures unqueued { (told : Step) (d : DrivenView) → NamesTicket result told d }
         ensures looks_on { LooksOn result self.old.calls.object.state.waiting self.old.closed }
-        ensures making { KeepsMaking self.old self.new }
+        ensures setup { KeepsSetup self.old self.new }
     {
         if self.calls.state().is_idle() {
             self.phase = Phase::Resting;
@@ -520,7 +520,7 @@ impl DrivenObject {
 
     /// The same, where a call is queued.
     fn ask_busy(&mut self, from: u16, step: &mut Step) -> Action
-        requires idle { self.old.calls.object.hand ≡ None }
+        requires idle { self.old.calls.object.serving ≡ None }
         requires below { ToldBelow self.old.closed from self.old.calls.object.state.waiting }
         requires once { AskedBelow self.old.closed from }
         ensures tells { Tells result self.new }
@@ -531,7 +531,7 @@ impl DrivenObject {
         ensures names { Names result step.new self.old self.new }
         ensures unqueued { (told : Step) (d : DrivenView) → NamesTicket result told d }
         ensures looks_on { LooksOn result self.old.calls.object.state.waiting self.old.closed }
-        ensures making { KeepsMaking self.old self.new }
+        ensures setup { KeepsSetup self.old self.new }
     {
         if let Some(e) = self.calls.state().next_busy(from) {
             self.phase = Phase::Asked(e);
@@ -542,7 +542,7 @@ impl DrivenObject {
 
     /// The first call that is due is cancelled; where none is, the object is at rest (9.7.2, 9.7.3).
     fn cancel_due(&mut self, step: &mut Step) -> Action
-        requires idle { self.old.calls.object.hand ≡ None }
+        requires idle { self.old.calls.object.serving ≡ None }
         requires closed { All (λ x. told self.old.closed x.entry ≡ true) self.old.calls.object.state.waiting }
         ensures tells { Tells result self.new }
         ensures same { self.new.closed ≡ self.old.closed }
@@ -552,7 +552,7 @@ impl DrivenObject {
         ensures names { Names result step.new self.old self.new }
         ensures unqueued { (told : Step) (d : DrivenView) → NamesTicket result told d }
         ensures looks_on { LooksOn result self.old.calls.object.state.waiting self.old.closed }
-        ensures making { KeepsMaking self.old self.new }
+        ensures setup { KeepsSetup self.old self.new }
     {
         let Some(call) = self.calls.cancel_due() else {
             self.phase = Phase::Resting;
@@ -565,7 +565,7 @@ impl DrivenObject {
 
     /// The call that was queued first of all ends by Program_Error. Where none is queued, the object is at rest.
     fn break_one(&mut self, step: &mut Step) -> Action
-        requires { self.old.calls.object.hand ≡ None }
+        requires { self.old.calls.object.serving ≡ None }
         ensures tells { Tells result self.new }
         ensures fresh { self.new.closed ≡ [] }
         ensures answers { result ≢ Refused }
@@ -575,7 +575,7 @@ impl DrivenObject {
         ensures unqueued { (told : Step) (d : DrivenView) → NamesTicket result told d }
         ensures breaks { Breaks result self.old self.new }
         ensures first { IsSome (slice_get self.old.calls.object.state.waiting 0) → result ≡ ProgramError }
-        ensures making { KeepsMaking self.old self.new }
+        ensures setup { KeepsSetup self.old self.new }
     {
         self.closed = Trace::new();
         let Some(call) = self.calls.break_oldest() else {
@@ -597,7 +597,7 @@ impl DrivenObject {
         ensures same { KeepsCalls result self.old self.new }
         ensures accepted { self.old.phase ≡ Resting → result ≢ IsRefused }
         ensures refused { self.old.phase ≢ Resting → result ≡ IsRefused }
-        ensures making { KeepsMaking self.old self.new }
+        ensures setup { KeepsSetup self.old self.new }
     {
         let Phase::Resting = self.phase else {
             return Cancellation::Refused;
@@ -605,7 +605,7 @@ impl DrivenObject {
         let Some(call) = self.calls.state().waiting_call(ticket) else {
             return Cancellation::Unknown;
         };
-        if !call.sealed {
+        if !call.without_abort {
             self.closed = Trace::new();
             self.calls.cancel(ticket);
             self.phase = Phase::Settling;
@@ -627,7 +627,7 @@ impl DrivenObject {
         ensures accepted { self.old.phase ≡ Resting → result ≢ Refused }
         ensures refused { self.old.phase ≢ Resting → result ≡ Refused }
         ensures breaks { self.old.phase ≡ Resting → Breaks result self.old self.new }
-        ensures making { KeepsMaking self.old self.new }
+        ensures setup { KeepsSetup self.old self.new }
     {
         let Phase::Resting = self.phase else {
             return Action::Refused;

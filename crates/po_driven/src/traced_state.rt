@@ -2,12 +2,12 @@
 
 ghost use Rattle.std.specs.Prelude.{◌≡◌, ◌<◌, ◌+◌, ◌++◌, ◌∷◌, [], ℕ, None, Some, IsSome, IfSome, IfNone, IfOk, IsOk, OnOk, OnErr, true, false, find, length, List, nat_lt, count_by, if◌then◌else◌};
 ghost use Rattle.std.specs.List.{slice_get};
-ghost use Rattle.po_accepted.specs.Calls.{places_without};
-ghost use Rattle.po_accepted.specs.Tickets.{is_live, uncollected};
-ghost use Rattle.po_accepted.specs.WaitingCalls.{is_on, is_due, has_number};
+ghost use Rattle.po_engine.specs.Calls.{places_without};
+ghost use Rattle.po_engine.specs.Tickets.{is_live, uncollected};
+ghost use Rattle.po_engine.specs.WaitingCalls.{is_on, is_due, has_number};
 ghost use Rattle.po_engine.specs.Driving.{admitted, counted, new_call};
 ghost use Rattle.po_engine.specs.StateView.{NamesEntry};
-ghost use Rattle.po_engine.specs.Step.{end_call, take_out, land, cancel, abort, is_full};
+ghost use Rattle.po_engine.specs.Step.{end_call, take_out, conclude, cancel, abort, is_full};
 ghost use Rattle.po_unit.specs.declared.outcome.Outcome.TheVariants.{Requeue as RequeueTo};
 ghost use Rattle.po_calls.specs.declared.end.End.TheVariants.{Completed};
 ghost use Rattle.po_driven.specs.AtRest.{IsAtRest};
@@ -17,11 +17,11 @@ ghost use Rattle.po_driven.specs.declared.happening.Happening.TheVariants.{Serve
 
 use crate::client_unit::ClientUnit;
 use crate::happening::Happening;
-use crate::steps::{admit, break_oldest, finish, forget, land, make_due, mark, take, withdraw};
+use crate::steps::{admit, break_oldest, conclude, finish, forget, make_due, mark, take, withdraw};
 use crate::words::Requeue;
 use po_calls::{Call, End, Ticket};
 use po_engine::{Arriving, Queueing, State};
-use po_trace::Trace;
+use po_history::Trace;
 use po_unit::Outcome;
 use std::alloc::{AllocError, Global};
 use std::marker::Model;
@@ -58,7 +58,7 @@ impl TracedState {
         })
     }
 
-    /// The same with all memory for so many calls at once that are queued or in hand.
+    /// The same with all memory for so many calls at once that are queued or in service.
     pub fn with_capacity(
         alloc: Global,
         entries: u16,
@@ -128,13 +128,13 @@ impl TracedState {
         Ok(())
     }
 
-    /// A call with an open barrier is accepted: it is in hand, and its body runs (9.5.3).
+    /// A call with an open barrier is accepted: it is in service, and its body runs (9.5.3).
     #[inline(always)]
     pub fn accept_open(&mut self, arriving: Arriving<u64>)
         requires { IsReady self.old arriving.entry }
         ensures state { self.new.object.state ≡ counted self.old.object.state }
         ensures unit { self.new.object.state.unit ≡ self.old.object.state.unit }
-        ensures hand { self.new.object.hand ≡ Some (new_call self.old.object.state.next arriving) }
+        ensures serving { self.new.object.serving ≡ Some (new_call self.old.object.state.next arriving) }
         ensures happened { self.new.happened ≡ self.old.happened ++ Served arriving ∷ [] }
         ensures room_kept { KeepsRoom self.old.object self.new.object }
     {
@@ -154,7 +154,7 @@ impl TracedState {
         requires { IsReady self.old arriving.entry }
         ensures state { self.new.object.state ≡ admitted longest (counted self.old.object.state) (new_call self.old.object.state.next arriving) false }
         ensures unit { self.new.object.state.unit ≡ self.old.object.state.unit }
-        ensures hand { self.new.object.hand ≡ None }
+        ensures serving { self.new.object.serving ≡ None }
         ensures happened { self.new.happened ≡ self.old.happened ++ Arrived arriving longest ∷ [] }
         ensures queued { IfSome result (λ _. IsSome (find (is_on arriving.entry) self.new.object.state.waiting)) }
         ensures found { IfSome result (λ ticket. IsSome (find (has_number ticket.number) self.new.object.state.waiting)) }
@@ -178,14 +178,14 @@ impl TracedState {
         Some(ticket)
     }
 
-    /// The first call on the entry is selected: it is in hand, and its body runs (9.5.3).
+    /// The first call on the entry is selected: it is in service, and its body runs (9.5.3).
     pub fn select(&mut self, e: u16) -> Option<Call<u64>>
-        requires hand { self.old.object.hand ≡ None }
+        requires serving { self.old.object.serving ≡ None }
         requires entry { e < self.old.object.state.unit }
         ensures found { result ≡ find (is_on e) self.old.object.state.waiting }
         ensures state { self.new.object.state ≡ take_out self.old.object.state (is_on e) }
         ensures unit { self.new.object.state.unit ≡ self.old.object.state.unit }
-        ensures hand { self.new.object.hand ≡ result }
+        ensures serving { self.new.object.serving ≡ result }
         ensures happened { self.new.happened ≡ self.old.happened ++ Selected e ∷ [] }
         ensures room_kept { KeepsRoom self.old.object self.new.object }
     {
@@ -194,13 +194,13 @@ impl TracedState {
         call
     }
 
-    /// The call in hand ends in this way, and its ticket is given up.
+    /// The call in service ends in this way, and its ticket is given up.
     #[inline(always)]
     pub fn end(&mut self, call: Call<u64>, end: End<u64>)
-        requires { self.old.object.hand ≡ Some call }
+        requires { self.old.object.serving ≡ Some call }
         ensures state { self.new.object.state ≡ end_call self.old.object.state call end }
         ensures unit { self.new.object.state.unit ≡ self.old.object.state.unit }
-        ensures hand { self.new.object.hand ≡ None }
+        ensures serving { self.new.object.serving ≡ None }
         ensures happened { self.new.happened ≡ self.old.happened ++ Ended end ∷ [] }
         ensures room_kept { KeepsRoom self.old.object self.new.object }
     {
@@ -208,13 +208,13 @@ impl TracedState {
         self.happened = self.happened.then(&Happening::Ended(end));
     }
 
-    /// The call in hand, which its body requeued to another object or a task, leaves this one, and its ticket is given up (9.5.4).
+    /// The call in service, which its body requeued to another object or a task, leaves this one, and its ticket is given up (9.5.4).
     #[inline(always)]
     pub fn requeue_elsewhere(&mut self, call: Call<u64>)
-        requires { self.old.object.hand ≡ Some call }
+        requires { self.old.object.serving ≡ Some call }
         ensures state { self.new.object.state ≡ end_call self.old.object.state call (Completed call.value) }
         ensures unit { self.new.object.state.unit ≡ self.old.object.state.unit }
-        ensures hand { self.new.object.hand ≡ None }
+        ensures serving { self.new.object.serving ≡ None }
         ensures happened { self.new.happened ≡ self.old.happened ++ RequeuedElsewhere ∷ [] }
         ensures room_kept { KeepsRoom self.old.object self.new.object }
     {
@@ -222,12 +222,12 @@ impl TracedState {
         self.happened = self.happened.then(&Happening::RequeuedElsewhere);
     }
 
-    /// The call in hand is due from now on.
+    /// The call in service is due from now on.
     fn make_due(&mut self, call: Call<u64>) -> Call<u64>
-        requires { self.old.object.hand ≡ Some call }
+        requires { self.old.object.serving ≡ Some call }
         ensures call { result ≡ due call }
         ensures same { self.new ≡ record self.old {
-          object = record self.old.object { hand = Some result };
+          object = record self.old.object { serving = Some result };
           happened = self.old.happened ++ Due ∷ [];
         } }
     {
@@ -236,7 +236,7 @@ impl TracedState {
         moved
     }
 
-    /// The call in hand, whose body requeued it, goes to the end of the queue of its new entry, and has its ticket; or it ends,
+    /// The call in service, whose body requeued it, goes to the end of the queue of its new entry, and has its ticket; or it ends,
     /// where that queue has this length already (9.5.4, D.7).
     fn move_to(
         &mut self,
@@ -245,13 +245,13 @@ impl TracedState {
         with_abort: bool,
         longest: Option<u64>,
     ) -> Option<Ticket>
-        requires hand { self.old.object.hand ≡ Some call }
+        requires serving { self.old.object.serving ≡ Some call }
         requires entry { target < self.old.object.state.unit }
         requires place { self.old.place < u128.MAX }
         requires kept { (with_abort ≡ true) → (call.aborted ≡ false) }
-        ensures state { self.new.object.state ≡ land longest self.old.object.state call (RequeueTo target with_abort call.value) }
+        ensures state { self.new.object.state ≡ conclude longest self.old.object.state call (RequeueTo target with_abort call.value) }
         ensures unit { self.new.object.state.unit ≡ self.old.object.state.unit }
-        ensures hand { self.new.object.hand ≡ None }
+        ensures serving { self.new.object.serving ≡ None }
         ensures happened { self.new.happened ≡ self.old.happened ++ Requeued (RequeueTo target with_abort call.value) longest ∷ [] }
         ensures queued { IfSome result (λ _. IsSome (find (is_on target) self.new.object.state.waiting)) }
         ensures found { IfSome result (λ ticket. IsSome (find (has_number ticket.number) self.new.object.state.waiting)) }
@@ -265,13 +265,13 @@ impl TracedState {
             place: self.place,
         };
         let is_full = longest == Some(self.state.count(target));
-        let ticket = self.state.ticket_in_hand(call);
+        let ticket = self.state.ticket_in_service(call);
         let outcome = Outcome::Requeue {
             target,
             with_abort,
             value: call.value,
         };
-        land(&mut self.state, queueing, call, outcome);
+        conclude(&mut self.state, queueing, call, outcome);
         self.place += 1;
         self.happened = self.happened.then(&Happening::Requeued(outcome, longest));
         if is_full {
@@ -288,11 +288,11 @@ impl TracedState {
         requeue: Requeue,
         longest: Option<u64>,
     ) -> Option<Ticket>
-        requires hand { self.old.object.hand ≡ Some call }
+        requires serving { self.old.object.serving ≡ Some call }
         requires entry { requeue.target < self.old.object.state.unit }
         requires place { self.old.place < u128.MAX }
         requires kept { (requeue.with_abort ≡ true) → (call.aborted ≡ false) }
-        ensures hand { self.new.object.hand ≡ None }
+        ensures serving { self.new.object.serving ≡ None }
         ensures unit { self.new.object.state.unit ≡ self.old.object.state.unit }
         ensures queued { IfSome result (λ _. IsSome (find (is_on requeue.target) self.new.object.state.waiting)) }
         ensures found { IfSome result (λ ticket. IsSome (find (has_number ticket.number) self.new.object.state.waiting)) }
@@ -312,9 +312,9 @@ impl TracedState {
 
     /// The first call that is due is cancelled, and its ticket is given up (9.7.2, 9.7.3).
     pub fn cancel_due(&mut self) -> Option<Call<u64>>
-        requires { self.old.object.hand ≡ None }
+        requires { self.old.object.serving ≡ None }
         ensures found { result ≡ find (is_due self.old.object.state.clock) self.old.object.state.waiting }
-        ensures hand { self.new.object.hand ≡ None }
+        ensures serving { self.new.object.serving ≡ None }
         ensures unit { self.new.object.state.unit ≡ self.old.object.state.unit }
         ensures none { IfNone result (self.new ≡ self.old) }
         ensures happened { self.new.happened ≡ self.old.happened ++ cancellation_of result }
@@ -328,11 +328,11 @@ impl TracedState {
 
     /// The call that was queued first of all ends by Program_Error (9.4, 9.5.3).
     pub fn break_oldest(&mut self) -> Option<Call<u64>>
-        requires { self.old.object.hand ≡ None }
+        requires { self.old.object.serving ≡ None }
         ensures found { result ≡ slice_get self.old.object.state.waiting 0 }
         ensures state { self.new.object.state ≡ end_oldest self.old.object.state result }
         ensures unit { self.new.object.state.unit ≡ self.old.object.state.unit }
-        ensures hand { self.new.object.hand ≡ None }
+        ensures serving { self.new.object.serving ≡ None }
         ensures none { IfNone result (self.new.object.state.waiting ≡ []) }
         ensures happened { IfSome result (λ _. self.new.happened ≡ self.old.happened ++ Broken ∷ []) }
         ensures same { IfNone result (self.new.happened ≡ self.old.happened) }
@@ -345,12 +345,12 @@ impl TracedState {
 
     /// The queued call of the ticket is cancelled, and its ticket is given up (9.5.3, 9.7.2).
     pub fn cancel(&mut self, ticket: Ticket)
-        requires hand { self.old.object.hand ≡ None }
+        requires serving { self.old.object.serving ≡ None }
         requires live { is_live self.old.object.tickets ticket ≡ true }
         requires found { IsSome (find (has_number ticket.number) self.old.object.state.waiting) }
         ensures state { self.new.object.state ≡ cancel self.old.object.state ticket.number (find (has_number ticket.number) self.old.object.state.waiting) }
         ensures unit { self.new.object.state.unit ≡ self.old.object.state.unit }
-        ensures hand { self.new.object.hand ≡ None }
+        ensures serving { self.new.object.serving ≡ None }
         ensures happened { self.new.happened ≡ self.old.happened ++ Cancelled ticket.number ∷ [] }
         ensures room_kept { KeepsRoom self.old.object self.new.object }
     {
@@ -360,13 +360,13 @@ impl TracedState {
 
     /// An attempt to abort a queued call that can't be cancelled is remembered (9.5.4).
     pub fn mark(&mut self, ticket: Ticket, call: Call<u64>)
-        requires hand { self.old.object.hand ≡ None }
+        requires serving { self.old.object.serving ≡ None }
         requires live { is_live self.old.object.tickets ticket ≡ true }
         requires found { find (has_number ticket.number) self.old.object.state.waiting ≡ Some call }
-        requires sealed { call.sealed ≡ true }
+        requires without_abort { call.without_abort ≡ true }
         ensures state { self.new.object.state ≡ abort self.old.object.state ticket.number (Some call) }
         ensures unit { self.new.object.state.unit ≡ self.old.object.state.unit }
-        ensures hand { self.new.object.hand ≡ None }
+        ensures serving { self.new.object.serving ≡ None }
         ensures happened { self.new.happened ≡ self.old.happened ++ Marked ticket.number ∷ [] }
         ensures rests { (closed : List ℕ) → IsAtRest self.old.object closed → IsAtRest self.new.object closed }
         ensures room_kept { KeepsRoom self.old.object self.new.object }

@@ -33,7 +33,7 @@ pub struct Requeue {
     pub due: bool,
 }
 
-/// How the body of the call in hand ended (9.5.2, 9.5.4).
+/// How the body of the call in service ended (9.5.2, 9.5.4).
 #[derive(Clone, Copy, Debug, PartialEq, Eq)]
 pub enum BodyEnd {
     /// It completed, by an exception or not: the client sees to the caller.

@@ -4,8 +4,8 @@ use Rattle.std.specs.List.{count_by, All}
 use Rattle.std.proofs.lemmas.List.Elements.{All-nil, All-cons, All-head, All-tail}
 use Rattle.std.proofs.lemmas.Bool.Decides.{nat_tests}
 use Rattle.po_calls.specs.declared.call.Call.{Call}
-use Rattle.po_accepted.specs.WaitingCalls.{has_number}
-use Rattle.po_accepted.specs.Finding.{without_first}
+use Rattle.po_engine.specs.WaitingCalls.{has_number}
+use Rattle.po_engine.specs.Finding.{without_first}
 use Rattle.po_engine.proofs.Sums.{sum_by-cons}
 
 pub eq_self : (n : ℕ) → (n == n) ≡ true

@@ -8,7 +8,7 @@ use Rattle.std.proofs.lemmas.List.Elements.{All-map, All-head, All-tail, All-con
 use Rattle.po_queues.specs.QueuedKeys.{QueuedKey, QueuesView, queue_of}
 use Rattle.po_queues.specs.Busy.{IsNextBusy}
 use Rattle.po_calls.specs.declared.call.Call.{Call}
-use Rattle.po_accepted.specs.WaitingCalls.{is_on}
+use Rattle.po_engine.specs.WaitingCalls.{is_on}
 
 left_none : (b : Bool) (i : QueuedKey) (q : List QueuedKey) → cond b (i ∷ q) q ≡ [] → q ≡ []
 left_none true i q h = absurd (cc)

@@ -5,11 +5,11 @@ use Rattle.std.proofs.lemmas.List.Sums.{length-filter}
 use Rattle.po_unit.specs.Meaning.{Meaning}
 use Rattle.po_queues.specs.QueuedKeys.{QueuedKey, QueuesView, queue_of, keys_of, keys_on}
 use Rattle.po_queues.specs.Busy.{has_keys}
-use Rattle.po_barriers.specs.declared.look.Look.{Look}
-use Rattle.po_barriers.specs.declared.order.Order.{Order}
-use Rattle.po_barriers.specs.Turns.{below, turn, or_look, first_look, look_if, examined}
-use Rattle.po_barriers.specs.Service.{counts_of as counts_in_queues, turn_at, serviced_next}
-use Rattle.po_accepted.specs.WaitingCalls.{is_on}
+use Rattle.po_queues.specs.declared.selection.Selection.{Selection}
+use Rattle.po_queues.specs.declared.order.Order.{Order}
+use Rattle.po_queues.specs.Turns.{below, turn, or_selection, first_selection, selection_if, examined}
+use Rattle.po_queues.specs.Service.{counts_of as counts_in_queues, turn_at, serviced_next}
+use Rattle.po_engine.specs.WaitingCalls.{is_on}
 use Rattle.po_engine.specs.ObjectState.{ObjectState, counts_in}
 use Rattle.po_engine.specs.Pick.{turn_of, next_turn}
 use Rattle.po_engine.proofs.Sums.{sum_by-mapped}
@@ -30,9 +30,9 @@ any_key : (e : ℕ) (items : List QueuedKey) → has_keys (keys_on e items) ≡ 
 any_key e [] = refl
 any_key e (x ∷ items) = some_key (x.entry == e) x e items (any_key e items)
 
-first_same : (f g : ℕ → Look) → ((e : ℕ) → f e ≡ g e) → (es : List ℕ) → first_look f es ≡ first_look g es
+first_same : (f g : ℕ → Selection) → ((e : ℕ) → f e ≡ g e) → (es : List ℕ) → first_selection f es ≡ first_selection g es
 first_same f g h [] = refl
-first_same f g h (e ∷ es) = ap₂ or_look (h e) (first_same f g h es)
+first_same f g h (e ∷ es) = ap₂ or_selection (h e) (first_same f g h es)
 
 module _ {S V : Type 0} (m : Meaning S V) (s : ObjectState S V) (queues : QueuesView) (numbers : queues.total ≡ m.entries s.unit) (entries : map (λ i. i.entry) queues.items ≡ map (λ x. x.entry) s.waiting) where
   any_same : (e : ℕ) → has_keys (keys_on e queues.items) ≡ list_any (is_on e) s.waiting
@@ -56,10 +56,10 @@ module _ {S V : Type 0} (m : Meaning S V) (s : ObjectState S V) (queues : Queues
   counts_same = map_same (λ e. length (queue_of e queues.items)) (λ e. count_by (is_on e) s.waiting) count_same (below queues.total) ∙ ap (λ n. map (λ e. count_by (is_on e) s.waiting) (below n)) numbers
 
   turn_same : (e : ℕ) → turn_at m s.unit queues e ≡ turn_of m s e
-  turn_same e = ap₂ (λ b counts. look_if b (turn e (m.gate s.unit e counts))) (any_same e) counts_same
+  turn_same e = ap₂ (λ b counts. selection_if b (turn e (m.barrier s.unit e counts))) (any_same e) counts_same
 
   -- what is serviced next is the turn that comes next
   pub next_same : (order : Order) (last : Option ℕ) → serviced_next m s.unit queues order last ≡ next_turn m order last s
   next_same order last =
       first_same (turn_at m s.unit queues) (turn_of m s) turn_same (examined order last queues.total (map (λ i. i.entry) queues.items))
-      ∙ ap₂ (λ n es. first_look (turn_of m s) (examined order last n es)) numbers entries
+      ∙ ap₂ (λ n es. first_selection (turn_of m s) (examined order last n es)) numbers entries

@@ -2,7 +2,7 @@
 use Rattle.std.proofs.Common.{◌≡◌, List, [], ◌∷◌, refl, true, Some, None}
 use Rattle.std.specs.Prelude.{drop, IfNone, Option}
 use Rattle.std.specs.List.{find, slice_get}
-use Rattle.po_accepted.specs.Finding.{without_first}
+use Rattle.po_engine.specs.Finding.{without_first}
 
 module _ {X : Type 0} where
   pub oldest_found : (xs : List X) (x : X) → slice_get xs 0 ≡ Some x → find (λ y. true) xs ≡ Some x

@@ -5,10 +5,10 @@ use Rattle.std.proofs.lemmas.List.Elements.{All-head, All-tail, All-map, All-wea
 use Rattle.std.proofs.lemmas.List.Sums.{sum_by-le}
 use Rattle.po_unit.specs.Meaning.{Meaning}
 use Rattle.po_calls.specs.declared.call.Call.{Call}
-use Rattle.po_accepted.specs.WaitingCalls.{has_number, mark}
+use Rattle.po_engine.specs.WaitingCalls.{has_number, mark}
 use Rattle.po_engine.specs.ObjectState.{ObjectState}
 use Rattle.po_engine.specs.StateView.{AreLow}
-use Rattle.po_accepted.specs.Finding.{without_first}
+use Rattle.po_engine.specs.Finding.{without_first}
 use Rattle.po_engine.specs.Step.{take_out, abort, cancel}
 use Rattle.po_engine.specs.Pick.{owed}
 use Rattle.po_engine.proofs.Sums.{sum_by-cons, sum_by-without}
@@ -49,11 +49,11 @@ module _ {V : Type 0} (n : ℕ) where
 
 module _ {S V : Type 0} where
   -- an attempt to cancel a call that is marked already changes nothing
-  pub abort_again : (s : ObjectState S V) (n : ℕ) (x : Call V) → find (has_number n) s.waiting ≡ Some x → x.sealed ≡ true → x.aborted ≡ true → count_by (has_number n) s.waiting ≤ 1 → abort s n (find (has_number n) s.waiting) ≡ s
-  abort_again s n x h sealed marked few =
+  pub abort_again : (s : ObjectState S V) (n : ℕ) (x : Call V) → find (has_number n) s.waiting ≡ Some x → x.without_abort ≡ true → x.aborted ≡ true → count_by (has_number n) s.waiting ≤ 1 → abort s n (find (has_number n) s.waiting) ≡ s
+  abort_again s n x h without_abort marked few =
       let same = ap (λ xs. record s { waiting = xs }) (mark_again n s.waiting x h marked few) in
-      let by_seal = subst (λ b. (if b then record s { waiting = map (mark n) s.waiting } else cancel s n (Some x)) ≡ s) (sym sealed) same in
-      subst (λ o. abort s n o ≡ s) (sym h) by_seal
+      let by_mark = subst (λ b. (if b then record s { waiting = map (mark n) s.waiting } else cancel s n (Some x)) ≡ s) (sym without_abort) same in
+      subst (λ o. abort s n o ≡ s) (sym h) by_mark
 
 module _ {S V : Type 0} (m : Meaning S V) where
   abbrev pub owes : Call V → ℕ

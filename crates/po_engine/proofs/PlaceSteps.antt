@@ -4,10 +4,10 @@ use Rattle.std.specs.List.{count_by, find, All}
 use Rattle.std.proofs.lemmas.List.Elements.{All-cons, All-head, All-nil, All-push, All-tail, All-weaker}
 use Rattle.std.proofs.lemmas.Bool.Decides.{nat_tests}
 use Rattle.po_calls.specs.declared.call.Call.{Call}
-use Rattle.po_accepted.specs.WaitingCalls.{has_number, mark}
-use Rattle.po_accepted.specs.Finding.{without_first}
+use Rattle.po_engine.specs.WaitingCalls.{has_number, mark}
+use Rattle.po_engine.specs.Finding.{without_first}
 use Rattle.po_engine.specs.Arrival.{AreAt, Increases, noted}
-use Rattle.po_accepted.specs.Calls.{places_without}
+use Rattle.po_engine.specs.Calls.{places_without}
 use Rattle.po_engine.proofs.Sums.{sum_by-without}
 use Rattle.po_engine.proofs.Absent.{IsAbsent, absent_from_count}
 use Rattle.po_engine.proofs.Absent.{eq_self}

@@ -10,10 +10,10 @@ use Rattle.po_calls.specs.declared.end.End.{End}
 use Rattle.po_calls.specs.declared.end.End.TheVariants.{Completed, Raised, Cancelled, ProgramError}
 use Rattle.po_history.specs.declared.event.Event.{Event}
 use Rattle.po_history.specs.declared.event.Event.TheVariants.{Issue, Ran, Abort, Tick, Final, Serve, Break, Expire}
-use Rattle.po_engine.specs.ObjectState.{ObjectState, counts_in, gate_in}
-use Rattle.po_accepted.specs.WaitingCalls.{has_number, is_on, mark}
-use Rattle.po_engine.specs.Step.{is_full, enter, end_call, end_all, queue, land, run_body, arrive, take_out, cancel, abort, serve, step}
-use Rattle.po_accepted.specs.Ending.{ended_as, has_ended}
+use Rattle.po_engine.specs.ObjectState.{ObjectState, counts_in, barrier_in}
+use Rattle.po_engine.specs.WaitingCalls.{has_number, is_on, mark}
+use Rattle.po_engine.specs.Step.{is_full, enter, end_call, end_all, queue, conclude, run_body, arrive, take_out, cancel, abort, serve, step}
+use Rattle.po_engine.specs.Ending.{ended_as, has_ended}
 use Rattle.po_engine.proofs.Sums.{sum_by-push, sum_by-without, sum_by-mapped}
 
 abbrev pub one_if : {V : Type 0} → ℕ → Call V → ℕ
@@ -52,18 +52,18 @@ module _ {S V : Type 0} (n : ℕ) where
   places-enter : (limit : Option ℕ) (p : ObjectState S V) (x : Call V) → places_of (enter limit p x) ≡ places_of p + one_if n x
   places-enter limit p x = entered (is_full limit (count_by (is_on x.entry) p.waiting)) p x
 
-  landed : (limit : Option ℕ) (b : Bool) (p : ObjectState S V) (x y : Call V) (k : one_if n y ≡ one_if n x) → places_of (if b then end_call p x Cancelled else enter limit p y) ≡ places_of p + one_if n x
-  landed limit true p x y k = places-end_call p x Cancelled
-  landed limit false p x y k = places-enter limit p y ∙ ap (λ j. places_of p + j) k
+  concluded : (limit : Option ℕ) (b : Bool) (p : ObjectState S V) (x y : Call V) (k : one_if n y ≡ one_if n x) → places_of (if b then end_call p x Cancelled else enter limit p y) ≡ places_of p + one_if n x
+  concluded limit true p x y k = places-end_call p x Cancelled
+  concluded limit false p x y k = places-enter limit p y ∙ ap (λ j. places_of p + j) k
 
-  places-land : (limit : Option ℕ) (p : ObjectState S V) (x : Call V) (o : Outcome V) → places_of (land limit p x o) ≡ places_of p + one_if n x
-  places-land limit p x (Complete v) = places-end_call p x (Completed v)
-  places-land limit p x (Raise k) = places-end_call p x (Raised k)
-  places-land limit p x (Requeue t a v) = landed limit (a && x.aborted) p x (record x { entry = t; value = v; sealed = not a }) refl
+  places-conclude : (limit : Option ℕ) (p : ObjectState S V) (x : Call V) (o : Outcome V) → places_of (conclude limit p x o) ≡ places_of p + one_if n x
+  places-conclude limit p x (Complete v) = places-end_call p x (Completed v)
+  places-conclude limit p x (Raise k) = places-end_call p x (Raised k)
+  places-conclude limit p x (Requeue t a v) = concluded limit (a && x.aborted) p x (record x { entry = t; value = v; without_abort = not a }) refl
 
   module _ (m : Meaning S V) (limit : Option ℕ) where
     places-run_body : (p : ObjectState S V) (x : Call V) → places_of (run_body m limit p x) ≡ places_of p + one_if n x
-    places-run_body p x = let r = m.body p.unit x.entry x.value (counts_in m p) in places-land limit (record p { unit = r.0 }) x r.1
+    places-run_body p x = let r = m.body p.unit x.entry x.value (counts_in m p) in places-conclude limit (record p { unit = r.0 }) x r.1
 
     places-arrive : (p : ObjectState S V) (x : Call V) (r : Result Bool ℕ) → places_of (arrive m limit p x r) ≡ places_of p + one_if n x
     places-arrive p x (Ok true) = places-run_body p x
@@ -84,10 +84,10 @@ module _ {S V : Type 0} (n : ℕ) where
 
   places-abort : (p : ObjectState S V) (k : ℕ) (o : Option (Call V)) → find (has_number k) p.waiting ≡ o → places_of (abort p k o) ≡ places_of p
   places-abort p k None h = refl
-  places-abort p k (Some x) h = places-aborted p k x.sealed x h
+  places-abort p k (Some x) h = places-aborted p k x.without_abort x h
 
   pub places-step : (m : Meaning S V) (limit : Option ℕ) (p : ObjectState S V) (e : Event V) → places_of (step m limit p e) ≡ places_of p + gains n e
-  places-step m limit p (Issue k owner e v d) = places-arrive m limit (record p { next = p.next + 1 }) (record { number = k; owner = owner; entry = e; value = v; sealed = false; aborted = false; deadline = d }) (gate_in m p e)
+  places-step m limit p (Issue k owner e v d) = places-arrive m limit (record p { next = p.next + 1 }) (record { number = k; owner = owner; entry = e; value = v; without_abort = false; aborted = false; deadline = d }) (barrier_in m p e)
   places-step m limit p (Ran owner op v reply) = omega arith
   places-step m limit p (Abort k) = omega (arith, places-abort p k (find (has_number k) p.waiting) refl)
   places-step m limit p (Tick t) = omega arith

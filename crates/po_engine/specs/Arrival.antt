@@ -4,7 +4,7 @@ use Rattle.po_unit.specs.Meaning.{Meaning}
 use Rattle.po_calls.specs.declared.call.Call.{Call}
 use Rattle.po_history.specs.declared.event.Event.{Event}
 use Rattle.po_history.specs.declared.event.Event.TheVariants.{Issue, Serve}
-use Rattle.po_accepted.specs.WaitingCalls.{is_on}
+use Rattle.po_engine.specs.WaitingCalls.{is_on}
 use Rattle.po_engine.specs.ObjectState.{ObjectState}
 use Rattle.po_engine.specs.Step.{step}
 

@@ -1,4 +1,4 @@
--- An object whose bodies its client runs, and whose barriers it evaluates: a call that arrives is in hand or queued (this
+-- An object whose bodies its client runs, and whose barriers it evaluates: a call that arrives is in service or queued (this
 -- project's own).
 use Rattle.std.specs.Prelude.{ℕ, ◌+◌, drop, Bool, true, false, Option, Some, None}
 use Rattle.po_calls.specs.declared.call.Call.{Call}
@@ -8,19 +8,19 @@ use Rattle.po_engine.specs.Step.{enter}
 
 -- a call that is new
 abbrev pub new_call : {V : Type 0} → ℕ → Arriving V → Call V
-new_call n a = record { number = n; owner = 0; entry = a.entry; value = a.value; sealed = a.sealed; aborted = a.aborted; deadline = a.deadline }
+new_call n a = record { number = n; owner = 0; entry = a.entry; value = a.value; without_abort = a.without_abort; aborted = a.aborted; deadline = a.deadline }
 
--- the call that is in hand, by what its client says of its barrier
-abbrev pub in_hand : {V : Type 0} → Call V → Bool → Option (Call V)
-in_hand x true = Some x
-in_hand x false = None
+-- the call that is in service, by what its client says of its barrier
+abbrev pub in_service : {V : Type 0} → Call V → Bool → Option (Call V)
+in_service x true = Some x
+in_service x false = None
 
 module _ {S V : Type 0} where
   -- one more call has got a number
   abbrev pub counted : ObjectState S V → ObjectState S V
   counted s = record s { next = s.next + 1 }
 
-  -- a new call, by what its client says of its barrier: it is in hand, or it is queued
+  -- a new call, by what its client says of its barrier: it is in service, or it is queued
   abbrev pub admitted : Option ℕ → ObjectState S V → Call V → Bool → ObjectState S V
   admitted limit s x true = s
   admitted limit s x false = enter limit s x

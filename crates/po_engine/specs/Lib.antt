@@ -1,6 +1,11 @@
-pub mod ObjectState
-pub mod Step
-pub mod Pick
 pub mod Arrival
-pub mod StateView
+pub mod Calls
 pub mod Driving
+pub mod Ending
+pub mod Finding
+pub mod ObjectState
+pub mod Pick
+pub mod StateView
+pub mod Step
+pub mod Tickets
+pub mod WaitingCalls

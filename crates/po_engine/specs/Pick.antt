@@ -3,20 +3,20 @@ use Rattle.std.specs.Prelude.{ℕ, ◌≡◌, ◌+◌, List, [], ◌∷◌, map,
 use Rattle.std.specs.List.{list_any}
 use Rattle.std.specs.Option.{option_or}
 use Rattle.po_unit.specs.Meaning.{Meaning}
-use Rattle.po_barriers.specs.declared.look.Look.{Look}
-use Rattle.po_barriers.specs.declared.look.Look.TheVariants.{Quiet, Ready, Broken}
-use Rattle.po_barriers.specs.declared.order.Order.{Order}
-use Rattle.po_barriers.specs.Turns.{turn, first_look, look_if, examined}
+use Rattle.po_queues.specs.declared.selection.Selection.{Selection}
+use Rattle.po_queues.specs.declared.selection.Selection.TheVariants.{Quiet, Ready, Broken}
+use Rattle.po_queues.specs.declared.order.Order.{Order}
+use Rattle.po_queues.specs.Turns.{turn, first_selection, selection_if, examined}
 use Rattle.po_history.specs.declared.event.Event.{Event}
 use Rattle.po_history.specs.declared.event.Event.TheVariants.{Issue, Ran, Abort, Tick, Final, Serve, Break, Expire}
-use Rattle.po_accepted.specs.WaitingCalls.{has_number, is_on, is_due}
-use Rattle.po_engine.specs.ObjectState.{ObjectState, gate_in, IsQuiet}
+use Rattle.po_engine.specs.WaitingCalls.{has_number, is_on, is_due}
+use Rattle.po_engine.specs.ObjectState.{ObjectState, barrier_in, IsQuiet}
 use Rattle.po_engine.specs.Step.{step}
-use Rattle.po_accepted.specs.Finding.{IsFound}
+use Rattle.po_engine.specs.Finding.{IsFound}
 
 -- the event that services what a look tells: the one of an open entry is served, and a barrier that propagates an
 -- exception ends all calls (9.5.3)
-abbrev pub event_of : {V : Type 0} → Look → Option (Event V)
+abbrev pub event_of : {V : Type 0} → Selection → Option (Event V)
 event_of Quiet = None
 event_of (Ready e) = Some (Serve e)
 event_of (Broken e) = Some (Break e)
@@ -33,14 +33,14 @@ last_from last (event ∷ events) = last_from (served_last last event) events
 
 module _ {S V : Type 0} where
   -- the turn of entry e, if a call is queued on it and it isn't closed
-  abbrev pub turn_of : Meaning S V → ObjectState S V → ℕ → Look
-  turn_of m s e = look_if (list_any (is_on e) s.waiting) (turn e (gate_in m s e))
+  abbrev pub turn_of : Meaning S V → ObjectState S V → ℕ → Selection
+  turn_of m s e = selection_if (list_any (is_on e) s.waiting) (turn e (barrier_in m s e))
 
   -- the turn that comes next, if one does: that of the first examined entry that isn't closed; last is the entry that
   -- was served last
-  abbrev pub next_turn : Meaning S V → Order → Option ℕ → ObjectState S V → Look
+  abbrev pub next_turn : Meaning S V → Order → Option ℕ → ObjectState S V → Selection
   next_turn m order last s =
-      first_look (turn_of m s) (examined order last (m.entries s.unit) (map (λ x. x.entry) s.waiting))
+      first_selection (turn_of m s) (examined order last (m.entries s.unit) (map (λ x. x.entry) s.waiting))
 
   -- the inner event that follows, if one does: that of the turn that comes next, and else the first call that is due
   -- expires
@@ -66,8 +66,8 @@ module _ {S V : Type 0} where
 
 -- The event is an inner one, and its needs are met.
 abbrev pub Fits : {S V : Type 0} → Meaning S V → ObjectState S V → Event V → Type 0
-Fits m s (Serve e) = (e < m.entries s.unit) × IsSome (find (is_on e) s.waiting) × (gate_in m s e ≡ Ok true)
-Fits m s (Break e) = (e < m.entries s.unit) × IsSome (find (is_on e) s.waiting) × ((k : ℕ) × (gate_in m s e ≡ Err k))
+Fits m s (Serve e) = (e < m.entries s.unit) × IsSome (find (is_on e) s.waiting) × (barrier_in m s e ≡ Ok true)
+Fits m s (Break e) = (e < m.entries s.unit) × IsSome (find (is_on e) s.waiting) × ((k : ℕ) × (barrier_in m s e ≡ Err k))
 Fits m s (Expire n) = IsQuiet m s × IsFound (λ x. is_due s.clock x ≡ true) (find (has_number n) s.waiting)
 Fits m s (Issue n owner e v d) = ⊥
 Fits m s (Ran owner op v reply) = ⊥

@@ -7,9 +7,9 @@ use Rattle.po_unit.specs.declared.outcome.Outcome.TheVariants.{Complete, Raise, 
 use Rattle.po_calls.specs.declared.call.Call.{Call}
 use Rattle.po_history.specs.declared.event.Event.{Event}
 use Rattle.po_history.specs.declared.event.Event.TheVariants.{Expire}
-use Rattle.po_accepted.specs.WaitingCalls.{is_due}
+use Rattle.po_engine.specs.WaitingCalls.{is_due}
 use Rattle.po_engine.specs.ObjectState.{ObjectState}
-use Rattle.po_accepted.specs.Calls.{CallsView}
+use Rattle.po_engine.specs.Calls.{CallsView}
 
 -- What contracts see of a state beside it: where its calls arrived, its tickets, for how many calls there is room, and how
 -- many had ended before the command.
@@ -18,7 +18,7 @@ pub record StateView (S V : Type 0) : Type 0 where
   -- of each waiting call the place in the history at which it arrived
   pub places : List ℕ
   -- the call that is being served: it isn't queued, and hasn't ended
-  pub hand : Option (Call V)
+  pub serving : Option (Call V)
   -- by key the number of the uncollected call whose ticket has that key
   pub tickets : List (Option ℕ)
   -- the key of the ticket that each call got, by its number less the first one: known to proofs alone

@@ -8,10 +8,10 @@ use Rattle.po_calls.specs.declared.end.End.{End}
 use Rattle.po_calls.specs.declared.end.End.TheVariants.{Completed, Raised, Cancelled, ProgramError}
 use Rattle.po_history.specs.declared.event.Event.{Event}
 use Rattle.po_history.specs.declared.event.Event.TheVariants.{Issue, Ran, Abort, Tick, Final, Serve, Break, Expire}
-use Rattle.po_accepted.specs.Ending.{ended_as}
-use Rattle.po_accepted.specs.Finding.{without_first, IsFound}
-use Rattle.po_accepted.specs.WaitingCalls.{is_on, has_number, is_due, mark}
-use Rattle.po_engine.specs.ObjectState.{ObjectState, counts_in, gate_in, IsQuiet, IsAtRest}
+use Rattle.po_engine.specs.Ending.{ended_as}
+use Rattle.po_engine.specs.Finding.{without_first, IsFound}
+use Rattle.po_engine.specs.WaitingCalls.{is_on, has_number, is_due, mark}
+use Rattle.po_engine.specs.ObjectState.{ObjectState, counts_in, barrier_in, IsQuiet, IsAtRest}
 
 -- whether so many queued calls are as many as the queue of an entry may have (D.7, Max_Entry_Queue_Length, here for an object)
 abbrev pub is_full : Option ℕ → ℕ → Bool
@@ -40,19 +40,19 @@ module _ {S V : Type 0} where
 
   -- what comes of a call whose body has ended: it completes, its exception is propagated to its caller, or it is
   -- requeued; a requeue with abort of an aborted call cancels it, before the length of the queue is looked at (9.5.2, 9.5.4)
-  abbrev pub land : Option ℕ → ObjectState S V → Call V → Outcome V → ObjectState S V
-  land limit s x (Complete v) = end_call s x (Completed v)
-  land limit s x (Raise k) = end_call s x (Raised k)
-  land limit s x (Requeue target with_abort v) =
+  abbrev pub conclude : Option ℕ → ObjectState S V → Call V → Outcome V → ObjectState S V
+  conclude limit s x (Complete v) = end_call s x (Completed v)
+  conclude limit s x (Raise k) = end_call s x (Raised k)
+  conclude limit s x (Requeue target with_abort v) =
       if with_abort && x.aborted
       then end_call s x Cancelled
-      else enter limit s (record x { entry = target; value = v; sealed = not with_abort })
+      else enter limit s (record x { entry = target; value = v; without_abort = not with_abort })
 
-  -- the body of a call that isn't queued runs, and the call lands (9.5.2, 9.5.3)
+  -- the body of a call that isn't queued runs, and the call is concluded (9.5.2, 9.5.3)
   abbrev pub run_body : Meaning S V → Option ℕ → ObjectState S V → Call V → ObjectState S V
   run_body m limit s x =
       let r = m.body s.unit x.entry x.value (counts_in m s) in
-      land limit (record s { unit = r.0 }) x r.1
+      conclude limit (record s { unit = r.0 }) x r.1
 
   -- a new call, by what the barrier of its entry says: its body runs, it is queued, or all calls end by Program_Error (9.5.3)
   abbrev pub arrive : Meaning S V → Option ℕ → ObjectState S V → Call V → Result Bool ℕ → ObjectState S V
@@ -74,11 +74,11 @@ module _ {S V : Type 0} where
   cancel s n None = s
   cancel s n (Some x) = end_call (take_out s (has_number n)) x Cancelled
 
-  -- an attempt to cancel a waiting call: one that is sealed is marked, any other is cancelled (9.5.3, 9.5.4)
+  -- an attempt to cancel a waiting call: one that is queued without abort is marked, any other is cancelled (9.5.3, 9.5.4)
   abbrev pub abort : ObjectState S V → ℕ → Option (Call V) → ObjectState S V
   abort s n None = s
   abort s n (Some x) =
-      if x.sealed
+      if x.without_abort
       then record s { waiting = map (mark n) s.waiting }
       else cancel s n (Some x)
 
@@ -97,7 +97,7 @@ module _ {S V : Type 0} where
   -- the state after an event
   abbrev pub step : Meaning S V → Option ℕ → ObjectState S V → Event V → ObjectState S V
   step m limit s (Issue n owner e v deadline) =
-      arrive m limit (record s { next = s.next + 1 }) (record { number = n; owner = owner; entry = e; value = v; sealed = false; aborted = false; deadline = deadline }) (gate_in m s e)
+      arrive m limit (record s { next = s.next + 1 }) (record { number = n; owner = owner; entry = e; value = v; without_abort = false; aborted = false; deadline = deadline }) (barrier_in m s e)
   step m limit s (Ran owner op v reply) = run_procedure m s op v
   step m limit s (Abort n) = abort s n (find (has_number n) s.waiting)
   step m limit s (Tick t) = advance s t
@@ -116,11 +116,11 @@ module _ {S V : Type 0} where
   abbrev pub Needs : Meaning S V → ObjectState S V → Event V → Type 0
   Needs m s (Issue n owner e v deadline) = MayBegin m s × (e < m.entries s.unit) × (n ≡ s.next) × (n < 18_446_744_073_709_551_615)
   Needs m s (Ran owner op v reply) = MayBegin m s × (op < m.procedures s.unit) × (reply ≡ (m.procedure s.unit op v (counts_in m s)).1)
-  Needs m s (Abort n) = MayBegin m s × IsFound (λ x. (x.sealed && x.aborted) ≡ false) (find (has_number n) s.waiting)
+  Needs m s (Abort n) = MayBegin m s × IsFound (λ x. (x.without_abort && x.aborted) ≡ false) (find (has_number n) s.waiting)
   Needs m s (Tick t) = MayBegin m s
   Needs m s Final = MayBegin m s
-  Needs m s (Serve e) = IsSome (find (is_on e) s.waiting) × (gate_in m s e ≡ Ok true)
-  Needs m s (Break e) = IsSome (find (is_on e) s.waiting) × ((k : ℕ) × (gate_in m s e ≡ Err k))
+  Needs m s (Serve e) = IsSome (find (is_on e) s.waiting) × (barrier_in m s e ≡ Ok true)
+  Needs m s (Break e) = IsSome (find (is_on e) s.waiting) × ((k : ℕ) × (barrier_in m s e ≡ Err k))
   Needs m s (Expire n) = IsQuiet m s × IsFound (λ x. is_due s.clock x ≡ true) (find (has_number n) s.waiting)
 
   -- the state that a history leads to: its events one after the other

@@ -10,7 +10,7 @@ pub struct Arriving<V> {
     /// Its value.
     pub value: V,
     /// Whether a requeue without abort brought it.
-    pub sealed: bool,
+    pub without_abort: bool,
     /// Whether an attempt was made to cancel it.
     pub aborted: bool,
     /// Until when it waits.

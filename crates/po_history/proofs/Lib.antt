@@ -1,2 +1,3 @@
 pub mod Outcomes
 pub mod Volumes
+pub mod Written

@@ -1,2 +1,2 @@
-pub mod WordLemmas
 pub mod PlaceLemmas
+pub mod WordLemmas

@@ -1,7 +1,7 @@
 -- Words behind words, and where they stand.
 use Rattle.std.proofs.Common.{◌≡◌, ℕ, zero, suc, ◌+◌, ◌-◌, ◌≤◌, List, [], ◌∷◌, ◌++◌, length, get_or, take, drop, refl, sym, ap, ◌∙◌, subst, arith, append_assoc, length-append}
 use Rattle.std.proofs.lemmas.List.{take_at, drop_at}
-use Rattle.po_language.specs.Places.{IsSuffix, IsPlaceOf}
+use Rattle.po_language.specs.Spans.{IsSuffix, IsSpanOf}
 use Rattle.po_language.specs.Words.{words}
 
 drop_nil : (n : ℕ) → drop {A = List ℕ} n [] ≡ []
@@ -50,8 +50,8 @@ cut_out line front w behind e =
     let n : length line - (length w + length behind) ≡ length front = omega (arith, ap (λ (l : List ℕ). length l) e, length-append front (w ++ behind), length-append w behind) in
     ap (λ k. take (length w) (drop k line)) n ∙ ap (λ l. take (length w) (drop (length front) l)) e ∙ ap (λ l. take (length w) l) (drop_at front (w ++ behind) (length front) refl) ∙ take_at w behind (length w) refl
 
-pub word_place : (line rest w behind : List ℕ) (n : ℕ) → words rest ≡ drop n (words line) → IsSuffix line rest → words rest ≡ w ∷ words behind → ((spaces : List ℕ) × (rest ≡ spaces ++ (w ++ behind))) → IsPlaceOf line n (record { start = length line - (length w + length behind); length = length w })
-word_place line rest w behind n some s cut p =
+pub word_span : (line rest w behind : List ℕ) (n : ℕ) → words rest ≡ drop n (words line) → IsSuffix line rest → words rest ≡ w ∷ words behind → ((spaces : List ℕ) × (rest ≡ spaces ++ (w ++ behind))) → IsSpanOf line n (record { start = length line - (length w + length behind); length = length w })
+word_span line rest w behind n some s cut p =
     let whole : line ≡ (s.0 ++ p.0) ++ (w ++ behind) = s.1 ∙ ap (λ r. s.0 ++ r) p.1 ∙ sym (append_assoc s.0 p.0 (w ++ behind)) in
     let e : drop n (words line) ≡ w ∷ words behind = sym some ∙ cut in
     record {
@@ -60,8 +60,8 @@ word_place line rest w behind n some s cut p =
       behind = λ le. absurd (still_before (words line) n w (words behind) e le);
     }
 
-pub end_place : (line rest : List ℕ) (n : ℕ) → words rest ≡ drop n (words line) → words rest ≡ [] → IsPlaceOf line n (record { start = length line; length = 0 })
-end_place line rest n some none = record {
+pub end_span : (line rest : List ℕ) (n : ℕ) → words rest ≡ drop n (words line) → words rest ≡ [] → IsSpanOf line n (record { start = length line; length = 0 })
+end_span line rest n some none = record {
   within = omega arith;
   word = sym (past_end (words line) n (sym some ∙ none));
   behind = λ le. refl;

@@ -7,11 +7,11 @@ use Rattle.po_classic_units.specs.Names.{number_of_name}
 use Rattle.po_classic_units.specs.ScriptUnit.{KnownNames}
 use Rattle.po_classic_units.specs.Sizes.{IsSizeWhere}
 use Rattle.po_language.specs.Units.{UnitList, unit_number, names_at}
-use Rattle.po_index.specs.declared.decl.EntryRef.{EntryRef}
+use Rattle.po_unit.specs.declared.decl.EntryRef.{EntryRef}
 use Rattle.po_calls.specs.declared.call.Deadline.{Deadline}
 use Rattle.po_calls.specs.declared.call.Deadline.TheVariants.{Never, At}
-use Rattle.po_barriers.specs.declared.order.Order.{Order}
-use Rattle.po_barriers.specs.declared.order.Order.TheVariants.{Textual, Oldest, Rotating}
+use Rattle.po_queues.specs.declared.order.Order.{Order}
+use Rattle.po_queues.specs.declared.order.Order.TheVariants.{Textual, Oldest, Rotating}
 use Rattle.po_language.specs.declared.command.UnitChoice.{UnitChoice}
 use Rattle.po_language.specs.declared.command.Beginning.{Beginning}
 use Rattle.po_language.specs.declared.command.Command.{Command}

@@ -1,5 +1,5 @@
-pub mod Words
-pub mod Units
 pub mod Commands
 pub mod Faults
-pub mod Places
+pub mod Spans
+pub mod Units
+pub mod Words

@@ -1,8 +1,8 @@
 //! The commands of a script, each of one line.
 
-use po_barriers::Order;
 use po_calls::Deadline;
-use po_index::EntryRef;
+use po_queues::Order;
+use po_unit::EntryRef;
 use thiserror::Error;
 
 /// A unit that a script can begin.

@@ -3,7 +3,7 @@
 ghost use Rattle.std.specs.Prelude.{◌≡◌};
 
 use crate::command::FaultKind;
-use crate::place::Place;
+use crate::span::Span;
 
 /// A part of a `unit` line.
 #[derive(Clone, Copy, Debug, PartialEq, Eq)]
@@ -85,7 +85,7 @@ pub struct LineFault {
     /// The number of the word in whose place it was expected, counted from 0.
     pub word: usize,
     /// Where that word stands; the end of the line where there is none.
-    pub place: Place,
+    pub span: Span,
 }
 
 impl LineFault {

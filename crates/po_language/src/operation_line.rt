@@ -12,7 +12,7 @@ use crate::parse::Verb;
 use crate::words::{entry_word, is_name, next_word, no_word, number};
 use po_calls::Deadline;
 use po_classic_units::UnitNames;
-use po_index::EntryRef;
+use po_unit::EntryRef;
 
 /// The entry of the unit that the word names.
 fn entry_of(names: &UnitNames, word: &[u8]) -> Option<EntryRef>

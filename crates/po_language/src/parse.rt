@@ -5,12 +5,12 @@ ghost use Rattle.po_language.specs.Words.{words};
 ghost use Rattle.po_language.specs.Commands.{CanBegin, IsOperation, is_comment, verb_of, first_command, later_command, form_command, command_of, form_of};
 ghost use Rattle.po_language.specs.Faults.{known_command};
 ghost use Rattle.po_language.specs.Faults.{by_kind, word_kind};
-ghost use Rattle.po_language.specs.Places.{IsPlaceOf};
+ghost use Rattle.po_language.specs.Spans.{IsSpanOf};
 
 use crate::command::{Command, UnitChoice};
 use crate::fault::{LineFault, Reason, WordFault};
 use crate::operation_line::operation_of;
-use crate::place::place_of;
+use crate::span::span_of;
 use crate::unit_line::beginning_of;
 use crate::unit_list::UnitList;
 use crate::words::cut_word;
@@ -139,13 +139,13 @@ fn form_command<L: UnitList>(verb: Verb, arguments: &[u8]) -> Result<Command, Wo
 
 /// The fault of the line that is one at a word of it.
 fn placed(line: &[u8], fault: WordFault) -> LineFault
-    ensures place { IsPlaceOf line.now result.word result.place }
+    ensures span { IsSpanOf line.now result.word result.span }
     ensures reason { result.reason ≡ fault.reason }
 {
     LineFault {
         reason: fault.reason,
         word: fault.word,
-        place: place_of(line, fault.word),
+        span: span_of(line, fault.word),
     }
 }
 
@@ -181,7 +181,7 @@ pub fn command_of<L: UnitList>(
 ) -> Result<Option<Command>, LineFault>
     ensures exact { by_kind result ≡ command_of L.listed begun line.now }
     ensures valid { IfOk result (λ command. IfSome command (CanBegin L.listed)) }
-    ensures placed { IfErr result (λ fault. IsPlaceOf line.now fault.word fault.place) }
+    ensures placed { IfErr result (λ fault. IsSpanOf line.now fault.word fault.span) }
 {
     let known = match begun {
         Some(unit) => Known::Begun(unit),
@@ -198,7 +198,7 @@ pub fn command_of<L: UnitList>(
 pub fn form_of<L: UnitList>(line: &[u8]) -> Result<Option<Command>, LineFault>
     ensures exact { by_kind result ≡ form_of L.listed line.now }
     ensures valid { IfOk result (λ command. IfSome command (CanBegin L.listed)) }
-    ensures placed { IfErr result (λ fault. IsPlaceOf line.now fault.word fault.place) }
+    ensures placed { IfErr result (λ fault. IsSpanOf line.now fault.word fault.span) }
 {
     match known_command::<L>(Known::Unclear, line) {
         Ok(command) => Ok(command),

@@ -11,7 +11,7 @@ use crate::command::{Beginning, FaultKind, UnitChoice};
 use crate::fault::{UnitPart, WordFault};
 use crate::unit_list::UnitList;
 use crate::words::{cut_word, next_word, no_word, number};
-use po_barriers::Order;
+use po_queues::Order;
 
 /// The size of a unit: a number from 1 to 1,024.
 fn size(word: &[u8]) -> Option<u16>

@@ -7,14 +7,14 @@ use Rattle.po_calls.specs.declared.call.Call.{Call}
 use Rattle.po_history.specs.declared.event.Event.{Event}
 use Rattle.po_history.specs.declared.event.Event.TheVariants.{Issue, Ran, Abort, Tick, Final, Serve, Break, Expire}
 use Rattle.po_history.specs.Histories.{VolumeView}
-use Rattle.po_accepted.specs.Finding.{IsFound}
+use Rattle.po_engine.specs.Finding.{IsFound}
 use Rattle.po_engine.specs.Step.{step}
 use Rattle.po_engine.specs.Pick.{last_from}
-use Rattle.po_actions.specs.View.{View}
+use Rattle.po_core.specs.View.{View}
 use Rattle.po_core.specs.Tickets.{CoreView}
-use Rattle.po_actions.specs.ProtectedAction.{IsProtectedAction, IsAbortOfCall}
-use Rattle.po_actions.specs.Cutting.{cut}
-use Rattle.po_actions.proofs.Counting.{is_neither, picks-neither}
+use Rattle.po_core.specs.ProtectedAction.{IsProtectedAction, IsAbortOfCall}
+use Rattle.po_core.specs.Cutting.{cut}
+use Rattle.po_core.proofs.Counting.{is_neither, picks-neither}
 use Rattle.po_receipts.specs.Passes.{PassView}
 use Rattle.po_receipts.specs.Agreement.{history_of}
 use Rattle.po_receipts.specs.Answers.{asker_of, AskedBySeats, HasNoOthers, NonePending}
@@ -38,12 +38,12 @@ module _ {S V : Type 0} (m : Meaning S V) (seats : ℕ) where
   -- seats alone ask in a protected action if one asked for its own event
   pub asked-action : (old new : View S V) (own : Event V) → IsProtectedAction m old new own → BySeat seats own → AskedBySeats seats old.events → AskedBySeats seats new.events
   asked-action old new own a by h =
-      let limit = old.making.max_queue in
-      let neither = picks-neither m limit old.making.order (last_from old.base.last (old.events ++ own ∷ [])) (step m limit old.state own) a.inner a.picks in
+      let limit = old.setup.max_queue in
+      let neither = picks-neither m limit old.setup.order (last_from old.base.last (old.events ++ own ∷ [])) (step m limit old.state own) a.inner a.picks in
       let inner = All-weaker (λ e. is_neither e ≡ true) (BySeat seats) (neither_asked seats) a.inner neither in
       subst (AskedBySeats seats) (sym a.events) (All-append (BySeat seats) old.events (own ∷ a.inner) h (All-cons (BySeat seats) own a.inner by inner))
 
-  asked-mark : (old new : View S V) (n : ℕ) (x : Call V) (sealed aborted : Bool) → x.sealed ≡ sealed → x.aborted ≡ aborted → IsAbortOfCall m old new n x → AskedBySeats seats old.events → AskedBySeats seats new.events
+  asked-mark : (old new : View S V) (n : ℕ) (x : Call V) (without_abort aborted : Bool) → x.without_abort ≡ without_abort → x.aborted ≡ aborted → IsAbortOfCall m old new n x → AskedBySeats seats old.events → AskedBySeats seats new.events
   asked-mark old new n x false aborted s t a h = asked-action old new (Abort n) (a.cancelled s) tt h
   asked-mark old new n x true false s t a h = asked-action old new (Abort n) (a.marked s t).0 tt h
   asked-mark old new n x true true s t a h = subst (λ (view : View S V). AskedBySeats seats view.events) (sym (a.kept s t)) h
@@ -51,7 +51,7 @@ module _ {S V : Type 0} (m : Meaning S V) (seats : ℕ) where
   -- nobody asks in an attempt to cancel a call
   pub asked-abort_of : (old new : View S V) (n : ℕ) (o : Option (Call V)) → IsFound (IsAbortOfCall m old new n) o → AskedBySeats seats old.events → AskedBySeats seats new.events
   asked-abort_of old new n None a h = absurd a
-  asked-abort_of old new n (Some x) a h = asked-mark old new n x x.sealed x.aborted refl refl a h
+  asked-abort_of old new n (Some x) a h = asked-mark old new n x x.without_abort x.aborted refl refl a h
 
   -- behind a cut there is no event
   pub asked-cut : (old new : View S V) → new ≡ cut m old → AskedBySeats seats new.events

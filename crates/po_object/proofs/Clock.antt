@@ -8,11 +8,11 @@ use Rattle.po_calls.specs.declared.call.Call.{Call}
 use Rattle.po_calls.specs.declared.end.End.TheVariants.{Cancelled, ProgramError}
 use Rattle.po_history.specs.declared.event.Event.{Event}
 use Rattle.po_history.specs.declared.event.Event.TheVariants.{Issue, Ran, Abort, Tick, Final, Serve, Break, Expire}
-use Rattle.po_accepted.specs.WaitingCalls.{is_on, has_number, mark}
-use Rattle.po_engine.specs.ObjectState.{ObjectState, counts_in, gate_in}
-use Rattle.po_engine.specs.Step.{step, replay, enter, end_call, queue, land, run_body, arrive, serve, cancel, abort, advance, take_out, is_full}
-use Rattle.po_actions.specs.View.{View}
-use Rattle.po_actions.specs.ProtectedAction.{IsProtectedAction}
+use Rattle.po_engine.specs.WaitingCalls.{is_on, has_number, mark}
+use Rattle.po_engine.specs.ObjectState.{ObjectState, counts_in, barrier_in}
+use Rattle.po_engine.specs.Step.{step, replay, enter, end_call, queue, conclude, run_body, arrive, serve, cancel, abort, advance, take_out, is_full}
+use Rattle.po_core.specs.View.{View}
+use Rattle.po_core.specs.ProtectedAction.{IsProtectedAction}
 
 module _ {S V : Type 0} (m : Meaning S V) (limit : Option ℕ) where
   clock-if : (b : Bool) (p q r : ObjectState S V) → q.clock ≡ p.clock → r.clock ≡ p.clock → (if b then q else r).clock ≡ p.clock
@@ -22,13 +22,13 @@ module _ {S V : Type 0} (m : Meaning S V) (limit : Option ℕ) where
   clock-enter : (p : ObjectState S V) (x : Call V) → (enter limit p x).clock ≡ p.clock
   clock-enter p x = clock-if (is_full limit (count_by (is_on x.entry) p.waiting)) p (end_call p x ProgramError) (queue p x) refl refl
 
-  clock-land : (p : ObjectState S V) (x : Call V) (o : Outcome V) → (land limit p x o).clock ≡ p.clock
-  clock-land p x (Complete v) = refl
-  clock-land p x (Raise k) = refl
-  clock-land p x (Requeue t a v) = clock-if (a && x.aborted) p (end_call p x Cancelled) (enter limit p (record x { entry = t; value = v; sealed = not a })) refl (clock-enter p (record x { entry = t; value = v; sealed = not a }))
+  clock-conclude : (p : ObjectState S V) (x : Call V) (o : Outcome V) → (conclude limit p x o).clock ≡ p.clock
+  clock-conclude p x (Complete v) = refl
+  clock-conclude p x (Raise k) = refl
+  clock-conclude p x (Requeue t a v) = clock-if (a && x.aborted) p (end_call p x Cancelled) (enter limit p (record x { entry = t; value = v; without_abort = not a })) refl (clock-enter p (record x { entry = t; value = v; without_abort = not a }))
 
   clock-run_body : (p : ObjectState S V) (x : Call V) → (run_body m limit p x).clock ≡ p.clock
-  clock-run_body p x = let r = m.body p.unit x.entry x.value (counts_in m p) in clock-land (record p { unit = r.0 }) x r.1
+  clock-run_body p x = let r = m.body p.unit x.entry x.value (counts_in m p) in clock-conclude (record p { unit = r.0 }) x r.1
 
   clock-arrive : (p : ObjectState S V) (x : Call V) (r : Result Bool ℕ) → (arrive m limit p x r).clock ≡ p.clock
   clock-arrive p x (Ok true) = clock-run_body p x
@@ -45,11 +45,11 @@ module _ {S V : Type 0} (m : Meaning S V) (limit : Option ℕ) where
 
   clock-abort : (p : ObjectState S V) (n : ℕ) (o : Option (Call V)) → (abort p n o).clock ≡ p.clock
   clock-abort p n None = refl
-  clock-abort p n (Some x) = clock-if x.sealed p (record p { waiting = map (mark n) p.waiting }) (cancel p n (Some x)) refl refl
+  clock-abort p n (Some x) = clock-if x.without_abort p (record p { waiting = map (mark n) p.waiting }) (cancel p n (Some x)) refl refl
 
   -- no event lets the clock fall
   step-clock : (p : ObjectState S V) (e : Event V) → p.clock ≤ (step m limit p e).clock
-  step-clock p (Issue n owner e v d) = omega (arith, clock-arrive (record p { next = p.next + 1 }) (record { number = n; owner = owner; entry = e; value = v; sealed = false; aborted = false; deadline = d }) (gate_in m p e))
+  step-clock p (Issue n owner e v d) = omega (arith, clock-arrive (record p { next = p.next + 1 }) (record { number = n; owner = owner; entry = e; value = v; without_abort = false; aborted = false; deadline = d }) (barrier_in m p e))
   step-clock p (Ran owner op v reply) = omega arith
   step-clock p (Abort n) = omega (arith, clock-abort p n (find (has_number n) p.waiting))
   step-clock p (Tick t) = omega arith
@@ -66,6 +66,6 @@ module _ {S V : Type 0} (m : Meaning S V) (limit : Option ℕ) where
 -- after a tick the clock is at the time that it names, or past it
 pub clock-tick : {S V : Type 0} (m : Meaning S V) (old new : View S V) (t : ℕ) → IsProtectedAction m old new (Tick t) → t ≤ new.state.clock
 clock-tick m old new t a =
-    let limit = old.making.max_queue in
+    let limit = old.setup.max_queue in
     let raised : t ≤ (advance old.state t).clock = omega arith in
     omega (arith, raised, replay-clock m limit (advance old.state t) a.inner, ap (λ s. s.clock) a.state)

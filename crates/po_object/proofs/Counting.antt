@@ -4,35 +4,35 @@ use Rattle.po_unit.specs.Meaning.{Meaning}
 use Rattle.po_calls.specs.declared.call.Call.{Call}
 use Rattle.po_calls.specs.declared.call.Deadline.{Deadline}
 use Rattle.po_history.specs.declared.event.Event.TheVariants.{Issue, Ran, Abort, Tick, Final}
-use Rattle.po_accepted.specs.Finding.{IsFound}
-use Rattle.po_actions.specs.View.{View}
-use Rattle.po_actions.specs.ProtectedAction.{IsProtectedAction, IsAbortOfCall, without_event}
-use Rattle.po_actions.specs.Cutting.{cut}
-use Rattle.po_actions.proofs.Counting.{action-next, action-ran}
+use Rattle.po_engine.specs.Finding.{IsFound}
+use Rattle.po_core.specs.View.{View}
+use Rattle.po_core.specs.ProtectedAction.{IsProtectedAction, IsAbortOfCall, without_event}
+use Rattle.po_core.specs.Cutting.{cut}
+use Rattle.po_core.proofs.Counting.{action-next, action-ran}
 use Rattle.po_object.specs.Holds.{IsCounted}
 
 module _ {S V : Type 0} (m : Meaning S V) where
   pub counted-issue : (old new : View S V) (n owner e : ℕ) (v : V) (d : Deadline) (calls more procedures : ℕ) → IsProtectedAction m old new (Issue n owner e v d) → more ≡ calls + 1 → IsCounted old calls procedures → IsCounted new more procedures
   counted-issue old new n owner e v d calls more procedures a one h = record {
-    issued = omega (arith, action-next m old new (Issue n owner e v d) a, h.issued, ap (λ made. made.first_number) a.making, one);
+    issued = omega (arith, action-next m old new (Issue n owner e v d) a, h.issued, ap (λ made. made.first_number) a.setup, one);
     ran = omega (arith, action-ran m old new (Issue n owner e v d) a, h.ran);
   }
 
   pub counted-ran : (old new : View S V) (owner op : ℕ) (v : V) (reply : Result V ℕ) (calls procedures more : ℕ) → IsProtectedAction m old new (Ran owner op v reply) → more ≡ procedures + 1 → IsCounted old calls procedures → IsCounted new calls more
   counted-ran old new owner op v reply calls procedures more a one h = record {
-    issued = omega (arith, action-next m old new (Ran owner op v reply) a, h.issued, ap (λ made. made.first_number) a.making);
+    issued = omega (arith, action-next m old new (Ran owner op v reply) a, h.issued, ap (λ made. made.first_number) a.setup);
     ran = omega (arith, action-ran m old new (Ran owner op v reply) a, h.ran, one);
   }
 
   pub counted-tick : (old new : View S V) (t calls procedures : ℕ) → IsProtectedAction m old new (Tick t) → IsCounted old calls procedures → IsCounted new calls procedures
   counted-tick old new t calls procedures a h = record {
-    issued = omega (arith, action-next m old new (Tick t) a, h.issued, ap (λ made. made.first_number) a.making);
+    issued = omega (arith, action-next m old new (Tick t) a, h.issued, ap (λ made. made.first_number) a.setup);
     ran = omega (arith, action-ran m old new (Tick t) a, h.ran);
   }
 
   counted-abort : (old new : View S V) (n calls procedures : ℕ) → IsProtectedAction m old new (Abort n) → IsCounted old calls procedures → IsCounted new calls procedures
   counted-abort old new n calls procedures a h = record {
-    issued = omega (arith, action-next m old new (Abort n) a, h.issued, ap (λ made. made.first_number) a.making);
+    issued = omega (arith, action-next m old new (Abort n) a, h.issued, ap (λ made. made.first_number) a.setup);
     ran = omega (arith, action-ran m old new (Abort n) a, h.ran);
   }
 
@@ -46,7 +46,7 @@ module _ {S V : Type 0} (m : Meaning S V) where
   counted-kept : (view : View S V) (calls procedures : ℕ) → IsCounted view calls procedures → IsCounted (without_event view) calls procedures
   counted-kept view calls procedures h = record { issued = h.issued; ran = h.ran }
 
-  counted-mark : (old new : View S V) (n calls procedures : ℕ) (x : Call V) (sealed aborted : Bool) → x.sealed ≡ sealed → x.aborted ≡ aborted → IsAbortOfCall m old new n x → IsCounted old calls procedures → IsCounted new calls procedures
+  counted-mark : (old new : View S V) (n calls procedures : ℕ) (x : Call V) (without_abort aborted : Bool) → x.without_abort ≡ without_abort → x.aborted ≡ aborted → IsAbortOfCall m old new n x → IsCounted old calls procedures → IsCounted new calls procedures
   counted-mark old new n calls procedures x false aborted s t a h = counted-abort old new n calls procedures (a.cancelled s) h
   counted-mark old new n calls procedures x true false s t a h = counted-abort old new n calls procedures (a.marked s t).0 h
   counted-mark old new n calls procedures x true true s t a h =
@@ -56,21 +56,21 @@ module _ {S V : Type 0} (m : Meaning S V) where
   pub counted-abort_of : (old new : View S V) (n calls procedures : ℕ) (o : Option (Call V)) → IsFound (IsAbortOfCall m old new n) o → IsCounted old calls procedures → IsCounted new calls procedures
   counted-abort_of old new n calls procedures None a h = absurd a
   counted-abort_of old new n calls procedures (Some x) a h =
-      counted-mark old new n calls procedures x x.sealed x.aborted refl refl a h
+      counted-mark old new n calls procedures x x.without_abort x.aborted refl refl a h
 
-  mark-making : (old new : View S V) (n : ℕ) (x : Call V) (sealed aborted : Bool) → x.sealed ≡ sealed → x.aborted ≡ aborted → IsAbortOfCall m old new n x → new.making ≡ old.making
-  mark-making old new n x false aborted s t a = (a.cancelled s).making
-  mark-making old new n x true false s t a = (a.marked s t).0.making
-  mark-making old new n x true true s t a = ap (λ view. view.making) (a.kept s t)
+  mark-setup : (old new : View S V) (n : ℕ) (x : Call V) (without_abort aborted : Bool) → x.without_abort ≡ without_abort → x.aborted ≡ aborted → IsAbortOfCall m old new n x → new.setup ≡ old.setup
+  mark-setup old new n x false aborted s t a = (a.cancelled s).setup
+  mark-setup old new n x true false s t a = (a.marked s t).0.setup
+  mark-setup old new n x true true s t a = ap (λ view. view.setup) (a.kept s t)
 
   -- nor does it change the declarations
-  pub abort-shape : (old new : View S V) (n : ℕ) (o : Option (Call V)) → IsFound (IsAbortOfCall m old new n) o → new.making.shape ≡ old.making.shape
+  pub abort-shape : (old new : View S V) (n : ℕ) (o : Option (Call V)) → IsFound (IsAbortOfCall m old new n) o → new.setup.shape ≡ old.setup.shape
   abort-shape old new n None a = absurd a
-  abort-shape old new n (Some x) a = ap (λ made. made.shape) (mark-making old new n x x.sealed x.aborted refl refl a)
+  abort-shape old new n (Some x) a = ap (λ made. made.shape) (mark-setup old new n x x.without_abort x.aborted refl refl a)
 
   -- a finalization changes neither count
   pub counted-final : (old new : View S V) (calls procedures : ℕ) → IsProtectedAction m old new Final → IsCounted old calls procedures → IsCounted new calls procedures
   counted-final old new calls procedures a h = record {
-    issued = omega (arith, action-next m old new Final a, h.issued, ap (λ made. made.first_number) a.making);
+    issued = omega (arith, action-next m old new Final a, h.issued, ap (λ made. made.first_number) a.setup);
     ran = omega (arith, action-ran m old new Final a, h.ran);
   }

@@ -10,23 +10,23 @@ use Rattle.po_unit.specs.Meaning.{Meaning}
 use Rattle.po_calls.specs.declared.call.Call.{Call}
 use Rattle.po_calls.specs.declared.call.Deadline.{Deadline}
 use Rattle.po_calls.specs.declared.end.End.{End}
-use Rattle.po_calls.specs.declared.end.Place.TheVariants.{Unknown, Waiting}
+use Rattle.po_calls.specs.declared.end.CallStatus.TheVariants.{Unknown, Waiting}
 use Rattle.po_calls.specs.declared.ticket.Ticket.{Ticket}
 use Rattle.po_history.specs.declared.event.Event.{Event}
 use Rattle.po_history.specs.declared.event.Event.TheVariants.{Issue, Abort}
-use Rattle.po_accepted.specs.declared.ended.Ended.{Ended}
-use Rattle.po_accepted.specs.WaitingCalls.{is_of, has_number}
-use Rattle.po_accepted.specs.Ending.{has_ended}
-use Rattle.po_accepted.specs.Finding.{IsFound}
-use Rattle.po_accepted.specs.Tickets.{number_at, SetsTicket, is_number, is_live, place_by, end_at}
-use Rattle.po_accepted.proofs.Lists.{found_passes}
+use Rattle.po_engine.specs.declared.ended.Ended.{Ended}
+use Rattle.po_engine.specs.WaitingCalls.{is_of, has_number}
+use Rattle.po_engine.specs.Ending.{has_ended}
+use Rattle.po_engine.specs.Finding.{IsFound}
+use Rattle.po_engine.specs.Tickets.{number_at, SetsTicket, is_number, is_live, status_by, end_at}
+use Rattle.po_engine.proofs.Lists.{found_passes}
 use Rattle.po_engine.specs.ObjectState.{ObjectState}
-use Rattle.po_actions.specs.View.{View, IsInOnePlace}
-use Rattle.po_actions.specs.ProtectedAction.{IsProtectedAction, IsAbortOf, IsAbortOfCall}
-use Rattle.po_actions.proofs.Counting.{action-next}
-use Rattle.po_actions.proofs.Finds.{All-found, find_agree, none-found, none-passes}
-use Rattle.po_actions.proofs.Remaining.{OfIssued, of-action, waiting-issued}
-use Rattle.po_core.specs.Tickets.{CoreView, place_of_ticket, end_of_ticket}
+use Rattle.po_core.specs.View.{View, IsInOnePlace}
+use Rattle.po_core.specs.ProtectedAction.{IsProtectedAction, IsAbortOf, IsAbortOfCall}
+use Rattle.po_core.proofs.Counting.{action-next}
+use Rattle.po_core.proofs.Finds.{All-found, find_agree, none-found, none-passes}
+use Rattle.po_core.proofs.Remaining.{OfIssued, of-action, waiting-issued}
+use Rattle.po_core.specs.Tickets.{CoreView, status_of_ticket, end_of_ticket}
 use Rattle.po_core.specs.Refusals.{cancel_refusal}
 use Rattle.po_object.specs.declared.latest.Latest.{Latest}
 use Rattle.po_object.specs.declared.latest.Latest.TheVariants.{Never, Only, Several}
@@ -64,14 +64,14 @@ module _ {S V : Type 0} (m : Meaning S V) (calls : List Latest) (old new : CoreV
     live = subst (λ tickets. All (λ x. IsTicketOfEach tickets calls x.number) new.object.state.waiting) (sym kept) (subst (λ s. All (λ x. IsTicketOfEach old.tickets calls x.number) s.waiting) (sym state) h.live);
   }
 
-  known_marks : (n : ℕ) (x : Call V) (sealed aborted : Bool) → x.sealed ≡ sealed → x.aborted ≡ aborted → IsAbortOfCall m old.object new.object n x → KnowsLatest calls old → KnowsLatest calls new
+  known_marks : (n : ℕ) (x : Call V) (without_abort aborted : Bool) → x.without_abort ≡ without_abort → x.aborted ≡ aborted → IsAbortOfCall m old.object new.object n x → KnowsLatest calls old → KnowsLatest calls new
   known_marks n x false aborted s t a h = known-action (Abort n) (a.cancelled s) tt tt h
   known_marks n x true false s t a h = known-action (Abort n) (a.marked s t).0 tt tt h
   known_marks n x true true s t a h = known-same (ap (λ view. view.state) (a.kept s t)) h
 
   known_abort : (n : ℕ) (o : Option (Call V)) → IsFound (IsAbortOfCall m old.object new.object n) o → KnowsLatest calls old → KnowsLatest calls new
   known_abort n None a h = absurd a
-  known_abort n (Some x) a h = known_marks n x x.sealed x.aborted refl refl a h
+  known_abort n (Some x) a h = known_marks n x x.without_abort x.aborted refl refl a h
 
   -- what is known stays true over an attempt to cancel a call
   pub known-abort_of : (n : ℕ) → IsAbortOf m old.object new.object n → KnowsLatest calls old → KnowsLatest calls new
@@ -118,19 +118,19 @@ module _ {S V : Type 0} (first : ℕ) (s : ObjectState S V) (placed : IsInOnePla
           cc
 
 module _ {V : Type 0} where
-  ended_by : (live : Bool) (o : Option (Ended V)) (w : Option (Call V)) (end : End V) → Some end ≡ end_at (if live then place_by o w else Unknown) → (live ≡ true) × (is_some o ≡ true)
+  ended_by : (live : Bool) (o : Option (Ended V)) (w : Option (Call V)) (end : End V) → Some end ≡ end_at (if live then status_by o w else Unknown) → (live ≡ true) × (is_some o ≡ true)
   ended_by false o w end h = cc
   ended_by true None None end h = cc
   ended_by true None (Some x) end h = cc
   ended_by true (Some y) w end h = (refl, refl)
 
-  waits_by : (live : Bool) (o : Option (Ended V)) (w : Option (Call V)) → (if live then place_by o w else Unknown) ≡ Waiting → (live ≡ true) × ((x : Call V) × (w ≡ Some x))
+  waits_by : (live : Bool) (o : Option (Ended V)) (w : Option (Call V)) → (if live then status_by o w else Unknown) ≡ Waiting → (live ≡ true) × ((x : Call V) × (w ≡ Some x))
   waits_by false o w h = cc
   waits_by true None None h = cc
   waits_by true None (Some x) h = (refl, (x, refl))
   waits_by true (Some y) w h = cc
 
-  waits_at : (live : Bool) (o : Option (Ended V)) (w : Option (Call V)) → live ≡ true → o ≡ None → is_some w ≡ true → (if live then place_by o w else Unknown) ≡ Waiting
+  waits_at : (live : Bool) (o : Option (Ended V)) (w : Option (Call V)) → live ≡ true → o ≡ None → is_some w ≡ true → (if live then status_by o w else Unknown) ≡ Waiting
   waits_at live o None is none waits = cc
   waits_at live o (Some x) is none waits = rw (is, none) refl
 
@@ -148,19 +148,19 @@ module _ {S V : Type 0} (core : CoreView S V) (ticket : Ticket) where
       let bad : false ≡ true = ap is_some (sym none) ∙ (ap (λ k. is_some (find (has_ended k) core.object.state.ended)) same ∙ (its_end end h).1) in cc
 
   -- a live ticket of a call that waits is that of a call that waits
-  pub waits-at : (first : ℕ) (p : Call V → Bool) (x : Call V) → IsInOnePlace first core.object.state → is_live core.tickets ticket ≡ true → find p core.object.state.waiting ≡ Some x → x.number ≡ ticket.number → place_of_ticket core ticket ≡ Waiting
+  pub waits-at : (first : ℕ) (p : Call V → Bool) (x : Call V) → IsInOnePlace first core.object.state → is_live core.tickets ticket ≡ true → find p core.object.state.waiting ≡ Some x → x.number ≡ ticket.number → status_of_ticket core ticket ≡ Waiting
   waits-at first p x placed live found same =
       let s = core.object.state in
       waits_at (is_live core.tickets ticket) (find (has_ended ticket.number) s.ended) (find (has_number ticket.number) s.waiting) live
       (ap (λ n. find (has_ended n) s.ended) (sym same) ∙ All-found p (λ y. find (has_ended y.number) s.ended ≡ None) s.waiting x found (none_ended first s placed))
       (ap (λ n. is_some (find (has_number n) s.waiting)) (sym same) ∙ All-found p (λ y. is_some (find (has_number y.number) s.waiting) ≡ true) s.waiting x found (found_itself first s placed))
 
-  waits_as : (first : ℕ) (p : Call V → Bool) (o : Option (Call V)) → find p core.object.state.waiting ≡ o → IsInOnePlace first core.object.state → is_live core.tickets ticket ≡ true → Some ticket.number ≡ option_map (λ x. x.number) o → place_of_ticket core ticket ≡ Waiting
+  waits_as : (first : ℕ) (p : Call V → Bool) (o : Option (Call V)) → find p core.object.state.waiting ≡ o → IsInOnePlace first core.object.state → is_live core.tickets ticket ≡ true → Some ticket.number ≡ option_map (λ x. x.number) o → status_of_ticket core ticket ≡ Waiting
   waits_as first p None is placed live number = cc
   waits_as first p (Some x) is placed live number = let same : x.number ≡ ticket.number = cc in waits-at first p x placed live is same
 
   -- the call of a live ticket that was found waiting isn't refused its cancellation
-  pub cancels : (first : ℕ) (p : Call V → Bool) → IsInOnePlace first core.object.state → is_live core.tickets ticket ≡ true → Some ticket.number ≡ option_map (λ x. x.number) (find p core.object.state.waiting) → cancel_refusal (place_of_ticket core ticket) ≡ None
+  pub cancels : (first : ℕ) (p : Call V → Bool) → IsInOnePlace first core.object.state → is_live core.tickets ticket ≡ true → Some ticket.number ≡ option_map (λ x. x.number) (find p core.object.state.waiting) → cancel_refusal (status_of_ticket core ticket) ≡ None
   cancels first p placed live number = ap cancel_refusal (waits_as first p (find p core.object.state.waiting) refl placed live number)
 
 -- what holds by the number of a call holds of the call
@@ -207,14 +207,14 @@ module _ {S V : Type 0} (calls : List Latest) (core : CoreView S V) (seat : ℕ)
     found_by_number = find_agree (is_of seat) (has_number t.number) core.object.state.waiting (known_of (Only t) is)
 
     -- it waits where its ticket is that of a call that waits
-    pub only-waits : place_of_ticket core t ≡ Waiting → (is_live core.tickets t ≡ true) × (Some t.number ≡ option_map (λ x. x.number) (find (is_of seat) core.object.state.waiting))
+    pub only-waits : status_of_ticket core t ≡ Waiting → (is_live core.tickets t ≡ true) × (Some t.number ≡ option_map (λ x. x.number) (find (is_of seat) core.object.state.waiting))
     only-waits at =
         let w = waits_by (is_live core.tickets t) (find (has_ended t.number) core.object.state.ended) (find (has_number t.number) core.object.state.waiting) at in
         let x = w.1.0 in
         let same = number_of_found t.number x (found_passes (has_number t.number) core.object.state.waiting x w.1.1) in
         (w.0, ap Some (sym same) ∙ ap (option_map (λ y. y.number)) (sym (found_by_number ∙ w.1.1)))
 
-    gone : (first : ℕ) (o : Option (Call V)) → find (has_number t.number) core.object.state.waiting ≡ o → IsInOnePlace first core.object.state → place_of_ticket core t ≢ Waiting → o ≡ None
+    gone : (first : ℕ) (o : Option (Call V)) → find (has_number t.number) core.object.state.waiting ≡ o → IsInOnePlace first core.object.state → status_of_ticket core t ≢ Waiting → o ≡ None
     gone first None found placed not = refl
     gone first (Some x) found placed not =
         let same = number_of_found t.number x (found_passes (has_number t.number) core.object.state.waiting x found) in
@@ -222,7 +222,7 @@ module _ {S V : Type 0} (calls : List Latest) (core : CoreView S V) (seat : ℕ)
         absurd (not (waits-at core t first (has_number t.number) x placed (live_of t core.tickets (ticket (sym same))) found same))
 
     -- and else none of the seat waits
-    pub only-ended : (first : ℕ) → IsInOnePlace first core.object.state → place_of_ticket core t ≢ Waiting → find (is_of seat) core.object.state.waiting ≡ None
+    pub only-ended : (first : ℕ) → IsInOnePlace first core.object.state → status_of_ticket core t ≢ Waiting → find (is_of seat) core.object.state.waiting ≡ None
     only-ended first placed not = found_by_number ∙ gone first (find (has_number t.number) core.object.state.waiting) refl placed not
 
 -- what is known of a seat that issues a call

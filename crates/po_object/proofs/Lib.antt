@@ -1,3 +1,4 @@
+mod Rooms
 pub mod Asking
 pub mod Clock
 pub mod Counting
@@ -7,4 +8,3 @@ pub mod Seating
 pub mod Shared
 pub mod Totals
 pub mod Waits
-mod Rooms

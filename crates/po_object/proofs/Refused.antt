@@ -2,10 +2,10 @@
 use Rattle.std.proofs.Common.{◌≡◌, ◌⊎◌, ℕ, ◌+◌, ◌≤◌, inl, inr, ap, sym, ◌∙◌, subst, refl, arith, Bool, true, false, Option, Some, None, is_some, nat_le, if◌then◌else◌}
 use Rattle.std.specs.Prelude.{IfSome}
 use Rattle.std.proofs.lemmas.Bool.Decides.{nat_tests}
-use Rattle.po_accepted.specs.Tickets.{uncollected}
+use Rattle.po_engine.specs.Tickets.{uncollected}
 use Rattle.po_core.specs.declared.refusal.Refusal.{Refusal}
 use Rattle.po_core.specs.declared.refusal.Refusal.TheVariants.{OutOfMemory, TooManyCalls, Finalized, NumbersSpent}
-use Rattle.po_actions.specs.View.{next_place}
+use Rattle.po_core.specs.View.{next_place}
 use Rattle.po_core.specs.Tickets.{CoreView}
 use Rattle.po_core.specs.Refusals.{MayRefuse, if_full, or_else, if_uncounted, tick_refusal, finalized_refusal}
 use Rattle.po_object.specs.Reservations.{HasRoomFor}

@@ -3,12 +3,12 @@ use Rattle.std.proofs.Common.{◌≡◌, ℕ, ◌+◌, ◌≤◌, ◌<◌, Bool,
 use Rattle.std.specs.Option.{option_map}
 use Rattle.std.specs.Prelude.{IfSome}
 use Rattle.po_calls.specs.declared.ticket.Ticket.{Ticket}
-use Rattle.po_accepted.specs.Tickets.{number_at, SetsTicket, uncollected}
-use Rattle.po_accepted.proofs.TicketCounts.{none-held, one-more, one-less}
+use Rattle.po_engine.specs.Tickets.{number_at, SetsTicket, uncollected}
+use Rattle.po_engine.proofs.TicketCounts.{none-held, one-more, one-less}
 use Rattle.po_core.specs.Tickets.{CoreView, AreIssued}
 use Rattle.po_object.specs.Reservations.{reserved, HasRoomFor}
 
--- a pass without a pending call has a place reserved
+-- a pass without a pending call has room reserved
 pub is-free : (o : Option ℕ) (bounded : Bool) → is_some o ≡ bounded → reserved bounded 1 ≡ option_map (λ n. 1) o
 is-free None bounded is = ap (λ b. reserved b 1) (sym is)
 is-free (Some n) bounded is = ap (λ b. reserved b 1) (sym is)
@@ -53,7 +53,7 @@ none_at None h = refl
 none_at (Some n) h = absurd (h n refl)
 
 -- where none was issued, none is uncollected
-pub none-open : {S V : Type 0} (core : CoreView S V) → core.object.state.next ≡ core.object.making.first_number → AreIssued core → uncollected core.tickets ≡ 0
+pub none-open : {S V : Type 0} (core : CoreView S V) → core.object.state.next ≡ core.object.setup.first_number → AreIssued core → uncollected core.tickets ≡ 0
 none-open core none issued = none-held core.tickets (λ k. none_at (number_at core.tickets k) (λ n is. let i = issued k n is in omega (arith, i.0, i.1, none)))
 
 room_by : {S V : Type 0} (core : CoreView S V) (o capacity : Option ℕ) → capacity ≡ core.capacity → is_some o ≡ is_some capacity → uncollected core.tickets ≡ 0 → IfSome o (λ n. IfSome capacity (λ most. n ≤ most)) → HasRoomFor core o
@@ -69,7 +69,7 @@ room-first core o same none room = room_by core o core.capacity refl same none r
 some_same : (a b : ℕ) → Some a ≡ Some b → a ≡ b
 some_same a b e = cc
 
--- A place is reserved for one pass after the other: so many have one, and so many parts are left.
+-- Room is reserved for one pass after the other: so many have one, and so many parts are left.
 module _ (bounded : Bool) (all : ℕ) where
   both_by : (b : Bool) (before : ℕ) (free rest : Option ℕ) → free ≡ reserved b before → option_map (λ n. n + before) rest ≡ reserved b all → is_some rest ≡ is_some free
   both_by false before free None free_is rest_is = ap is_some (sym free_is)

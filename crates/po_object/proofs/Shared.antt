@@ -9,24 +9,24 @@ use Rattle.std.specs.contracts.sync.ledger.Book as Book
 use Rattle.std.proofs.sync.ledger.Book.TheSendSync as book
 use Rattle.std.specs.contracts.sync.ledger.Share as Share
 use Rattle.std.proofs.sync.ledger.Share.TheSendSync as share
-use Rattle.po_object.proofs.hold.Hold.TheSendSync as hold
+use Rattle.po_object.proofs.locked_core.LockedCore.TheSendSync as locked
 use Rattle.po_object.proofs.latest.LatestCalls.TheSendSync as latest
 use Rattle.po_core.proofs.object_core.Core.TheSendSync as core
 use Rattle.po_core.specs.declared.record.Record as Record
 use Rattle.po_receipts.specs.declared.receipts.Receipts as Receipts
 use Rattle.po_object.specs.contracts.reservation.Reservations as Reservations
 use Rattle.po_object.specs.contracts.reservation.Reservations.TheInside as Reserved
-use Rattle.po_object.specs.contracts.hold.Hold.TheInside as Held
+use Rattle.po_object.specs.contracts.locked_core.LockedCore.TheInside as Held
 use Rattle.po_unit.specs.declared.unit.Unit as Unit
 use Rattle.std.specs.declared.cmp.PartialEq as PartialEq
-use Rattle.po_object.specs.contracts.hold.Hold as Hold
+use Rattle.po_object.specs.contracts.locked_core.LockedCore as LockedCore
 use Rattle.po_object.specs.contracts.object.Object as Object
 use Rattle.po_object.specs.contracts.object.Object.TheInside as Inside
 use Rattle.po_object.specs.contracts.seat.Seat as Seat
-use Rattle.po_receipts.specs.contracts.spent.Spent as Spent
+use Rattle.po_receipts.specs.contracts.closed_pass.ClosedPass as ClosedPass
 use Rattle.po_object.proofs.seat.Seat.TheSendSync as seat
-use Rattle.po_object.proofs.ledgers.Division.TheSendSync as division
-use Rattle.po_receipts.proofs.spent.Spent.TheSendSync as spent
+use Rattle.po_object.proofs.ledgers.SeatParts.TheSendSync as division
+use Rattle.po_receipts.proofs.closed_pass.ClosedPass.TheSendSync as spent
 use Rattle.std.proofs.sync.RwLock.TheSendSync as lock
 use Rattle.std.proofs.vec.Vec.TheSendSync as vec
 use Rattle.std.proofs.alloc.Global.TheSendSync as global
@@ -48,8 +48,8 @@ reservations_sync F g =
       tt,
     )))
 
-pub hold_sync : (U C P F R Q V : RattleType) (g : Unit.Ghosts U.Denot V.Denot) (e : PartialEq.Ghosts V.Denot) (l : CallLedger.Ghosts C.Denot) (g' : Ghosts C.Denot) (g'' : Ghosts P.Denot) (g''' : Ghosts F.Denot) (k : Record.Ghosts R.Denot U.Denot V.Denot) (r : Receipts.Ghosts Q.Denot V.Denot) → IsSend U → IsSync U → IsSend R → IsSync R → IsSend Q → IsSync Q → IsSend V → IsSync V → IsSync (Hold.the_row U C P F R Q V g e l g' g'' g''' k r)
-hold_sync U C P F R Q V g e l g' g'' g''' k r n s m t o p w v =
+pub locked_sync : (U C P F R Q V : RattleType) (g : Unit.Ghosts U.Denot V.Denot) (e : PartialEq.Ghosts V.Denot) (l : CallLedger.Ghosts C.Denot) (g' : Ghosts C.Denot) (g'' : Ghosts P.Denot) (g''' : Ghosts F.Denot) (k : Record.Ghosts R.Denot U.Denot V.Denot) (r : Receipts.Ghosts Q.Denot V.Denot) → IsSend U → IsSync U → IsSend R → IsSync R → IsSend Q → IsSync Q → IsSend V → IsSync V → IsSync (LockedCore.the_row U C P F R Q V g e l g' g'' g''' k r)
+locked_sync U C P F R Q V g e l g' g'' g''' k r n s m t o p w v =
     Send.view_sync (Held.the_row U C P F R Q V g e l g' g'' g''' k r) _ _ _ _
     (Send.recorded_sync (Held.the_field U C P F R Q V g e l g' g'' g''' k r).row _ _ (Held.the_type U C P F R Q V g e l g' g'' g''' k r).to_one
     (Send.struct_sync (Declared.shape (Held.the_type U C P F R Q V g e l g' g'' g''' k r)) (
@@ -83,7 +83,7 @@ object_sync U C P F R Q V g g' g'' e l g''' k r n s m t o p w v =
     Send.view_sync (Inside.the_row U C P F R Q V g g' g'' e l g''' k r) _ _ _ _
     (Send.recorded_sync (Inside.the_field U C P F R Q V g g' g'' e l g''' k r).row _ _ (Inside.the_type U C P F R Q V g g' g'' e l g''' k r).to_one
     (Send.struct_sync (Declared.shape (Inside.the_type U C P F R Q V g g' g'' e l g''' k r)) (
-      lock.the_field_sync (Hold.the_row U C P F R Q V g'' e l g g' g''' k r) (hold.the_send U C P F R Q V g'' e l g g' g''' k r n m w) (hold_sync U C P F R Q V g'' e l g g' g''' k r n s m t o p w v),
+      lock.the_field_sync (LockedCore.the_row U C P F R Q V g'' e l g g' g''' k r) (locked.the_send U C P F R Q V g'' e l g g' g''' k r n m w) (locked_sync U C P F R Q V g'' e l g g' g''' k r n s m t o p w v),
       (
         vec.the_sync Seat.the_row Global.the_row Heap.ghosts seat.the_sync global.the_sync,
         (
@@ -91,7 +91,7 @@ object_sync U C P F R Q V g g' g'' e l g''' k r n s m t o p w v =
           (
             division.the_field_sync P g',
             (
-              vec.the_sync (Spent.the_row V Q r) Global.the_row Heap.ghosts (search (sendable, spent.the_sync)) global.the_sync,
+              vec.the_sync (ClosedPass.the_row V Q r) Global.the_row Heap.ghosts (search (sendable, spent.the_sync)) global.the_sync,
               (
                 vec.the_sync _ Global.the_row Heap.ghosts (search sendable) global.the_sync,
                 tt,

@@ -2,7 +2,7 @@
 use Rattle.std.specs.Prelude.{ℕ, ◌≡◌, ◌≢◌, List}
 use Rattle.std.specs.declared.sync.ledger.Blank.{Blank}
 use Rattle.po_core.specs.Tickets.{CoreView}
-use Rattle.po_actions.specs.View.{next_place}
+use Rattle.po_core.specs.View.{next_place}
 use Rattle.po_receipts.specs.Passes.{PassView}
 use Rattle.po_object.specs.Seats.{IsMissing}
 use Rattle.po_object.specs.declared.fault.OpenFault.{OpenFault}
@@ -15,14 +15,14 @@ use Rattle.po_object.specs.declared.fault.CloseFault.TheVariants.{PassMissing}
 -- The core and the blanks are handed back. The fault is NotFresh exactly where the history has an event.
 abbrev pub HandsBack : {U R V : Type 0} → CoreView U V → Blank → Blank → OpenFault U R V → Type 0
 HandsBack core calls procedures (NotFresh c a b) =
-    (c ≡ core) × (a ≡ calls) × (b ≡ procedures) × (next_place core.object ≢ core.object.making.first_place)
+    (c ≡ core) × (a ≡ calls) × (b ≡ procedures) × (next_place core.object ≢ core.object.setup.first_place)
 HandsBack core calls procedures (OutOfMemory c a b) =
-    (c ≡ core) × (a ≡ calls) × (b ≡ procedures) × (next_place core.object ≡ core.object.making.first_place)
+    (c ≡ core) × (a ≡ calls) × (b ≡ procedures) × (next_place core.object ≡ core.object.setup.first_place)
 
 -- It is for this that no object is opened over the core.
 abbrev pub IsWhy : {S V : Type 0} → CoreView S V → Unopened → Type 0
-IsWhy core WasUsed = next_place core.object ≢ core.object.making.first_place
-IsWhy core WithoutMemory = next_place core.object ≡ core.object.making.first_place
+IsWhy core WasUsed = next_place core.object ≢ core.object.setup.first_place
+IsWhy core WithoutMemory = next_place core.object ≡ core.object.setup.first_place
 
 -- The object and the passes are handed back, with the lowest seat that hasn't exactly one pass.
 abbrev pub KeepsAll : {U C P F R Q V : Type 0} → ℕ → List (PassView V) → CloseFault U C P F R Q V → Type 0

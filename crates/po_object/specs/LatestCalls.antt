@@ -1,7 +1,7 @@
 -- What is known of the waiting calls of each seat by the call that it issued last (this project's own).
 use Rattle.std.specs.Prelude.{ℕ, ◌≡◌, ◌<◌, ◌==◌, List, Option, Some, false, All, length}
 use Rattle.std.specs.List.{slice_index_or}
-use Rattle.po_accepted.specs.Tickets.{number_at}
+use Rattle.po_engine.specs.Tickets.{number_at}
 use Rattle.po_core.specs.Tickets.{CoreView}
 use Rattle.po_object.specs.declared.latest.Latest.{Latest}
 use Rattle.po_object.specs.declared.latest.Latest.TheVariants.{Never, Only, Several}

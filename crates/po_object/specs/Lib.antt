@@ -1,9 +1,9 @@
-pub mod Filing
-pub mod Seats
-pub mod Holds
 pub mod Closing
+pub mod Faults
+pub mod Filing
+pub mod Holds
+pub mod LatestCalls
 pub mod Refused
 pub mod Replies
-pub mod Faults
-pub mod LatestCalls
 pub mod Reservations
+pub mod Seats

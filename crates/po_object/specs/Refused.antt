@@ -1,8 +1,8 @@
 -- Which refusals a call of an object may meet (this project's own). What lies behind the lock isn't known, but for the
 -- declarations of its entries, and whether the number of calls is fixed.
 use Rattle.std.specs.Prelude.{◌≡◌, ◌⊎◌, Bool, true, false, List, Some, None}
-use Rattle.po_index.specs.declared.decl.Decl.{Decl}
-use Rattle.po_index.specs.declared.decl.EntryRef.{EntryRef}
+use Rattle.po_unit.specs.declared.decl.Decl.{Decl}
+use Rattle.po_unit.specs.declared.decl.EntryRef.{EntryRef}
 use Rattle.po_core.specs.Refusals.{entry_refusal}
 use Rattle.po_core.specs.declared.refusal.Refusal.{Refusal}
 use Rattle.po_core.specs.declared.refusal.Refusal.TheVariants.{NoSuchOperation, Finalized, NumbersSpent, OutOfMemory}

@@ -2,13 +2,13 @@
 use Rattle.std.specs.Prelude.{ℕ, ◌≡◌, ◌<◌, List, None, Result, find, slice_index}
 use Rattle.po_unit.specs.Meaning.{Meaning}
 use Rattle.po_history.specs.declared.event.Event.TheVariants.{Tick}
-use Rattle.po_accepted.specs.Finding.{IsFound}
-use Rattle.po_accepted.specs.WaitingCalls.{is_of}
-use Rattle.po_actions.specs.declared.aborted.Aborted.{Aborted}
+use Rattle.po_engine.specs.Finding.{IsFound}
+use Rattle.po_engine.specs.WaitingCalls.{is_of}
+use Rattle.po_core.specs.declared.aborted.Aborted.{Aborted}
 use Rattle.po_engine.specs.ObjectState.{ObjectState, counts_in}
-use Rattle.po_actions.specs.ProtectedAction.{after_action, abort_answer}
+use Rattle.po_core.specs.ProtectedAction.{after_action, abort_answer}
 use Rattle.po_core.specs.Refusals.{finalized_refusal}
-use Rattle.po_actions.specs.View.{View}
+use Rattle.po_core.specs.View.{View}
 
 module _ {S V : Type 0} where
   -- what the function gives in some state of the unit that has it, by some numbers of queued calls (9.5.1)

@@ -1,6 +1,6 @@
--- The places in memory that are reserved for the next call of each free pass (this project's own).
+-- The room in memory that is reserved for the next call of each free pass (this project's own).
 use Rattle.std.specs.Prelude.{ℕ, ◌≡◌, ◌≤◌, ◌+◌, Bool, true, false, Option, Some, None}
-use Rattle.po_accepted.specs.Tickets.{uncollected}
+use Rattle.po_engine.specs.Tickets.{uncollected}
 use Rattle.po_receipts.specs.declared.asked.Asked.{Asked}
 use Rattle.po_core.specs.Tickets.{CoreView}
 
@@ -9,7 +9,7 @@ abbrev pub reserved : Bool → ℕ → Option ℕ
 reserved false n = None
 reserved true n = Some n
 
--- a pass without a pending call has a place reserved for its next one
+-- a pass without a pending call has room reserved for its next one
 abbrev pub reserved_for : {V : Type 0} → Bool → Option (Asked V) → Option ℕ
 reserved_for bounded None = reserved bounded 1
 reserved_for bounded (Some asked) = reserved bounded 0

@@ -7,12 +7,12 @@ ghost use Rattle.po_object.specs.Closing.{IsClosed};
 ghost use Rattle.po_receipts.specs.Answers.{HasClosingTotals, NonePending};
 
 use crate::fault::CloseFault;
-use crate::hold::{Hold, Pass};
-use crate::ledgers::{CallLedger, Division};
+use crate::ledgers::{CallLedger, SeatParts};
 use crate::object::Object;
+use crate::{LockedCore, Pass};
 use po_core::{Core, Record, Recorded, Unrecorded};
-use po_receipts::{Receipt, Receipts, Spent, none_pending};
-use po_trace::Trace;
+use po_history::Trace;
+use po_receipts::{ClosedPass, Receipt, Receipts, none_pending};
 use po_unit::Unit;
 use std::marker::Model;
 use std::sync::ledger::{Ledger, Share};
@@ -25,7 +25,7 @@ pub struct Closed<
     Q: Receipts<<U as Unit>::Value> = Vec<Receipt<<U as Unit>::Value>>,
 > {
     core: Core<U, R>,
-    passes: Vec<Spent<U::Value, Q>>,
+    passes: Vec<ClosedPass<U::Value, Q>>,
 }
 
 /// A closed object that took no memory for its calls.
@@ -50,7 +50,7 @@ impl<U: Unit, R: Record<U>, Q: Receipts<U::Value>> Closed<U, R, Q> {
     }
 
     /// The passes, by rising seat.
-    pub fn passes(&self) -> &[Spent<U::Value, Q>]
+    pub fn passes(&self) -> &[ClosedPass<U::Value, Q>]
         ensures { result.now ≡ self.now.passes }
     {
         self.passes.as_slice()
@@ -101,14 +101,14 @@ impl<U: Unit, C: CallLedger, P: Ledger, F: Ledger, R: Record<U>, Q: Receipts<U::
             });
         }
         let Object {
-            hold,
+            locked,
             seats: _seats,
             calls,
             procedures,
             room,
             counts: _counts,
         } = object;
-        let closed = gather(hold.into_inner(), room, passes, &calls, &procedures);
+        let closed = gather(locked.into_inner(), room, passes, &calls, &procedures);
         Ok(closed)
     }
 }
@@ -165,11 +165,11 @@ fn count_one(counts: &mut Vec<usize>, seat: u16)
 
 /// Takes the core out, with the passes by rising seat.
 fn gather<U: Unit, C: CallLedger, P: Ledger, F: Ledger, R: Record<U>, Q: Receipts<U::Value>>(
-    hold: Hold<U, C, P, F, R, Q>,
-    room: Vec<Spent<U::Value, Q>>,
+    locked: LockedCore<U, C, P, F, R, Q>,
+    room: Vec<ClosedPass<U::Value, Q>>,
     passes: Vec<Pass<U::Value, C, P, F, Q>>,
-    calls: &Division<C>,
-    procedures: &Division<P>,
+    calls: &SeatParts<C>,
+    procedures: &SeatParts<P>,
 ) -> Closed<U, R, Q>
     requires room { vec_len room ≡ calls.now.seats }
     requires seats { procedures.now.seats ≡ calls.now.seats }
@@ -178,7 +178,7 @@ fn gather<U: Unit, C: CallLedger, P: Ledger, F: Ledger, R: Record<U>, Q: Receipt
     ensures by_seat { AreBySeat calls.now.seats passes.items result.passes }
     ensures totals { HasClosingTotals result.core result.passes }
 {
-    let (core, mut calls_book, mut procedures_book, mut made, mut ran) = hold.take_apart();
+    let (core, mut calls_book, mut procedures_book, mut made, mut ran) = locked.take_apart();
     let _seats = procedures.seats;
     let spent = collect(calls.seats, room, passes, &mut made, &mut ran);
     calls_book.audit(&mut made);
@@ -192,11 +192,11 @@ fn gather<U: Unit, C: CallLedger, P: Ledger, F: Ledger, R: Record<U>, Q: Receipt
 /// Puts each pass into the room of its seat, and its parts of the ledgers to these.
 fn collect<V: Copy, C: Ledger, P: Ledger, F: Ledger, Q: Receipts<V>>(
     seats: u16,
-    room: Vec<Spent<V, Q>>,
+    room: Vec<ClosedPass<V, Q>>,
     passes: Vec<Pass<V, C, P, F, Q>>,
     made: &mut Share<C>,
     ran: &mut Share<P>,
-) -> Vec<Spent<V, Q>>
+) -> Vec<ClosedPass<V, Q>>
     requires room { vec_len room ≡ seats }
     requires parts { (made.old.parts ≡ 1) × (ran.old.parts ≡ 1) }
     requires bound { 1 ≤ C.parts }

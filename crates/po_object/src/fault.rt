@@ -1,6 +1,6 @@
 //! Why an object isn't opened, and why it isn't closed.
 
-use crate::hold::Pass;
+use crate::Pass;
 use crate::ledgers::CallLedger;
 use crate::object::Object;
 use po_core::{Core, Record, Recorded, Unrecorded};

@@ -1,14 +1,14 @@
 //! What is known of the waiting calls of each seat, so that the call of one is found without a walk over those of all.
 
 ghost use Rattle.std.specs.Prelude.{◌≡◌, ◌≢◌, ◌<◌, IfOk, IfSome, None, option_map, find, length, slice_set, true, false, if◌then◌else◌};
-ghost use Rattle.po_calls.specs.declared.end.Place.TheVariants.{Waiting};
-ghost use Rattle.po_accepted.specs.WaitingCalls.{is_of};
-ghost use Rattle.po_accepted.specs.Tickets.{is_live};
-ghost use Rattle.po_actions.specs.View.{IsInOnePlace};
-ghost use Rattle.po_core.specs.Tickets.{place_of_ticket};
+ghost use Rattle.po_calls.specs.declared.end.CallStatus.TheVariants.{Waiting};
+ghost use Rattle.po_engine.specs.WaitingCalls.{is_of};
+ghost use Rattle.po_engine.specs.Tickets.{is_live};
+ghost use Rattle.po_core.specs.View.{IsInOnePlace};
+ghost use Rattle.po_core.specs.Tickets.{status_of_ticket};
 ghost use Rattle.po_object.specs.LatestCalls.{latest_of, KnowsLatest, NoneIssued};
 
-use po_core::{Core, Place, Record, Ticket};
+use po_core::{CallStatus, Core, Record, Ticket};
 use po_unit::Unit;
 use std::alloc::{AllocError, Global};
 use std::marker::Model;
@@ -106,10 +106,10 @@ impl LatestCalls {
 
 /// Whether the call of the ticket waits.
 fn waits<U: Unit, R: Record<U>>(core: &Core<U, R>, ticket: Ticket) -> bool
-    ensures waits { result ≡ true → place_of_ticket core.now ticket ≡ Waiting }
-    ensures placed { IsInOnePlace core.now.object.making.first_number core.now.object.state }
-    ensures not { result ≡ false → place_of_ticket core.now ticket ≢ Waiting }
+    ensures waits { result ≡ true → status_of_ticket core.now ticket ≡ Waiting }
+    ensures placed { IsInOnePlace core.now.object.setup.first_number core.now.object.state }
+    ensures not { result ≡ false → status_of_ticket core.now ticket ≢ Waiting }
 {
     core.headline();
-    matches!(core.end_of(ticket), Place::Waiting)
+    matches!(core.end_of(ticket), CallStatus::Waiting)
 }

@@ -1,7 +1,7 @@
 //! The two ledgers of an object: of its accepted calls, and of its procedures.
 
 ghost use Rattle.std.specs.Prelude.{◌≡◌, ◌+◌, List, []};
-ghost use Rattle.po_index.specs.declared.decl.Decl.{Decl};
+ghost use Rattle.po_unit.specs.declared.decl.Decl.{Decl};
 
 use std::marker::{Brand, PhantomData};
 use std::sync::ledger::Ledger;
@@ -18,7 +18,7 @@ impl CallLedger for Brand {
 
 /// That a ledger is cut into a part for each seat, and one more, which the object keeps.
 #[derive(Drop)]
-pub struct Division<L: Ledger> {
+pub struct SeatParts<L: Ledger> {
     /// How many seats there are.
     pub seats: u16,
     /// The ledger.

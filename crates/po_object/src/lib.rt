@@ -3,9 +3,9 @@
 
 mod closing;
 mod fault;
-pub mod hold;
 mod latest;
 pub mod ledgers;
+mod locked_core;
 mod object;
 mod opening;
 mod pass;
@@ -16,6 +16,8 @@ pub mod seat;
 pub use closing::{BoundedClosed, Closed};
 pub use fault::{BoundedOpenFault, CloseFault, OpenFault};
 pub use ledgers::CallLedger;
+pub use locked_core::{BoundedLockedCore, Hold, LockedCore};
 pub use object::{BoundedObject, Object};
-pub use po_receipts::{Agreed, Asked, Receipt, Receipts, ReconcileFault, Spent};
+pub use pass::{BoundedPass, Pass};
+pub use po_receipts::{Agreed, Asked, ClosedPass, Receipt, Receipts, ReconcileFault, Spent};
 pub use reconciliation::{every_answer, reconcile};

@@ -1,9 +1,9 @@
 //! An object that threads share: its core behind a lock, and where the callers of its seats wait.
 
 ghost use Rattle.std.specs.Prelude.{◌≡◌, ◌+◌, ◌≤◌, None, Some, IfOk, IfErr, IfSome, OnOk, OnErr, IsSome};
-ghost use Rattle.po_index.specs.Numbering.{flat_number};
+ghost use Rattle.po_unit.specs.Numbering.{flat_number};
 ghost use Rattle.po_calls.specs.declared.call.Deadline.TheVariants.{Never, At};
-ghost use Rattle.po_actions.specs.Commands.{entry_of};
+ghost use Rattle.po_core.specs.Commands.{entry_of};
 ghost use Rattle.po_core.specs.Refusals.{entry_refusal, if_unindexed};
 ghost use Rattle.po_core.specs.declared.refusal.Refusal.{Refusal};
 ghost use Rattle.po_receipts.specs.Answers.{AskedBySeats};
@@ -11,15 +11,14 @@ ghost use Rattle.po_object.specs.Filing.{IsFinished, IsCalled, running};
 ghost use Rattle.po_object.specs.Replies.{IsFunctionReply, IsProcedureReply, IsTickReply, IsFinalReply, IsAbortReply, IsCountReply};
 ghost use Rattle.po_object.specs.Refused.{IsCallRefusal, IsProcedureRefusal, IsFunctionRefusal, IsTickRefusal, IsCutRefusal};
 
-use crate::hold::{Hold, Pass};
-use crate::ledgers::{CallLedger, Division};
+use crate::ledgers::{CallLedger, SeatParts};
 use crate::seat::{Seat, Sleepers};
+use crate::{LockedCore, Pass};
 use crossbeam_utils::Backoff;
-use po_core::{Aborted, Deadline, End, Place, Record, Recorded, Refusal, Unrecorded, Volume};
-use po_index::EntryRef;
-use po_receipts::{Receipt, Receipts, Spent};
-use po_trace::Trace;
-use po_unit::Unit;
+use po_core::{Aborted, CallStatus, Deadline, End, Record, Recorded, Refusal, Unrecorded, Volume};
+use po_history::Trace;
+use po_receipts::{ClosedPass, Receipt, Receipts};
+use po_unit::{EntryRef, Unit};
 use std::marker::Model;
 use std::sync::ledger::Ledger;
 use std::sync::{RwLock, RwLockReadGuard, RwLockWriteGuard, Wait};
@@ -31,7 +30,7 @@ const TRIES: u32 = 64;
 /// A protected object (9.4) that any number of threads call. Contracts see it as its number of seats.
 ///
 /// Each call takes the lock for one command of the core, and holds nothing while its caller waits. Functions are read side by
-/// side (9.5.1). Who ends calls of others tells the waiting places of their seats, and of no one else.
+/// side (9.5.1). Who ends calls of others tells their seats, and no one else.
 #[derive(Drop)]
 pub struct Object<
     U: Unit,
@@ -41,11 +40,11 @@ pub struct Object<
     R: Record<U> = Recorded<U>,
     Q: Receipts<<U as Unit>::Value> = Vec<Receipt<<U as Unit>::Value>>,
 > {
-    pub(crate) hold: RwLock<Hold<U, C, P, F, R, Q>>,
+    pub(crate) locked: RwLock<LockedCore<U, C, P, F, R, Q>>,
     pub(crate) seats: Vec<Seat>,
-    pub(crate) calls: Division<C>,
-    pub(crate) procedures: Division<P>,
-    pub(crate) room: Vec<Spent<U::Value, Q>>,
+    pub(crate) calls: SeatParts<C>,
+    pub(crate) procedures: SeatParts<P>,
+    pub(crate) room: Vec<ClosedPass<U::Value, Q>>,
     pub(crate) counts: Vec<usize>,
 }
 
@@ -86,15 +85,15 @@ impl<U: Unit + Drop, C: CallLedger, P: Ledger, F: Ledger, Q: Receipts<U::Value>>
 > {
     /// Cuts the history, as `Core::cut` does.
     ///
-    /// Refused 8 and 9, also on a finalized object.
+    /// Refused as `NumbersSpent` and `OutOfMemory`, also on a finalized object.
     pub fn cut<W: Wait>(&self, rt: &W) -> Result<Volume<U::Value>, Refusal>
         // Seats of this object alone asked for the calls and procedures that are in the volume.
         ensures asked { IfOk result (λ volume. AskedBySeats self.now volume.events) }
         ensures refused { IfErr result IsCutRefusal }
     {
         self.recall_parts();
-        let mut hold = self.change(rt);
-        let volume = hold.cut()?;
+        let mut locked = self.change(rt);
+        let volume = locked.cut()?;
         Ok(volume)
     }
 }
@@ -189,10 +188,10 @@ impl<U: Unit, C: CallLedger, P: Ledger, F: Ledger, R: Record<U>, Q: Receipts<U::
         ensures refused { IfErr result (IsProcedureRefusal R.is_bounded) }
         ensures unchanged { OnErr result (pass.new ≡ pass.old) }
     {
-        let mut hold = self.change(rt);
-        let reply = hold.run(pass, op, value)?;
-        let sleepers = self.tell(&hold, Some(pass.seat()));
-        drop(hold);
+        let mut locked = self.change(rt);
+        let reply = locked.run(pass, op, value)?;
+        let sleepers = self.tell(&locked, Some(pass.seat()));
+        drop(locked);
         self.wake(&sleepers);
         Ok(reply)
     }
@@ -220,10 +219,10 @@ impl<U: Unit, C: CallLedger, P: Ledger, F: Ledger, R: Record<U>, Q: Receipts<U::
         ensures reply { IfOk result (λ clock. IsTickReply U.meaning t clock) }
         ensures refused { IfErr result (IsTickRefusal R.is_bounded) }
     {
-        let mut hold = self.change(rt);
-        let clock = hold.tick(t)?;
-        let sleepers = self.tell(&hold, None);
-        drop(hold);
+        let mut locked = self.change(rt);
+        let clock = locked.tick(t)?;
+        let sleepers = self.tell(&locked, None);
+        drop(locked);
         self.wake(&sleepers);
         Ok(clock)
     }
@@ -235,25 +234,25 @@ impl<U: Unit, C: CallLedger, P: Ledger, F: Ledger, R: Record<U>, Q: Receipts<U::
         ensures reply { OnOk result (IsFinalReply U.meaning) }
         ensures refused { IfErr result (λ r. r ≡ Refusal.Finalized) }
     {
-        let mut hold = self.change(rt);
-        hold.finalize()?;
-        let sleepers = self.tell(&hold, None);
-        drop(hold);
+        let mut locked = self.change(rt);
+        locked.finalize()?;
+        let sleepers = self.tell(&locked, None);
+        drop(locked);
         self.wake(&sleepers);
         Ok(())
     }
 
     /// Attempts to cancel the seat's earliest queued call (9.5.3, 9.5.4). No memory is taken.
     ///
-    /// Refused 10, where no call of the seat is queued.
+    /// Refused as `NoCall`, where no call of the seat is queued.
     pub fn abort_seat<W: Wait>(&self, rt: &W, seat: u16) -> Result<Aborted, Refusal>
         ensures reply { IfOk result (λ aborted. IsAbortReply U.meaning seat aborted) }
         ensures refused { IfErr result (λ r. r ≡ Refusal.NoCall) }
     {
-        let mut hold = self.change(rt);
-        let aborted = hold.abort_seat(seat)?;
-        let sleepers = self.tell(&hold, None);
-        drop(hold);
+        let mut locked = self.change(rt);
+        let aborted = locked.abort_seat(seat)?;
+        let sleepers = self.tell(&locked, None);
+        drop(locked);
         self.wake(&sleepers);
         Ok(aborted)
     }
@@ -267,8 +266,8 @@ impl<U: Unit, C: CallLedger, P: Ledger, F: Ledger, R: Record<U>, Q: Receipts<U::
         ensures allowed { IfOk result (λ count. IsSome count → if_unindexed (flat_number C.shape entry) None ≡ None) }
         ensures refused { IfErr result (λ r. if_unindexed (flat_number C.shape entry) None ≡ Some r) }
     {
-        match self.hold.try_read() {
-            Some(hold) => Ok(Some(hold.core().count(entry)?)),
+        match self.locked.try_read() {
+            Some(locked) => Ok(Some(locked.core().count(entry)?)),
             None => Ok(None),
         }
     }
@@ -281,20 +280,20 @@ impl<U: Unit, C: CallLedger, P: Ledger, F: Ledger, R: Record<U>, Q: Receipts<U::
     }
 
     /// Takes the lock for a change. It is tried for several times before it is waited for, since sleeping is dear.
-    fn change<W: Wait>(&self, rt: &W) -> RwLockWriteGuard<'_, Hold<U, C, P, F, R, Q>> {
+    fn change<W: Wait>(&self, rt: &W) -> RwLockWriteGuard<'_, LockedCore<U, C, P, F, R, Q>> {
         let backoff = Backoff::new();
         for _ in 0..TRIES {
-            if let Some(hold) = self.hold.try_write() {
-                return hold;
+            if let Some(locked) = self.locked.try_write() {
+                return locked;
             }
             backoff.snooze();
         }
-        self.hold.write(rt)
+        self.locked.write(rt)
     }
 
     /// Takes the lock for a look.
-    fn look<W: Wait>(&self, rt: &W) -> RwLockReadGuard<'_, Hold<U, C, P, F, R, Q>> {
-        self.hold.read(rt)
+    fn look<W: Wait>(&self, rt: &W) -> RwLockReadGuard<'_, LockedCore<U, C, P, F, R, Q>> {
+        self.locked.read(rt)
     }
 
     /// Issues a call, and waits for its end.
@@ -312,16 +311,16 @@ impl<U: Unit, C: CallLedger, P: Ledger, F: Ledger, R: Record<U>, Q: Receipts<U::
         ensures refused { IfErr result (IsCallRefusal R.is_bounded C.shape entry) }
         ensures unchanged { OnErr result (pass.new ≡ pass.old) }
     {
-        let mut hold = self.change(rt);
-        hold.begin(pass, entry, value, deadline)?;
-        let sleepers = self.tell(&hold, Some(pass.seat()));
-        if let Some(end) = hold.finish(pass) {
-            drop(hold);
+        let mut locked = self.change(rt);
+        locked.begin(pass, entry, value, deadline)?;
+        let sleepers = self.tell(&locked, Some(pass.seat()));
+        if let Some(end) = locked.finish(pass) {
+            drop(locked);
             self.wake(&sleepers);
             return Ok(end);
         }
         self.stay(pass.seat());
-        drop(hold);
+        drop(locked);
         self.wake(&sleepers);
         Ok(self.wait(rt, pass))
     }
@@ -338,8 +337,8 @@ impl<U: Unit, C: CallLedger, P: Ledger, F: Ledger, R: Record<U>, Q: Receipts<U::
                     continue;
                 }
             }
-            let mut hold = self.change(rt);
-            if let Some(end) = hold.finish(pass) {
+            let mut locked = self.change(rt);
+            if let Some(end) = locked.finish(pass) {
                 return end;
             }
         }
@@ -349,19 +348,22 @@ impl<U: Unit, C: CallLedger, P: Ledger, F: Ledger, R: Record<U>, Q: Receipts<U::
     /// Whether the pending call has ended.
     fn has_ended<W: Wait>(&self, rt: &W, pass: &Pass<U::Value, C, P, F, Q>) -> bool {
         match pass.asked() {
-            Some(asked) => matches!(self.look(rt).core().end_of(asked.ticket), Place::Ended(_)),
+            Some(asked) => matches!(
+                self.look(rt).core().end_of(asked.ticket),
+                CallStatus::Ended(_)
+            ),
             None => false,
         }
     }
 
-    /// Says at the seat's waiting place that its call waits.
+    /// Says at the seat that its call waits.
     fn stay(&self, seat: u16) {
         if let Some(there) = self.seats.get(seat as usize) {
             there.wait();
         }
     }
 
-    /// Looks for a while at the seat's waiting place whether its call has ended.
+    /// Looks for a while at the seat whether its call has ended.
     fn look_for_end(&self, seat: u16) -> bool {
         match self.seats.get(seat as usize) {
             Some(there) => there.look(),
@@ -369,10 +371,10 @@ impl<U: Unit, C: CallLedger, P: Ledger, F: Ledger, R: Record<U>, Q: Receipts<U::
         }
     }
 
-    /// Tells the waiting places of the calls that this hold ended, but for the caller's own, and answers who sleeps there.
-    fn tell(&self, hold: &Hold<U, C, P, F, R, Q>, own: Option<u16>) -> Sleepers {
+    /// Tells the seats of the calls that this hold ended, but for the caller's own, and answers who sleeps there.
+    fn tell(&self, locked: &LockedCore<U, C, P, F, R, Q>, own: Option<u16>) -> Sleepers {
         let mut sleepers = Sleepers::new();
-        for ended in hold.core().ended_now() {
+        for ended in locked.core().ended_now() {
             if Some(ended.owner) != own {
                 self.tell_one(ended.owner, &mut sleepers);
             }
@@ -380,7 +382,7 @@ impl<U: Unit, C: CallLedger, P: Ledger, F: Ledger, R: Record<U>, Q: Receipts<U::
         sleepers
     }
 
-    /// Tells the seat's waiting place that its call has ended.
+    /// Tells the seat that its call has ended.
     fn tell_one(&self, seat: u16, sleepers: &mut Sleepers) {
         if let Some(there) = self.seats.get(seat as usize) {
             if there.end() && !sleepers.add(seat) {

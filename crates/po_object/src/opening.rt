@@ -1,22 +1,22 @@
 //! How an object is opened.
 
 ghost use Rattle.std.specs.Prelude.{◌≡◌, ◌≢◌, ◌+◌, ◌≤◌, [], true, false, IfOk, IfErr, IfSome, OnOk, MatchResult, is_some, option_map, vec_len, vec_capacity};
-ghost use Rattle.po_actions.specs.View.{next_place};
+ghost use Rattle.po_core.specs.View.{next_place};
 ghost use Rattle.po_object.specs.Seats.{AreFresh};
 ghost use Rattle.po_object.specs.Faults.{HandsBack, IsWhy};
 ghost use Rattle.po_object.specs.LatestCalls.{NoneIssued};
 ghost use Rattle.po_object.specs.Reservations.{reserved};
 
 use crate::fault::{BoundedOpenFault, OpenFault};
-use crate::hold::{Hold, Pass};
 use crate::latest::LatestCalls;
-use crate::ledgers::{CallLedger, Division};
+use crate::ledgers::{CallLedger, SeatParts};
 use crate::object::Object;
 use crate::reservation::{Reservations, Unreserved};
 use crate::seat::Seat;
+use crate::{LockedCore, Pass};
 use crossbeam_utils::sync::Parker;
 use po_core::{Core, Record};
-use po_receipts::{Receipts, Spent};
+use po_receipts::{ClosedPass, Receipts};
 use po_unit::Unit;
 use std::alloc::{AllocError, Global};
 use std::marker::PhantomData;
@@ -44,16 +44,16 @@ impl<U: Unit, C: CallLedger, P: Ledger, F: Ledger, R: Record<U>, Q: Receipts<U::
         // Each ledger has a part for each seat, and one for the object.
         requires calls { (calls.name ≡ C.name) × (calls.parts ≡ C.parts) × (calls.parts ≡ seats + 1) }
         requires procedures { (procedures.name ≡ P.name) × (procedures.parts ≡ P.parts) × (procedures.parts ≡ seats + 1) }
-        requires shape { core.object.making.shape ≡ C.shape }
+        requires shape { core.object.setup.shape ≡ C.shape }
         // Memory is taken for each call.
         requires unbounded { (Q.is_bounded ≡ false) × (R.is_bounded ≡ false) }
         ensures seats { IfOk result (λ r. r.0 ≡ seats) }
         ensures fresh { IfOk result (λ r. AreFresh seats r.1.items) }
-        ensures core { OnOk result (next_place core.object ≡ core.object.making.first_place) }
+        ensures core { OnOk result (next_place core.object ≡ core.object.setup.first_place) }
         ensures fault { IfErr result (λ fault. HandsBack core calls procedures fault) }
     {
         core.recall_kind();
-        match Places::make(alloc, &core, seats) {
+        match Prepared::make(alloc, &core, seats) {
             Ok(places) => {
                 let free = Reservations::without();
                 Ok(open_over(alloc, core, seats, calls, procedures, free, places))
@@ -78,16 +78,16 @@ impl<U: Unit, C: CallLedger, P: Ledger, F: Ledger, R: Record<U>, Q: Receipts<U::
         requires calls { (calls.name ≡ C.name) × (calls.parts ≡ C.parts) × (calls.parts ≡ seats + 1) }
         requires procedures { (procedures.name ≡ P.name) × (procedures.parts ≡ P.parts) × (procedures.parts ≡ seats + 1) }
         requires free { (free.name ≡ F.name) × (free.parts ≡ F.parts) × (free.parts ≡ seats + 1) }
-        requires shape { core.object.making.shape ≡ C.shape }
+        requires shape { core.object.setup.shape ≡ C.shape }
         // All memory was taken before, and there is some for a call of each seat.
         requires bounded { (Q.is_bounded ≡ true) × (R.is_bounded ≡ true) }
         requires room { IfSome core.capacity (λ most. seats ≤ most) }
         ensures seats { IfOk result (λ r. r.0 ≡ seats) }
         ensures fresh { IfOk result (λ r. AreFresh seats r.1.items) }
-        ensures core { OnOk result (next_place core.object ≡ core.object.making.first_place) }
+        ensures core { OnOk result (next_place core.object ≡ core.object.setup.first_place) }
         ensures fault { IfErr result (λ fault. HandsBack core calls procedures fault.fault × (fault.free ≡ free)) }
     {
-        match Places::make(alloc, &core, seats) {
+        match Prepared::make(alloc, &core, seats) {
             Ok(places) => {
                 let free = Reservations::open(free);
                 Ok(open_over(alloc, core, seats, calls, procedures, free, places))
@@ -128,13 +128,13 @@ impl Unopened {
 }
 
 /// What an opening takes memory for.
-struct Places<V: Copy, C: Ledger, P: Ledger, F: Ledger, Q: Receipts<V>> {
-    /// The callers' ends of the waiting places, those of the highest seats first.
+struct Prepared<V: Copy, C: Ledger, P: Ledger, F: Ledger, Q: Receipts<V>> {
+    /// What the callers sleep on, those of the highest seats first.
     parkers: Vec<Parker>,
     /// The object's ends.
     places: Vec<Seat>,
     /// Room for the spent passes.
-    room: Vec<Spent<V, Q>>,
+    room: Vec<ClosedPass<V, Q>>,
     /// Room for how many passes each seat has.
     counts: Vec<usize>,
     /// Room for the passes.
@@ -143,14 +143,14 @@ struct Places<V: Copy, C: Ledger, P: Ledger, F: Ledger, Q: Receipts<V>> {
     latest: LatestCalls,
 }
 
-impl<V: Copy, C: Ledger, P: Ledger, F: Ledger, Q: Receipts<V>> Places<V, C, P, F, Q> {
+impl<V: Copy, C: Ledger, P: Ledger, F: Ledger, Q: Receipts<V>> Prepared<V, C, P, F, Q> {
     /// Takes all memory that an object with so many seats over this core needs, if the core has no event.
     fn make<U: Unit, R: Record<U>>(
         alloc: Global,
         core: &Core<U, R>,
         seats: u16,
-    ) -> Result<Places<V, C, P, F, Q>, Unopened>
-        ensures fresh { OnOk result (next_place core.now.object ≡ core.now.object.making.first_place) }
+    ) -> Result<Prepared<V, C, P, F, Q>, Unopened>
+        ensures fresh { OnOk result (next_place core.now.object ≡ core.now.object.setup.first_place) }
         ensures parkers { IfOk result (λ p. vec_len p.parkers ≡ seats) }
         ensures places { IfOk result (λ p. vec_len p.places ≡ seats) }
         ensures room { IfOk result (λ p. (vec_len p.room ≡ seats) × (vec_len p.counts ≡ seats)) }
@@ -162,7 +162,7 @@ impl<V: Copy, C: Ledger, P: Ledger, F: Ledger, Q: Receipts<V>> Places<V, C, P, F
         if core.place() != u128::from(core.first_place()) {
             return Err(Unopened::NotFresh);
         }
-        let Ok(places) = make_places(alloc, seats) else {
+        let Ok(places) = prepare(alloc, seats) else {
             return Err(Unopened::OutOfMemory);
         };
         Ok(places)
@@ -170,10 +170,10 @@ impl<V: Copy, C: Ledger, P: Ledger, F: Ledger, Q: Receipts<V>> Places<V, C, P, F
 }
 
 /// Takes all memory that an object with so many seats needs.
-fn make_places<V: Copy, C: Ledger, P: Ledger, F: Ledger, Q: Receipts<V>>(
+fn prepare<V: Copy, C: Ledger, P: Ledger, F: Ledger, Q: Receipts<V>>(
     alloc: Global,
     seats: u16,
-) -> Result<Places<V, C, P, F, Q>, AllocError>
+) -> Result<Prepared<V, C, P, F, Q>, AllocError>
     ensures parkers { IfOk result (λ p. vec_len p.parkers ≡ seats) }
     ensures places { IfOk result (λ p. vec_len p.places ≡ seats) }
     ensures room { IfOk result (λ p. (vec_len p.room ≡ seats) × (vec_len p.counts ≡ seats)) }
@@ -191,11 +191,11 @@ fn make_places<V: Copy, C: Ledger, P: Ledger, F: Ledger, Q: Receipts<V>>(
         let parker = Parker::new(alloc)?;
         places.push(Seat::new(parker.unparker().clone()?))?;
         parkers.push(parker)?;
-        room.push(Spent::new(0, 0, 0, None, Q::none(alloc)))?;
+        room.push(ClosedPass::new(0, 0, 0, None, Q::none(alloc)))?;
         counts.push(0)?;
     }
     parkers.reverse();
-    Ok(Places {
+    Ok(Prepared {
         parkers,
         places,
         room,
@@ -213,12 +213,12 @@ fn open_over<U: Unit, C: CallLedger, P: Ledger, F: Ledger, R: Record<U>, Q: Rece
     calls: Blank,
     procedures: Blank,
     free: (Reservations<F>, Unreserved<F>),
-    places: Places<U::Value, C, P, F, Q>,
+    places: Prepared<U::Value, C, P, F, Q>,
 ) -> (Object<U, C, P, F, R, Q>, Vec<Pass<U::Value, C, P, F, Q>>)
-    requires fresh { next_place core.object ≡ core.object.making.first_place }
+    requires fresh { next_place core.object ≡ core.object.setup.first_place }
     requires calls { (calls.name ≡ C.name) × (calls.parts ≡ C.parts) × (calls.parts ≡ seats + 1) }
     requires procedures { (procedures.name ≡ P.name) × (procedures.parts ≡ P.parts) × (procedures.parts ≡ seats + 1) }
-    requires shape { core.object.making.shape ≡ C.shape }
+    requires shape { core.object.setup.shape ≡ C.shape }
     requires bounded { Q.is_bounded ≡ R.is_bounded }
     requires free { (free.0 ≡ reserved Q.is_bounded 0) × (free.1 ≡ reserved Q.is_bounded (seats + 1)) }
     requires capacity { IfSome core.capacity (λ most. seats ≤ most) }
@@ -230,7 +230,7 @@ fn open_over<U: Unit, C: CallLedger, P: Ledger, F: Ledger, R: Record<U>, Q: Rece
     ensures seats { result.0 ≡ seats }
     ensures fresh { AreFresh seats result.1.items }
 {
-    let Places {
+    let Prepared {
         parkers,
         places,
         room,
@@ -251,7 +251,7 @@ fn open_over<U: Unit, C: CallLedger, P: Ledger, F: Ledger, R: Record<U>, Q: Rece
         &mut reservations,
         &mut unreserved,
     );
-    let hold = Hold::new(
+    let locked = LockedCore::new(
         core,
         calls,
         procedures,
@@ -260,15 +260,15 @@ fn open_over<U: Unit, C: CallLedger, P: Ledger, F: Ledger, R: Record<U>, Q: Rece
         last_procedures,
         latest,
     );
-    (object_over(hold, seats, places, room, counts), passes)
+    (object_over(locked, seats, places, room, counts), passes)
 }
 
-/// An object with this value behind its lock, these waiting places, and the room that its closing needs.
+/// An object with this value behind its lock, these seats, and the room that its closing needs.
 fn object_over<U: Unit, C: CallLedger, P: Ledger, F: Ledger, R: Record<U>, Q: Receipts<U::Value>>(
-    hold: Hold<U, C, P, F, R, Q>,
+    locked: LockedCore<U, C, P, F, R, Q>,
     seats: u16,
     places: Vec<Seat>,
-    room: Vec<Spent<U::Value, Q>>,
+    room: Vec<ClosedPass<U::Value, Q>>,
     counts: Vec<usize>,
 ) -> Object<U, C, P, F, R, Q>
     requires calls { C.parts ≡ seats + 1 }
@@ -278,13 +278,13 @@ fn object_over<U: Unit, C: CallLedger, P: Ledger, F: Ledger, R: Record<U>, Q: Re
     ensures { result ≡ seats }
 {
     Object {
-        hold: RwLock::new(hold),
+        locked: RwLock::new(locked),
         seats: places,
-        calls: Division {
+        calls: SeatParts {
             seats,
             of: PhantomData,
         },
-        procedures: Division {
+        procedures: SeatParts {
             seats,
             of: PhantomData,
         },
@@ -318,13 +318,13 @@ fn hand_out<V: Copy, C: Ledger, P: Ledger, F: Ledger, Q: Receipts<V>>(
     let mut parkers = parkers;
     let mut passes = room;
     for seat in 0..seats {
-        let Some(place) = parkers.pop() else {
+        let Some(parker) = parkers.pop() else {
             unreachable!()
         };
         let made = last_calls.split_off(1, 0);
         let ran = last_procedures.split_off(1, 0);
         let own = reservations.reserve(unreserved);
-        passes.push_reserved(Pass::new(seat, made, ran, own, place, alloc));
+        passes.push_reserved(Pass::new(seat, made, ran, own, parker, alloc));
     }
     passes
 }

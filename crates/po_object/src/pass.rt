@@ -6,8 +6,8 @@ ghost use Rattle.po_object.specs.Reservations.{reserved};
 
 use crate::reservation::Reservation;
 use crossbeam_utils::sync::Parker;
-use po_receipts::{Asked, Receipt, Receipts, Spent};
-use po_trace::Trace;
+use po_history::Trace;
+use po_receipts::{Asked, ClosedPass, Receipt, Receipts};
 use std::alloc::Global;
 use std::marker::Model;
 use std::sync::Wait;
@@ -25,7 +25,7 @@ pub struct Pass<V: Copy, C: Ledger, P: Ledger, F: Ledger = C, Q: Receipts<V> = V
     pub(crate) reservation: Reservation<F>,
     pub(crate) pending: Option<Asked<V>>,
     pub(crate) receipts: Q,
-    pub(crate) place: Parker,
+    pub(crate) parker: Parker,
 }
 
 /// A pass whose receipts are known to proofs alone.
@@ -68,7 +68,7 @@ impl<V: Copy, C: Ledger, P: Ledger, F: Ledger, Q: Receipts<V>> Pass<V, C, P, F, 
         made: Share<C>,
         ran: Share<P>,
         reservation: Reservation<F>,
-        place: Parker,
+        parker: Parker,
         alloc: Global,
     ) -> Pass<V, C, P, F, Q>
         requires parts { (made.parts ≡ 1) × (ran.parts ≡ 1) }
@@ -87,7 +87,7 @@ impl<V: Copy, C: Ledger, P: Ledger, F: Ledger, Q: Receipts<V>> Pass<V, C, P, F, 
             reservation,
             pending: None,
             receipts: Q::none(alloc),
-            place,
+            parker,
         }
     }
 
@@ -134,7 +134,7 @@ impl<V: Copy, C: Ledger, P: Ledger, F: Ledger, Q: Receipts<V>> Pass<V, C, P, F, 
     }
 
     /// Puts the pass's parts of the ledgers to these, and keeps the rest.
-    pub(crate) fn spend(self, made: &mut Share<C>, ran: &mut Share<P>) -> Spent<V, Q>
+    pub(crate) fn spend(self, made: &mut Share<C>, ran: &mut Share<P>) -> ClosedPass<V, Q>
         ensures same { result ≡ self }
         ensures calls { (made.new.parts ≡ made.old.parts + 1) × (made.new.amount ≡ made.old.amount + self.calls) }
         ensures procedures { (ran.new.parts ≡ ran.old.parts + 1) × (ran.new.amount ≡ ran.old.amount + self.procedures) }
@@ -149,16 +149,16 @@ impl<V: Copy, C: Ledger, P: Ledger, F: Ledger, Q: Receipts<V>> Pass<V, C, P, F, 
             reservation: _reservation,
             pending,
             receipts,
-            place: _place,
+            parker: _parker,
         } = self;
         made.merge(own_made);
         ran.merge(own_ran);
-        Spent::new(seat, calls, procedures, pending, receipts)
+        ClosedPass::new(seat, calls, procedures, pending, receipts)
     }
 
-    /// Sleeps until the seat's waiting place is told, or for no reason.
+    /// Sleeps until the seat is told, or for no reason.
     pub(crate) fn sleep<W: Wait>(&self, rt: &W) {
-        self.place.park(rt);
+        self.parker.park(rt);
     }
 }
 

@@ -2,7 +2,7 @@
 
 ghost use Rattle.std.specs.Prelude.{◌≡◌, ◌⊎◌, ◌↔◌, [], IsOk};
 ghost use Rattle.po_engine.specs.ObjectState.{opening_state};
-ghost use Rattle.po_actions.specs.Cutting.{AreVolumes, Leads};
+ghost use Rattle.po_core.specs.Cutting.{AreVolumes, Leads};
 ghost use Rattle.po_receipts.specs.Agreement.{IsAgreed, IsFaultOf, history_of};
 ghost use Rattle.po_receipts.specs.Answers.{AnswersAreOwn, HasNoOthers, NonePending};
 ghost use Rattle.po_receipts.specs.declared.fault.ReconcileFault.{ReconcileFault as Fault};
@@ -41,8 +41,8 @@ pub fn every_answer<U: Unit>(closed: &Closed<U>, volumes: &[Volume<U::Value>])
     // The volumes, or none, are the history before the base.
     ensures volumes { AreVolumes U.meaning closed.now.core.object volumes.now }
     // The whole history replays from the opening as serial protected actions of one thread, and the calls end so.
-    ensures serial { Leads U.meaning closed.now.core.object.making (history_of closed.now.core volumes.now)
-        (opening_state closed.now.core.object.making.opening closed.now.core.object.making.first_number) closed.now.core.object.state }
+    ensures serial { Leads U.meaning closed.now.core.object.setup (history_of closed.now.core volumes.now)
+        (opening_state closed.now.core.object.setup.opening closed.now.core.object.setup.first_number) closed.now.core.object.state }
     ensures none_other { HasNoOthers (history_of closed.now.core volumes.now) closed.now.passes }
     ensures none_pending { NonePending closed.now.passes }
 {

@@ -1,4 +1,4 @@
-//! The places in memory that are reserved for the next call of each free pass.
+//! The room in memory that is reserved for the next call of each free pass.
 
 ghost use Rattle.std.specs.Prelude.{◌≡◌, ◌+◌, ◌<◌, ◌≤◌, Some, None, IfSome, is_some, option_map};
 ghost use Rattle.po_object.specs.Reservations.{reserved};
@@ -6,7 +6,7 @@ ghost use Rattle.po_object.specs.Reservations.{reserved};
 use std::marker::Model;
 use std::sync::ledger::{Blank, Book, Ledger, Share};
 
-/// How many passes have a place in memory reserved for their next call. Contracts see it as that number, where the number of
+/// How many passes have room in memory reserved for their next call. Contracts see it as that number, where the number of
 /// calls is fixed; else memory is taken for each call, and nothing is reserved.
 #[derive(Drop)]
 pub(crate) struct Reservations<F: Ledger> {
@@ -21,7 +21,7 @@ impl<F: Ledger> Model for Reservations<F> {
     ghost view = { λ r. mapped (λ b. b.total) r.book };
 }
 
-/// Whether a pass has a place reserved for its next call. Contracts see it as 1 or 0, where the number of calls is fixed.
+/// Whether a pass has room reserved for its next call. Contracts see it as 1 or 0, where the number of calls is fixed.
 #[derive(Drop)]
 pub(crate) struct Reservation<F: Ledger> {
     share: Option<Share<F>>,
@@ -71,7 +71,7 @@ impl<F: Ledger> Reservations<F> {
         (none, Unreserved { share: Some(share) })
     }
 
-    /// A place is reserved for one pass more.
+    /// Room is reserved for one pass more.
     pub(crate) fn reserve(&mut self, rest: &mut Unreserved<F>) -> Reservation<F>
         requires both { is_some rest.old ≡ is_some self.old }
         requires left { IfSome rest.old (λ parts. 1 < parts) }
@@ -89,7 +89,7 @@ impl<F: Ledger> Reservations<F> {
         Reservation { share: None }
     }
 
-    /// The pass's place is one of them.
+    /// The pass's room is part of it.
     pub(crate) fn audit(&mut self, own: &mut Reservation<F>)
         requires { own.old ≡ option_map (λ _. 1) self.old }
         ensures same { (self.new ≡ self.old) × (own.new ≡ own.old) }
@@ -102,7 +102,7 @@ impl<F: Ledger> Reservations<F> {
         }
     }
 
-    /// The pass's place is used.
+    /// The pass's room is used.
     pub(crate) fn take(&mut self, own: &mut Reservation<F>)
         requires { own.old ≡ option_map (λ _. 1) self.old }
         ensures total { self.old ≡ option_map (λ n. n + 1) self.new }
@@ -116,7 +116,7 @@ impl<F: Ledger> Reservations<F> {
         }
     }
 
-    /// A place is reserved for the pass again.
+    /// Room is reserved for the pass again.
     pub(crate) fn give(&mut self, own: &mut Reservation<F>)
         requires { own.old ≡ option_map (λ _. 0) self.old }
         ensures total { self.new ≡ option_map (λ n. n + 1) self.old }

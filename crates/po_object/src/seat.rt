@@ -22,19 +22,19 @@ const ENDED: u64 = 1;
 /// The seat's call waits, and its caller sleeps.
 const SLEEPS: u64 = 2;
 
-/// The waiting place of a seat. No proof rests on what it says: a caller looks under the lock before it believes it.
+/// How the caller of a seat is told. No proof rests on what it says: a caller looks under the lock before it believes it.
 #[derive(Drop)]
 pub struct Seat {
     flag: CachePadded<AtomicU64>,
-    place: Unparker,
+    unparker: Unparker,
 }
 
 impl Seat {
-    /// The place of a seat whose call waits, with the end by which its caller is woken.
-    pub fn new(place: Unparker) -> Seat {
+    /// A seat whose call waits, with what wakes its caller.
+    pub fn new(unparker: Unparker) -> Seat {
         Seat {
             flag: CachePadded::new(AtomicU64::new(WAITS)),
-            place,
+            unparker,
         }
     }
 
@@ -50,7 +50,7 @@ impl Seat {
 
     /// Wakes the seat's caller.
     pub fn wake(&self) {
-        self.place.unpark();
+        self.unparker.unpark();
     }
 
     /// Looks for a while whether the seat's call has ended, and else says that its caller sleeps. Says whether it has

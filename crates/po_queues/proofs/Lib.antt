@@ -1,6 +1,7 @@
 pub mod ArrivalLemmas
 pub mod BusyLemmas
 pub mod EntryLemmas
+pub mod ExaminedLemmas
 pub mod ExpirationLemmas
 pub mod HoldLemmas
 pub mod ItemLemmas
@@ -10,5 +11,9 @@ pub mod LineLemmas
 pub mod OrderLemmas
 pub mod PlaceLemmas
 pub mod QueueLemmas
+pub mod RangeLemmas
 pub mod RoomLemmas
+pub mod StampLemmas
+pub mod TellLemmas
+pub mod TurnLemmas
 pub mod WriteLemmas

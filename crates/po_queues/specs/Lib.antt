@@ -7,4 +7,7 @@ pub mod Least
 pub mod Lines
 pub mod Links
 pub mod QueuedKeys
+pub mod Service
+pub mod Stamps
 pub mod Timed
+pub mod Turns

@@ -3,7 +3,7 @@ use Rattle.std.proofs.Common.{◌≡◌, ◌<◌, ◌+◌, ◌==◌, ℕ, List, 
 use Rattle.std.specs.List.{slice_get}
 use Rattle.std.proofs.lemmas.Option.{same_Some}
 use Rattle.std.proofs.lemmas.Bool.{cases_eq, cond-true, cond-false, eq-eqb, ne_eqb}
-use Rattle.po_accepted.specs.declared.ended.Ended.{Ended}
+use Rattle.po_engine.specs.declared.ended.Ended.{Ended}
 use Rattle.po_history.specs.declared.event.Event.{Event}
 use Rattle.po_history.specs.Histories.{VolumeView, RunOn}
 use Rattle.po_receipts.specs.declared.fault.ReconcileFault.{ReconcileFault}
@@ -111,13 +111,13 @@ module _ {V : Type 0} (ended : List (Ended V)) (history : List (Event V)) (passe
 module _ {S V : Type 0} (core : CoreView S V) (passes : List (PassView V)) (volumes : List (VolumeView V)) where
   one_fault : (a b : ReconcileFault) → IsFaultOf core passes volumes a → IsFaultOf core passes volumes b → a ≡ b
   one_fault (Gap p) (Gap q) one other = let same : p ≡ q = same_Some p q (sym one ∙ other) in ap Gap same
-  one_fault (Gap p) (Mismatch s q) one other = absurd (not_both core.object.making.first_place volumes core.object.base.place p one other.0)
-  one_fault (Mismatch s p) (Gap q) one other = absurd (not_both core.object.making.first_place volumes core.object.base.place q other one.0)
+  one_fault (Gap p) (Mismatch s q) one other = absurd (not_both core.object.setup.first_place volumes core.object.base.place p one other.0)
+  one_fault (Mismatch s p) (Gap q) one other = absurd (not_both core.object.setup.first_place volumes core.object.base.place q other one.0)
   one_fault (Mismatch s p) (Mismatch t q) one other =
       one_mismatch core.object.state.ended (history_of core volumes) passes s p t q one.1 other.1
 
   pub no_fault : (a : ReconcileFault) → IsFaultOf core passes volumes a → IsAgreed core passes volumes → ⊥
-  no_fault (Gap p) one agreed = not_both core.object.making.first_place volumes core.object.base.place p one agreed.whole
+  no_fault (Gap p) one agreed = not_both core.object.setup.first_place volumes core.object.base.place p one agreed.whole
   no_fault (Mismatch s p) one agreed =
       mismatch_disagrees core.object.state.ended (history_of core volumes) passes s p one.1 agreed.agree
 

@@ -13,17 +13,17 @@ use Rattle.po_unit.specs.Meaning.{Meaning}
 use Rattle.po_history.specs.declared.event.Event.{Event}
 use Rattle.po_history.specs.declared.event.Event.TheVariants.{Issue, Ran, Abort, Tick, Final, Serve, Break, Expire}
 use Rattle.po_history.specs.Histories.{VolumeView, RunOn, joined}
-use Rattle.po_accepted.specs.declared.ended.Ended.{Ended}
-use Rattle.po_actions.specs.Base.{is_issue, is_ran}
-use Rattle.po_actions.specs.View.{View}
+use Rattle.po_engine.specs.declared.ended.Ended.{Ended}
+use Rattle.po_core.specs.Base.{is_issue, is_ran}
+use Rattle.po_core.specs.View.{View}
 use Rattle.po_engine.specs.ObjectState.{ObjectState, opening_state}
 use Rattle.po_engine.specs.Step.{replay, IsLegal}
-use Rattle.po_actions.specs.Public.{NamesPublic}
+use Rattle.po_core.specs.Public.{NamesPublic}
 use Rattle.po_core.specs.Tickets.{CoreView}
-use Rattle.po_actions.specs.Cutting.{AreVolumes, Leads}
-use Rattle.po_actions.specs.Headline.{Headline}
-use Rattle.po_actions.proofs.Runs.{replay-append, legal-append}
-use Rattle.po_actions.proofs.Counting.{replay-next}
+use Rattle.po_core.specs.Cutting.{AreVolumes, Leads}
+use Rattle.po_core.specs.Headline.{Headline}
+use Rattle.po_core.proofs.Runs.{replay-append, legal-append}
+use Rattle.po_core.proofs.Counting.{replay-next}
 use Rattle.po_receipts.specs.declared.asked.Asked.{Asked}
 use Rattle.po_receipts.specs.declared.receipt.Receipt.{Receipt}
 use Rattle.po_receipts.specs.declared.receipt.Receipt.TheVariants as R
@@ -279,29 +279,29 @@ module _ {V : Type 0} (ended : List (Ended V)) (history : List (Event V)) (passe
 
 module _ {S V : Type 0} (m : Meaning S V) (core : CoreView S V) (passes : List (PassView V)) (volumes : List (VolumeView V)) where
   abbrev start : ObjectState S V
-  start = opening_state core.object.making.opening core.object.making.first_number
+  start = opening_state core.object.setup.opening core.object.setup.first_number
 
   -- the whole history leads from the opening to the present state
   pub whole_leads : AreVolumes m core.object volumes → Headline m core.object
-      → Leads m core.object.making (history_of core volumes) start core.object.state
+      → Leads m core.object.setup (history_of core volumes) start core.object.state
   whole_leads are headline =
       let view = core.object in
-      let limit = view.making.max_queue in
+      let limit = view.setup.max_queue in
       let replays = headline.sound.replays in
       let there = are.leads.to_there in
       record {
         legal = legal-append m limit start (joined volumes) view.events are.leads.legal (subst (λ s. IsLegal m limit s view.events) (sym there) replays.legal);
         to_there = replay-append m limit start (joined volumes) view.events ∙ (ap (λ s. replay m limit s view.events) there ∙ replays.leads);
-        public = All-append (NamesPublic view.making.shape) (joined volumes) view.events are.leads.public replays.public;
+        public = All-append (NamesPublic view.setup.shape) (joined volumes) view.events are.leads.public replays.public;
       }
 
   -- the whole history has issued as many calls as were accepted
   pub calls_counted : AreVolumes m core.object volumes → Headline m core.object → HasClosingTotals core passes
       → count_by is_issue (history_of core volumes) ≡ sum_by (λ pass. pass.calls) passes
   calls_counted are headline totals =
-      let making = core.object.making in
-      let next : core.object.state.next ≡ making.first_number + count_by is_issue (history_of core volumes) =
-      sym (ap (λ s. s.next) (whole_leads are headline).to_there) ∙ replay-next m making.max_queue start (history_of core volumes) in
+      let setup = core.object.setup in
+      let next : core.object.state.next ≡ setup.first_number + count_by is_issue (history_of core volumes) =
+      sym (ap (λ s. s.next) (whole_leads are headline).to_there) ∙ replay-next m setup.max_queue start (history_of core volumes) in
       let calls = totals.calls in
       omega (arith, next, calls)
 
@@ -340,10 +340,10 @@ module _ {S V : Type 0} (m : Meaning S V) (core : CoreView S V) (passes : List (
 
 -- where there is no gap, no volumes are those that were cut off
 pub cut_off_before : {S V : Type 0} (m : Meaning S V) (view : View S V) (volumes : List (VolumeView V))
-    → (view.base.place ≡ view.making.first_place → AreVolumes m view [])
-    → RunOn view.making.first_place volumes view.base.place
+    → (view.base.place ≡ view.setup.first_place → AreVolumes m view [])
+    → RunOn view.setup.first_place volumes view.base.place
     → (volumes ≡ []) ⊎ AreVolumes m view volumes
     → AreVolumes m view volumes
 cut_off_before m view volumes uncut whole (inl none) =
-    subst (AreVolumes m view) (sym none) (uncut (sym (subst (λ l. RunOn view.making.first_place l view.base.place) none whole)))
+    subst (AreVolumes m view) (sym none) (uncut (sym (subst (λ l. RunOn view.setup.first_place l view.base.place) none whole)))
 cut_off_before m view volumes uncut whole (inr are) = are

@@ -6,7 +6,7 @@ use Rattle.po_history.proofs.Volumes.{joined-append}
 use Rattle.std.proofs.lemmas.Bool.{cases_eq}
 use Rattle.std.proofs.lemmas.List.{map-append, length-set, get_or-set_same, get_or-set_other, append_assoc, take_more, take_all}
 use Rattle.std.proofs.lemmas.List.Elements.{filter-append}
-use Rattle.po_accepted.specs.declared.ended.Ended.{Ended}
+use Rattle.po_engine.specs.declared.ended.Ended.{Ended}
 use Rattle.po_history.specs.declared.event.Event.{Event}
 use Rattle.po_history.specs.Histories.{VolumeView, joined}
 use Rattle.po_receipts.specs.declared.receipt.Receipt.{Receipt}

@@ -3,7 +3,7 @@
 use Rattle.std.specs.Prelude.{ℕ, ◌≡◌, ◌≢◌, ◌<◌, ◌+◌, ◌==◌, List, [], ◌∷◌, ◌++◌, map, take, length, slice_get, Option, Some, None, if◌then◌else◌}
 use Rattle.po_history.specs.declared.event.Event.{Event}
 use Rattle.po_history.specs.Histories.{VolumeView, RunOn, joined}
-use Rattle.po_accepted.specs.declared.ended.Ended.{Ended}
+use Rattle.po_engine.specs.declared.ended.Ended.{Ended}
 use Rattle.po_core.specs.Tickets.{CoreView}
 use Rattle.po_receipts.specs.declared.receipt.Receipt.{Receipt}
 use Rattle.po_receipts.specs.declared.fault.ReconcileFault.{ReconcileFault}
@@ -53,13 +53,13 @@ module _ {S V : Type 0} where
   -- The volumes run on from the first place of the history to the base, and the receipts of each seat are those that are
   -- due to it.
   pub record IsAgreed (core : CoreView S V) (passes : List (PassView V)) (volumes : List (VolumeView V)) : Type 0 where
-    pub whole : RunOn core.object.making.first_place volumes core.object.base.place
+    pub whole : RunOn core.object.setup.first_place volumes core.object.base.place
     pub agree : AllAgree core.object.state.ended (history_of core volumes) passes
 
   -- why they don't agree; a gap in the history goes first
   abbrev pub IsFaultOf : CoreView S V → List (PassView V) → List (VolumeView V) → ReconcileFault → Type 0
   IsFaultOf core passes volumes (Gap place) =
-      gap core.object.making.first_place volumes core.object.base.place ≡ Some place
+      gap core.object.setup.first_place volumes core.object.base.place ≡ Some place
   IsFaultOf core passes volumes (Mismatch seat place) =
-      RunOn core.object.making.first_place volumes core.object.base.place
+      RunOn core.object.setup.first_place volumes core.object.base.place
       × IsMismatch core.object.state.ended (history_of core volumes) passes seat place

@@ -2,9 +2,9 @@
 use Rattle.std.specs.Prelude.{ℕ, ◌≡◌, ◌<◌, ◌+◌, List, All, length, sum_by, slice_get, IfSome, Option, Some, None}
 use Rattle.po_history.specs.declared.event.Event.{Event}
 use Rattle.po_history.specs.declared.event.Event.TheVariants.{Issue, Ran}
-use Rattle.po_accepted.specs.declared.ended.Ended.{Ended}
+use Rattle.po_engine.specs.declared.ended.Ended.{Ended}
 use Rattle.po_core.specs.Tickets.{CoreView}
-use Rattle.po_actions.specs.Cutting.{procedures_run}
+use Rattle.po_core.specs.Cutting.{procedures_run}
 use Rattle.po_receipts.specs.declared.receipt.Receipt.{Receipt}
 use Rattle.po_receipts.specs.Passes.{PassView}
 use Rattle.po_receipts.specs.Receipts.{asked_by, answer_of}
@@ -51,5 +51,5 @@ module _ {V : Type 0} where
 
 -- As many calls were issued, and as many procedures ran, as were accepted from these passes.
 pub record HasClosingTotals {S V : Type 0} (core : CoreView S V) (passes : List (PassView V)) : Type 0 where
-  pub calls : core.object.state.next ≡ core.object.making.first_number + sum_by (λ pass. pass.calls) passes
+  pub calls : core.object.state.next ≡ core.object.setup.first_number + sum_by (λ pass. pass.calls) passes
   pub procedures : procedures_run core.object ≡ sum_by (λ pass. pass.procedures) passes

@@ -1,5 +1,5 @@
+pub mod Agreement
+pub mod Answers
+pub mod Marks
 pub mod Passes
 pub mod Receipts
-pub mod Agreement
-pub mod Marks
-pub mod Answers

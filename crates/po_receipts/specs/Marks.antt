@@ -2,7 +2,7 @@
 -- the events that were looked at so far.
 use Rattle.std.specs.Prelude.{ℕ, ◌≡◌, ◌<◌, ◌+◌, List, map, take, length, slice_get, slice_index_or, Some}
 use Rattle.po_history.specs.declared.event.Event.{Event}
-use Rattle.po_accepted.specs.declared.ended.Ended.{Ended}
+use Rattle.po_engine.specs.declared.ended.Ended.{Ended}
 use Rattle.po_receipts.specs.declared.mark.Mark.{Mark}
 use Rattle.po_receipts.specs.declared.mark.Mark.TheVariants.{Follows, Differs}
 use Rattle.po_receipts.specs.Passes.{PassView}

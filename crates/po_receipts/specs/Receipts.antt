@@ -4,8 +4,8 @@ use Rattle.std.specs.Prelude.{ℕ, ◌==◌, List, filter, map, find, Bool, fals
 use Rattle.po_calls.specs.declared.end.End.{End}
 use Rattle.po_history.specs.declared.event.Event.{Event}
 use Rattle.po_history.specs.declared.event.Event.TheVariants.{Issue, Ran}
-use Rattle.po_accepted.specs.declared.ended.Ended.{Ended}
-use Rattle.po_accepted.specs.Ending.{has_ended}
+use Rattle.po_engine.specs.declared.ended.Ended.{Ended}
+use Rattle.po_engine.specs.Ending.{has_ended}
 use Rattle.po_receipts.specs.declared.receipt.Receipt.{Receipt}
 
 module _ {V : Type 0} where

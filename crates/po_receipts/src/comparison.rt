@@ -4,9 +4,9 @@ ghost use Rattle.std.specs.Prelude.{◌≡◌, ◌≤◌, length, ◌↔◌, IsO
 ghost use Rattle.po_receipts.specs.Agreement.{gap, IsAgreed, IsFaultOf};
 ghost use Rattle.po_receipts.specs.declared.fault.ReconcileFault.{ReconcileFault as Fault};
 
+use crate::closed_pass::ClosedPass;
 use crate::fault::ReconcileFault;
 use crate::round::{SEATS, difference_in_round};
-use crate::spent::Spent;
 use po_core::{Core, Volume};
 use po_unit::Unit;
 
@@ -23,7 +23,7 @@ pub struct Agreed;
 /// No memory is taken. The history is gone over once for each 1,024 seats.
 pub fn compare<U: Unit>(
     core: &Core<U>,
-    passes: &[Spent<U::Value>],
+    passes: &[ClosedPass<U::Value>],
     volumes: &[Volume<U::Value>],
 ) -> Result<Agreed, ReconcileFault>
     requires { length passes.now ≤ 65_535 }

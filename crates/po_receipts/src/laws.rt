@@ -1,15 +1,15 @@
 //! What follows where receipts and history agree.
 
 ghost use Rattle.std.specs.Prelude.{◌≡◌, ◌↔◌, true, ◌⊎◌, [], All, count_by, sum_by};
-ghost use Rattle.po_actions.specs.Base.{is_issue, is_ran};
+ghost use Rattle.po_core.specs.Base.{is_issue, is_ran};
 ghost use Rattle.po_engine.specs.ObjectState.{opening_state};
-ghost use Rattle.po_actions.specs.Cutting.{AreVolumes, Leads};
+ghost use Rattle.po_core.specs.Cutting.{AreVolumes, Leads};
 ghost use Rattle.po_receipts.specs.Passes.{IsTallied};
 ghost use Rattle.po_receipts.specs.Agreement.{IsAgreed, history_of};
 ghost use Rattle.po_receipts.specs.Answers.{AnswersAreOwn, HasClosingTotals, HasNoOthers, NonePending};
 
+use crate::closed_pass::ClosedPass;
 use crate::receipts::Receipts;
-use crate::spent::Spent;
 use po_core::{Core, Volume};
 use po_unit::Unit;
 
@@ -17,7 +17,7 @@ use po_unit::Unit;
 /// each once and in the caller's order.
 pub fn own_answers<U: Unit>(
     core: &Core<U>,
-    passes: &[Spent<U::Value>],
+    passes: &[ClosedPass<U::Value>],
     volumes: &[Volume<U::Value>],
 )
     requires { IsAgreed core.now passes.now volumes.now }
@@ -29,7 +29,7 @@ pub fn own_answers<U: Unit>(
 /// calls and procedures; and where it has no others, no pass has a call pending.
 pub fn every_answer<U: Unit>(
     core: &Core<U>,
-    passes: &[Spent<U::Value>],
+    passes: &[ClosedPass<U::Value>],
     volumes: &[Volume<U::Value>],
 )
     requires agreed { IsAgreed core.now passes.now volumes.now }
@@ -40,8 +40,8 @@ pub fn every_answer<U: Unit>(
     // The volumes, or none, are the history before the base.
     ensures volumes { AreVolumes U.meaning core.now.object volumes.now }
     // The whole history replays from the opening as serial protected actions of one thread, and the calls end so.
-    ensures serial { Leads U.meaning core.now.object.making (history_of core.now volumes.now)
-        (opening_state core.now.object.making.opening core.now.object.making.first_number) core.now.object.state }
+    ensures serial { Leads U.meaning core.now.object.setup (history_of core.now volumes.now)
+        (opening_state core.now.object.setup.opening core.now.object.setup.first_number) core.now.object.state }
     ensures none_other { HasNoOthers (history_of core.now volumes.now) passes.now }
     ensures none_pending { NonePending passes.now }
 {
@@ -50,7 +50,7 @@ pub fn every_answer<U: Unit>(
 }
 
 /// Whether no pass has a call that was accepted and has no receipt yet.
-pub fn none_pending<V: Copy, Q: Receipts<V>>(passes: &[Spent<V, Q>]) -> bool
+pub fn none_pending<V: Copy, Q: Receipts<V>>(passes: &[ClosedPass<V, Q>]) -> bool
     ensures { (result ≡ true) ↔ NonePending passes.now }
 {
     for pass in passes {
@@ -65,7 +65,7 @@ pub fn none_pending<V: Copy, Q: Receipts<V>>(passes: &[Spent<V, Q>]) -> bool
 /// issued in the whole history, and as many procedures ran, as were accepted from the passes.
 pub fn closing_counts<U: Unit>(
     core: &Core<U>,
-    passes: &[Spent<U::Value>],
+    passes: &[ClosedPass<U::Value>],
     volumes: &[Volume<U::Value>],
 )
     requires totals { HasClosingTotals core.now passes.now }
@@ -77,7 +77,7 @@ pub fn closing_counts<U: Unit>(
 }
 
 /// The tallies of each pass are the numbers of its receipts, with the call that has none yet.
-fn recall_tallies<V: Copy>(passes: &[Spent<V>])
+fn recall_tallies<V: Copy>(passes: &[ClosedPass<V>])
     ensures { All IsTallied passes.now }
 {
     for pass in passes {

@@ -2,6 +2,7 @@
 #![tactic(auto)]
 
 mod asked;
+mod closed_pass;
 mod comparison;
 mod due;
 mod fault;
@@ -10,12 +11,11 @@ mod mark;
 mod receipt;
 mod receipts;
 mod round;
-mod spent;
 
 pub use asked::Asked;
+pub use closed_pass::{ClosedPass, Spent};
 pub use comparison::{Agreed, compare};
 pub use fault::ReconcileFault;
 pub use laws::{closing_counts, every_answer, none_pending, own_answers};
 pub use receipt::Receipt;
 pub use receipts::Receipts;
-pub use spent::Spent;

@@ -4,7 +4,7 @@ ghost use Rattle.std.specs.Prelude.{◌≡◌, ◌<◌, ◌∷◌, ◌++◌, [],
 ghost use Rattle.po_receipts.specs.declared.receipt.Receipt.{Receipt as Filed};
 
 use crate::receipt::Receipt;
-use po_trace::Trace;
+use po_history::Trace;
 use std::alloc::{AllocError, Global};
 
 /// The receipts of a pass, in the order in which they were filed: in memory, or known to proofs alone.

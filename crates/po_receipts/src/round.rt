@@ -3,14 +3,14 @@
 ghost use Rattle.std.specs.Prelude.{ℕ, ◌≡◌, ◌≢◌, ◌<◌, ◌≤◌, ◌+◌, ◌∷◌, ◌++◌, [], List, true, false, length, MatchOption};
 ghost use Rattle.po_history.specs.declared.event.Event.{Event as Noted};
 ghost use Rattle.po_history.specs.Histories.{joined};
-ghost use Rattle.po_accepted.specs.declared.ended.Ended.{Ended as EndedCall};
+ghost use Rattle.po_engine.specs.declared.ended.Ended.{Ended as EndedCall};
 ghost use Rattle.po_receipts.specs.Receipts.{is_asked_by};
 ghost use Rattle.po_receipts.specs.Agreement.{AgreeBelow, IsMismatch};
 ghost use Rattle.po_receipts.specs.Marks.{AreMarks};
 
+use crate::closed_pass::ClosedPass;
 use crate::due::{receipt_of, seat_of};
 use crate::mark::{Mark, advanced, first_difference};
-use crate::spent::Spent;
 use po_core::{Core, Event, Volume};
 use po_unit::Unit;
 
@@ -28,7 +28,7 @@ pub(crate) struct Difference {
 /// that are due, with the first place at which they do.
 pub(crate) fn difference_in_round<U: Unit>(
     core: &Core<U>,
-    passes: &[Spent<U::Value>],
+    passes: &[ClosedPass<U::Value>],
     volumes: &[Volume<U::Value>],
     first: usize,
     seats: usize,
@@ -47,7 +47,7 @@ pub(crate) fn difference_in_round<U: Unit>(
 /// The same for as many seats as there are marks, whatever these were.
 fn difference_by_marks<U: Unit>(
     core: &Core<U>,
-    passes: &[Spent<U::Value>],
+    passes: &[ClosedPass<U::Value>],
     volumes: &[Volume<U::Value>],
     first: usize,
     marks: &mut [Mark],
@@ -65,7 +65,7 @@ fn difference_by_marks<U: Unit>(
 /// Marks the seats of a round by the whole history.
 fn note_history<U: Unit>(
     core: &Core<U>,
-    passes: &[Spent<U::Value>],
+    passes: &[ClosedPass<U::Value>],
     volumes: &[Volume<U::Value>],
     first: usize,
     marks: &mut [Mark],
@@ -83,7 +83,7 @@ fn note_history<U: Unit>(
 /// Notes events in the marks of a round, in their order.
 fn note_all<U: Unit>(
     core: &Core<U>,
-    passes: &[Spent<U::Value>],
+    passes: &[ClosedPass<U::Value>],
     first: usize,
     events: &[Event<U::Value>],
     marks: &mut [Mark],
@@ -101,7 +101,7 @@ fn note_all<U: Unit>(
 /// Notes one event in the marks of a round.
 fn note<U: Unit>(
     core: &Core<U>,
-    passes: &[Spent<U::Value>],
+    passes: &[ClosedPass<U::Value>],
     first: usize,
     event: Event<U::Value>,
     marks: &mut [Mark],
@@ -131,7 +131,7 @@ fn index_in_round<V: Copy>(event: Event<V>, first: usize, seats: usize) -> Optio
 
 /// The lowest seat of a round whose receipts differ from those that are due, with the first place at which they do.
 fn lowest_difference<V: Copy>(
-    passes: &[Spent<V>],
+    passes: &[ClosedPass<V>],
     first: usize,
     marks: &[Mark],
 ) -> Option<Difference>

@@ -5,9 +5,9 @@ use Rattle.std.specs.List.{find, slice_index_or}
 use Rattle.std.specs.Option.{IsSome}
 use Rattle.std.proofs.lemmas.Bool.{cases_Bool, cases_eq, eq-eqb}
 use Rattle.std.proofs.lemmas.List.{get_or_default, get_or-drop}
-use Rattle.po_accepted.specs.declared.ended.Ended.{Ended}
-use Rattle.po_accepted.specs.Ending.{has_ended}
-use Rattle.po_accepted.specs.Tickets.{number_at, SetsTicket}
+use Rattle.po_engine.specs.declared.ended.Ended.{Ended}
+use Rattle.po_engine.specs.Ending.{has_ended}
+use Rattle.po_engine.specs.Tickets.{number_at, SetsTicket}
 use Rattle.po_script.specs.Tickets.{key_of, Knows, IsCollected}
 use Rattle.po_script.specs.declared.tickets.Tickets.{Tickets}
 

@@ -1,13 +1,13 @@
 -- What is sure to be refused is refused.
 use Rattle.std.proofs.Common.{◌≡◌, ℕ, Bool, true, false, cond, leb, Option, Some, None, Result, Ok, Err, ap}
 use Rattle.po_unit.specs.Meaning.{Meaning}
-use Rattle.po_index.specs.declared.decl.Decl.{Decl}
-use Rattle.po_index.specs.declared.fault.IndexFault.{IndexFault}
-use Rattle.po_index.specs.Numbering.{flat_number}
+use Rattle.po_unit.specs.declared.decl.Decl.{Decl}
+use Rattle.po_unit.specs.declared.fault.IndexFault.{IndexFault}
+use Rattle.po_unit.specs.Numbering.{flat_number}
 use Rattle.po_core.specs.declared.refusal.Refusal.{Refusal}
 use Rattle.po_core.specs.declared.refusal.Refusal.TheVariants.{PrivateEntry, NoSuchOperation}
 use Rattle.po_core.specs.Refusals.{if_private, if_unindexed}
-use Rattle.po_actions.specs.View.{View}
+use Rattle.po_core.specs.View.{View}
 use Rattle.std.specs.List.{slice_get}
 use Rattle.po_language.specs.declared.command.Operation.{Operation}
 use Rattle.po_language.specs.declared.command.Operation.TheVariants.{Call, Run, Read, Abort, Tick, Finalize, Show}

@@ -8,13 +8,13 @@ use Rattle.po_calls.specs.declared.call.Call.{Call}
 use Rattle.po_calls.specs.declared.end.End.TheVariants.{Cancelled, ProgramError}
 use Rattle.po_history.specs.declared.event.Event.{Event}
 use Rattle.po_history.specs.declared.event.Event.TheVariants.{Issue, Ran, Abort, Tick, Final, Serve, Break, Expire}
-use Rattle.po_accepted.specs.WaitingCalls.{is_on, has_number, mark}
+use Rattle.po_engine.specs.WaitingCalls.{is_on, has_number, mark}
 use Rattle.std.specs.Prelude.{map, not, count_by}
 use Rattle.po_core.specs.declared.refusal.Refusal.{Refusal}
-use Rattle.po_engine.specs.ObjectState.{ObjectState, counts_in, gate_in}
-use Rattle.po_actions.specs.ProtectedAction.{inner_events, begun, after_action, after_abort_of, without_event}
-use Rattle.po_engine.specs.Step.{is_full, end_call, queue, enter, land, run_body, arrive, take_out, serve, cancel, abort, step, replay}
-use Rattle.po_actions.specs.View.{View}
+use Rattle.po_engine.specs.ObjectState.{ObjectState, counts_in, barrier_in}
+use Rattle.po_core.specs.ProtectedAction.{inner_events, begun, after_action, after_abort_of, without_event}
+use Rattle.po_engine.specs.Step.{is_full, end_call, queue, enter, conclude, run_body, arrive, take_out, serve, cancel, abort, step, replay}
+use Rattle.po_core.specs.View.{View}
 use Rattle.po_language.specs.declared.command.Operation.{Operation}
 use Rattle.po_language.specs.declared.command.Operation.TheVariants.{Call as CallEntry, Run, Read, Abort as AbortCall, Tick as MoveClock, Finalize, Show}
 use Rattle.po_script.specs.Facts.{Facts, AreFacts}
@@ -36,20 +36,20 @@ module _ {S : Type 0} (m : Meaning S ℕ) (law : IsLawful m) where
     enter_unit : (s : ObjectState S ℕ) (x : Call ℕ) → (enter limit s x).unit ≡ s.unit
     enter_unit s x = same_if (is_full limit (count_by (is_on x.entry) s.waiting)) s (end_call s x ProgramError) (queue s x) refl refl
 
-    land_unit : (s : ObjectState S ℕ) (x : Call ℕ) (o : Outcome ℕ) → (land limit s x o).unit ≡ s.unit
-    land_unit s x (Complete v) = refl
-    land_unit s x (Raise k) = refl
-    land_unit s x (Requeue target with_abort v) =
-        let y : Call ℕ = record x { entry = target; value = v; sealed = not with_abort } in
+    conclude_unit : (s : ObjectState S ℕ) (x : Call ℕ) (o : Outcome ℕ) → (conclude limit s x o).unit ≡ s.unit
+    conclude_unit s x (Complete v) = refl
+    conclude_unit s x (Raise k) = refl
+    conclude_unit s x (Requeue target with_abort v) =
+        let y : Call ℕ = record x { entry = target; value = v; without_abort = not with_abort } in
         same_if (with_abort && x.aborted) s (end_call s x Cancelled) (enter limit s y) refl (enter_unit s y)
 
     body_same : (s : ObjectState S ℕ) (x : Call ℕ) → Same s (run_body m limit s x)
     body_same s x =
         let c = counts_in m s in
         let r = m.body s.unit x.entry x.value c in
-        subst (λ u. SameNumbers m s.unit u) (sym (land_unit (record s { unit = r.0 }) x r.1)) (law.body_numbers s.unit x.entry x.value c)
+        subst (λ u. SameNumbers m s.unit u) (sym (conclude_unit (record s { unit = r.0 }) x r.1)) (law.body_numbers s.unit x.entry x.value c)
 
-    arrive_same : (s : ObjectState S ℕ) (x : Call ℕ) (gate : Result Bool ℕ) → Same s (arrive m limit s x gate)
+    arrive_same : (s : ObjectState S ℕ) (x : Call ℕ) (barrier : Result Bool ℕ) → Same s (arrive m limit s x barrier)
     arrive_same s x (Ok true) = body_same s x
     arrive_same s x (Ok false) = same s (enter limit s x) (enter_unit s x)
     arrive_same s x (Err k) = same s s refl
@@ -64,11 +64,11 @@ module _ {S : Type 0} (m : Meaning S ℕ) (law : IsLawful m) where
 
     abort_unit : (s : ObjectState S ℕ) (n : ℕ) (found : Option (Call ℕ)) → (abort s n found).unit ≡ s.unit
     abort_unit s n None = refl
-    abort_unit s n (Some x) = same_if x.sealed s (record s { waiting = map (mark n) s.waiting }) (cancel s n (Some x)) refl refl
+    abort_unit s n (Some x) = same_if x.without_abort s (record s { waiting = map (mark n) s.waiting }) (cancel s n (Some x)) refl refl
 
     step_same : (s : ObjectState S ℕ) (event : Event ℕ) → Same s (step m limit s event)
     step_same s (Issue n owner e v deadline) =
-        arrive_same (record s { next = s.next + 1 }) (record { number = n; owner = owner; entry = e; value = v; sealed = false; aborted = false; deadline = deadline }) (gate_in m s e)
+        arrive_same (record s { next = s.next + 1 }) (record { number = n; owner = owner; entry = e; value = v; without_abort = false; aborted = false; deadline = deadline }) (barrier_in m s e)
     step_same s (Ran owner op v reply) = law.procedure_numbers s.unit op v (counts_in m s)
     step_same s (Abort n) = same s (step m limit s (Abort n)) (abort_unit s n (find (has_number n) s.waiting))
     step_same s (Tick t) = same s s refl
@@ -87,7 +87,7 @@ module _ {S : Type 0} (m : Meaning S ℕ) (law : IsLawful m) where
   module _ (facts : Facts) where
     action_facts : (view : View S ℕ) (own : Event ℕ) → AreFacts m facts view → AreFacts m facts (after_action m view own)
     action_facts view own are =
-        let moved = replay_same view.making.max_queue view.state (own ∷ inner_events m (begun m view own)) in
+        let moved = replay_same view.setup.max_queue view.state (own ∷ inner_events m (begun m view own)) in
         record { shape = are.shape; procedures = moved.procedures ∙ are.procedures; functions = moved.functions ∙ are.functions }
 
     abort_if : (b : Bool) (view : View S ℕ) (n : ℕ) → AreFacts m facts view → AreFacts m facts (cond b (without_event view) (after_action m view (Abort n)))
@@ -96,7 +96,7 @@ module _ {S : Type 0} (m : Meaning S ℕ) (law : IsLawful m) where
 
     abort_facts : (view : View S ℕ) (n : ℕ) (found : Option (Call ℕ)) → AreFacts m facts view → AreFacts m facts (after_abort_of m view n found)
     abort_facts view n None are = are
-    abort_facts view n (Some x) are = abort_if (x.sealed && x.aborted) view n are
+    abort_facts view n (Some x) are = abort_if (x.without_abort && x.aborted) view n are
 
     done_facts : (view : View S ℕ) (operation : Operation) → AreFacts m facts view → AreFacts m facts (done m view operation)
     done_facts view (CallEntry entry value deadline) are = action_facts view _ are

@@ -1,6 +1,6 @@
 -- Behind any commands the object has the facts of the unit that they began, and refuses what it is sure to refuse.
 use Rattle.std.proofs.Common.{◌≡◌, ℕ, zero, suc, List, [], ◌∷◌, Option, Some, None, refl, ap, subst, inl, inr}
-use Rattle.po_actions.specs.View.{View}
+use Rattle.po_core.specs.View.{View}
 use Rattle.po_core.specs.declared.refusal.Refusal.{Refusal}
 use Rattle.po_language.specs.declared.command.Beginning.{Beginning}
 use Rattle.po_language.specs.declared.command.Command.{Command}

@@ -1,11 +1,11 @@
 -- What is known of each object of a unit, whatever it is used for, and which operations it refuses for that alone.
 use Rattle.std.specs.Prelude.{ℕ, zero, suc, ◌≡◌, List, Option, Some, None, nat_le, if◌then◌else◌}
-use Rattle.po_index.specs.declared.decl.Decl.{Decl}
+use Rattle.po_unit.specs.declared.decl.Decl.{Decl}
 use Rattle.po_unit.specs.Meaning.{Meaning}
 use Rattle.po_core.specs.declared.refusal.Refusal.{Refusal}
 use Rattle.po_core.specs.declared.refusal.Refusal.TheVariants.{NoSuchOperation}
 use Rattle.po_core.specs.Refusals.{entry_refusal}
-use Rattle.po_actions.specs.View.{View}
+use Rattle.po_core.specs.View.{View}
 use Rattle.po_classic_units.specs.ScriptUnit.{KnownUnit}
 use Rattle.po_language.specs.declared.command.Operation.{Operation}
 use Rattle.po_language.specs.declared.command.Operation.TheVariants.{Call, Run, Read}
@@ -31,7 +31,7 @@ module _ {S : Type 0} where
 
   -- They are the facts of this object. A body or a procedure leaves them as they are.
   pub record AreFacts (m : Meaning S ℕ) (facts : Facts) (view : View S ℕ) : Type 0 where
-    pub shape : view.making.shape ≡ facts.shape
+    pub shape : view.setup.shape ≡ facts.shape
     pub procedures : m.procedures view.state.unit ≡ facts.procedure_count
     pub functions : m.functions view.state.unit ≡ facts.function_count
 

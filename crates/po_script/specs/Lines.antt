@@ -1,13 +1,13 @@
 -- The lines that answer commands. Each ends with the byte 10, and numbers are decimal without leading zeros.
 use Rattle.std.specs.Prelude.{codes, ℕ, ℤ, List, [], ◌∷◌, ◌++◌, flat_map, unwrap_or, slice_get, Result, Ok, Err, Option, Some, None}
 use Rattle.std.specs.Fmt.{decimal, signed_decimal}
-use Rattle.po_index.specs.declared.decl.EntryRef.{EntryRef}
-use Rattle.po_accepted.specs.declared.ended.Ended.{Ended}
+use Rattle.po_unit.specs.declared.decl.EntryRef.{EntryRef}
+use Rattle.po_engine.specs.declared.ended.Ended.{Ended}
 use Rattle.po_calls.specs.declared.end.End.{End}
 use Rattle.po_calls.specs.declared.end.End.TheVariants.{Completed, Raised, Cancelled, ProgramError}
 use Rattle.po_core.specs.declared.refusal.Refusal.{Refusal}
-use Rattle.po_actions.specs.declared.aborted.Aborted.{Aborted}
-use Rattle.po_actions.specs.declared.aborted.Aborted.TheVariants.{Kept, Cancelled as CallCancelled}
+use Rattle.po_core.specs.declared.aborted.Aborted.{Aborted}
+use Rattle.po_core.specs.declared.aborted.Aborted.TheVariants.{Kept, Cancelled as CallCancelled}
 use Rattle.po_core.specs.RefusalNumbers.{refusal_number}
 
 -- the line of the call with number n, which ended in this way

@@ -1,15 +1,15 @@
 -- What an operation of a script does to an object, and the lines that answer it.
 use Rattle.std.specs.Prelude.{ℕ, ◌≡◌, ◌⊎◌, List, [], ◌++◌, Bool, true, false, Option, Some, None, flat_map, slice_index}
-use Rattle.po_index.specs.declared.decl.EntryRef.{EntryRef}
-use Rattle.po_index.specs.Numbering.{entry_references}
+use Rattle.po_unit.specs.declared.decl.EntryRef.{EntryRef}
+use Rattle.po_unit.specs.Numbering.{entry_references}
 use Rattle.po_unit.specs.Meaning.{Meaning}
 use Rattle.po_history.specs.declared.event.Event.TheVariants.{Ran, Tick as TickEvent, Final}
 use Rattle.po_core.specs.declared.refusal.Refusal.{Refusal}
 use Rattle.po_core.specs.declared.refusal.Refusal.TheVariants.{OutOfMemory}
 use Rattle.po_engine.specs.ObjectState.{counts_in}
-use Rattle.po_actions.specs.Commands.{entry_of, issue_of, reply_of}
-use Rattle.po_actions.specs.View.{View, ended_now}
-use Rattle.po_actions.specs.ProtectedAction.{after_action, after_abort, abort_answer}
+use Rattle.po_core.specs.Commands.{entry_of, issue_of, reply_of}
+use Rattle.po_core.specs.View.{View, ended_now}
+use Rattle.po_core.specs.ProtectedAction.{after_action, after_abort, abort_answer}
 use Rattle.po_core.specs.Refusals.{issue_refusal, run_refusal, read_refusal, abort_refusal, finalized_refusal}
 use Rattle.po_language.specs.declared.command.Operation.{Operation}
 use Rattle.po_language.specs.declared.command.Operation.TheVariants.{Call, Run, Read, Abort, Tick, Finalize, Show}
@@ -58,11 +58,11 @@ module _ {S : Type 0} where
   -- the line of the entry that a reference names: how many calls are queued on it (9.9)
   abbrev pub entry_line : Meaning S ℕ → List (List ℕ) → View S ℕ → EntryRef → List ℕ
   entry_line m names view reference =
-      count_line names reference (slice_index (counts_in m view.state) (entry_of view.making.shape reference))
+      count_line names reference (slice_index (counts_in m view.state) (entry_of view.setup.shape reference))
 
   -- a line for each entry, in the order of their numbers
   abbrev pub entry_lines : Meaning S ℕ → List (List ℕ) → View S ℕ → List ℕ
-  entry_lines m names view = flat_map (entry_line m names view) (entry_references view.making.shape)
+  entry_lines m names view = flat_map (entry_line m names view) (entry_references view.setup.shape)
 
   -- the lines that show the object
   abbrev pub show_lines : Meaning S ℕ → List (List ℕ) → View S ℕ → List ℕ

@@ -2,10 +2,10 @@
 use Rattle.std.specs.Prelude.{ℕ, ◌≡◌, ◌≢◌, ◌<◌, nat_eq, List, All, Option, Some, IsSome, find}
 use Rattle.std.specs.HashMap.{get, spare}
 use Rattle.po_calls.specs.declared.ticket.Ticket.{Ticket}
-use Rattle.po_accepted.specs.Ending.{has_ended}
-use Rattle.po_actions.specs.View.{View, ended_now}
+use Rattle.po_engine.specs.Ending.{has_ended}
+use Rattle.po_core.specs.View.{View, ended_now}
 use Rattle.po_core.specs.Tickets.{CoreView}
-use Rattle.po_accepted.specs.Tickets.{number_at}
+use Rattle.po_engine.specs.Tickets.{number_at}
 use Rattle.po_script.specs.declared.tickets.Tickets.{Tickets}
 
 -- the key that is kept for the call with number n

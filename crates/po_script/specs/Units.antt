@@ -1,12 +1,12 @@
 -- The units of scripts with what each means, and the objects of them.
 use Rattle.std.specs.Prelude.{ℕ, zero, suc, ◌⊎◌, List, Option}
 use Rattle.std.proofs.Common.{inl, inr}
-use Rattle.po_index.specs.declared.decl.Decl.{Decl}
-use Rattle.po_barriers.specs.declared.order.Order.{Order}
+use Rattle.po_unit.specs.declared.decl.Decl.{Decl}
+use Rattle.po_queues.specs.declared.order.Order.{Order}
 use Rattle.po_unit.specs.Meaning.{Meaning, IsLawful}
 use Rattle.po_core.specs.declared.refusal.Refusal.{Refusal}
-use Rattle.po_actions.specs.Making.{Making}
-use Rattle.po_actions.specs.View.{View, opening_view}
+use Rattle.po_core.specs.Setup.{Setup}
+use Rattle.po_core.specs.View.{View, opening_view}
 use Rattle.po_classic_units.specs.ScriptUnit.{KnownUnit}
 use Rattle.po_language.specs.Units.{UnitList}
 use Rattle.po_language.specs.Units.UnitList.{last as last_name, before as name_before}
@@ -35,8 +35,8 @@ Object (last S unit m) = View S ℕ
 Object (before S unit m units) = View S ℕ ⊎ Object units
 
 -- what an object is made with: its calls are numbered from 1
-abbrev pub making_of : {S : Type 0} → S → List Decl → Order → Option ℕ → Making S
-making_of opening shape order max_queue = record {
+abbrev pub setup_of : {S : Type 0} → S → List Decl → Order → Option ℕ → Setup S
+setup_of opening shape order max_queue = record {
   opening = opening;
   shape = shape;
   order = order;
@@ -49,7 +49,7 @@ making_of opening shape order max_queue = record {
 abbrev pub made : {S : Type 0} → KnownUnit S → Beginning → View S ℕ
 made unit beginning =
     let opening = unit.opening beginning.unit.size in
-    opening_view (making_of opening (unit.declarations opening) beginning.order beginning.max_queue)
+    opening_view (setup_of opening (unit.declarations opening) beginning.order beginning.max_queue)
 
 -- the object of the unit with this number as it is made; the numbers behind the last unit's are its numbers too
 abbrev pub made_at : (units : ScriptUnits) → ℕ → Beginning → Object units

@@ -3,7 +3,7 @@
 ghost use Rattle.std.specs.Prelude.{◌≡◌, ◌≢◌, List, IfOk, Err, None};
 ghost use Rattle.po_core.specs.Refusals.{entry_refusal};
 ghost use Rattle.po_classic_units.specs.Sizes.{IsSizeWhere};
-ghost use Rattle.po_index.specs.declared.fault.ShapeFault.{ShapeFault};
+ghost use Rattle.po_unit.specs.declared.fault.ShapeFault.{ShapeFault};
 ghost use Rattle.po_language.specs.declared.command.Command.{Command};
 ghost use Rattle.po_script.specs.Facts.{facts_of, operation_refusal, sure_refusal, RefusesSurely};
 ghost use Rattle.po_script.specs.SureRefusals.{RefusesBehind};
@@ -11,9 +11,8 @@ ghost use Rattle.po_script.specs.SureRefusals.{RefusesBehind};
 use crate::units::ScriptObject;
 use po_classic_units::ScriptUnit;
 use po_core::Refusal;
-use po_index::{EntryRef, Shape, ShapeFault};
 use po_language::Operation;
-use po_unit::Unit;
+use po_unit::{EntryRef, Shape, ShapeFault, Unit};
 use std::alloc::{AllocError, Global};
 use std::marker::Model;
 

@@ -5,7 +5,7 @@ ghost use Rattle.po_classic_units.specs.Names.{texts_of};
 ghost use Rattle.po_script.specs.Lines.{end_line, ended_lines, ticket_line, refused_line, reply_line, value_line, abort_line, clock_line, next_line, final_line, name_at, index_text, count_line};
 
 use po_core::{Aborted, End, Ended, Refusal};
-use po_index::EntryRef;
+use po_unit::EntryRef;
 use std::alloc::AllocError;
 use std::fmt::Write;
 

@@ -1,25 +1,24 @@
 //! The object of a script, of one unit.
 
 ghost use Rattle.std.specs.Prelude.{◌≡◌, ◌≢◌, [], IfOk, OnOk, OnErr, IsOk, Err, string_bytes};
-ghost use Rattle.po_index.specs.Numbering.{entry_count};
-ghost use Rattle.po_index.specs.declared.fault.ShapeFault.{ShapeFault};
-ghost use Rattle.po_actions.specs.View.{opening_view};
+ghost use Rattle.po_unit.specs.Numbering.{entry_count};
+ghost use Rattle.po_unit.specs.declared.fault.ShapeFault.{ShapeFault};
+ghost use Rattle.po_core.specs.View.{opening_view};
 ghost use Rattle.po_script.specs.Tickets.{Knows, AreCollected};
-ghost use Rattle.po_script.specs.Units.{making_of};
+ghost use Rattle.po_script.specs.Units.{setup_of};
 
 use crate::operate::operate;
 use crate::tickets::Tickets;
 use po_classic_units::ScriptUnit;
 use po_core::{Core, MakeFault, Start};
-use po_index::{Shape, ShapeFault};
 use po_language::{Beginning, Operation};
-use po_unit::Unit;
+use po_unit::{Shape, ShapeFault, Unit};
 use std::alloc::{AllocError, Global};
 
 /// The object that a `unit` line made: a core, and the tickets of its uncollected calls. Each call that the last command
 /// ended was collected.
 #[derive(Drop)]
-pub struct Object<U: Unit<Value = u64>> {
+pub struct UnitObject<U: Unit<Value = u64>> {
     core: Core<U>,
     tickets: Tickets,
     ghost knows: { Knows core.tickets tickets },
@@ -35,7 +34,7 @@ fn make<U: Unit + Drop>(
 ) -> Result<Core<U>, AllocError>
     requires counted { IfOk shape (λ s. entry_count s ≡ U.meaning.entries unit) }
     requires within_limits { shape ≢ Err ShapeFault.TooManyEntries }
-    ensures core { IfOk result (λ core. IfOk shape (λ s. core.object ≡ opening_view (making_of unit s beginning.order beginning.max_queue))) }
+    ensures core { IfOk result (λ core. IfOk shape (λ s. core.object ≡ opening_view (setup_of unit s beginning.order beginning.max_queue))) }
     ensures shape { OnOk result (IsOk shape) }
     ensures tickets { IfOk result (λ core. core.tickets ≡ []) }
     ensures collected { IfOk result (λ core. AreCollected core) }
@@ -57,19 +56,19 @@ fn make<U: Unit + Drop>(
     }
 }
 
-impl<U: ScriptUnit> Object<U> {
+impl<U: ScriptUnit> UnitObject<U> {
     ghost use Rattle.po_classic_units.specs.Sizes.{IsSizeWhere};
     ghost use Rattle.po_script.specs.Operations.{after_operation, operation_lines, IsEither};
     ghost use Rattle.po_script.specs.Units.{made};
 
     /// The object that a `unit` line begins.
-    pub(crate) fn new(alloc: Global, beginning: Beginning) -> Result<Object<U>, AllocError>
+    pub(crate) fn new(alloc: Global, beginning: Beginning) -> Result<UnitObject<U>, AllocError>
         requires { IsSizeWhere U.known.names.is_sized beginning.unit.size }
         ensures { IfOk result (λ it. it.core.object ≡ made U.known beginning) }
     {
         let unit = U::made(alloc, beginning.unit.size)?;
         let shape = unit.shape(alloc);
-        Ok(Object {
+        Ok(UnitObject {
             core: make(alloc, shape, unit, beginning)?,
             tickets: Tickets::new(alloc),
         })

@@ -1,9 +1,9 @@
 //! The operations of a script, carried out on the core of any unit.
 
 ghost use Rattle.std.specs.Prelude.{◌≡◌, ℕ, ◌<◌, ◌++◌, [], Some, slice_get, OnOk, OnErr, IsOk, string_bytes, false};
-ghost use Rattle.po_actions.specs.View.{ended_now};
-ghost use Rattle.po_index.specs.Numbering.{entry_count, entry_references};
-ghost use Rattle.po_index.specs.declared.decl.EntryRef.{EntryRef as Reference};
+ghost use Rattle.po_core.specs.View.{ended_now};
+ghost use Rattle.po_unit.specs.Numbering.{entry_count, entry_references};
+ghost use Rattle.po_unit.specs.declared.decl.EntryRef.{EntryRef as Reference};
 ghost use Rattle.po_classic_units.specs.Names.{texts_of};
 ghost use Rattle.po_script.specs.Operations.{after_operation, reply_lines, operation_lines, entry_line, entry_lines, show_lines, is_memory, IsEither};
 ghost use Rattle.po_script.specs.Lines.{refused_line, ended_lines};
@@ -15,9 +15,8 @@ use crate::lines::{
 };
 use crate::tickets::Tickets;
 use po_core::{Core, Deadline, Refusal};
-use po_index::EntryRef;
 use po_language::Operation;
-use po_unit::Unit;
+use po_unit::{EntryRef, Unit};
 use std::alloc::AllocError;
 
 /// Puts the line of a refusal into the empty reply. Want of memory is no line.
@@ -240,9 +239,9 @@ fn push_entry<U: Unit<Value = u64>>(
     names: &[&str],
     reply: &mut String,
 ) -> Result<(), AllocError>
-    requires { flat < entry_count core.now.object.making.shape }
+    requires { flat < entry_count core.now.object.setup.shape }
     ensures { OnOk result ((reference : Reference)
-        × (slice_get (entry_references core.now.object.making.shape) flat ≡ Some reference)
+        × (slice_get (entry_references core.now.object.setup.shape) flat ≡ Some reference)
         × (string_bytes reply.new ≡ string_bytes reply.old ++ entry_line U.meaning (texts_of names.now) core.now.object reference)) }
 {
     let reference = core.shape().of_flat(flat);

@@ -3,7 +3,7 @@
 ghost use Rattle.std.specs.Prelude.{◌≡◌, [], IfOk, OnOk, OnErr, string_bytes};
 
 use crate::facts::{UnitFacts, facts_of};
-use crate::object::Object;
+use crate::object::UnitObject;
 use po_classic_units::{
     Allocator, Broadcast, Buffer, Meeting, Pulse, Relay, ScriptUnit, Signal, Trap, UnitNames,
 };
@@ -14,16 +14,16 @@ use std::alloc::{AllocError, Global};
 /// The units that scripts know, in the order in which a `unit` line's name is looked up: the list to which a further unit is
 /// added.
 pub type Units = OneOf<
-    Object<Buffer>,
+    UnitObject<Buffer>,
     OneOf<
-        Object<Signal>,
+        UnitObject<Signal>,
         OneOf<
-            Object<Broadcast>,
+            UnitObject<Broadcast>,
             OneOf<
-                Object<Pulse>,
+                UnitObject<Pulse>,
                 OneOf<
-                    Object<Meeting>,
-                    OneOf<Object<Allocator>, OneOf<Object<Relay>, Object<Trap>>>,
+                    UnitObject<Meeting>,
+                    OneOf<UnitObject<Allocator>, OneOf<UnitObject<Relay>, UnitObject<Trap>>>,
                 >,
             >,
         >,
@@ -77,7 +77,7 @@ pub enum OneOf<O, R> {
     Other(R),
 }
 
-impl<U: ScriptUnit> UnitList for Object<U> {
+impl<U: ScriptUnit> UnitList for UnitObject<U> {
     ghost use Rattle.po_language.specs.Units.UnitList.{last};
 
     ghost listed = { last U.known.names };
@@ -95,7 +95,7 @@ impl<U: ScriptUnit> UnitList for Object<U> {
     }
 }
 
-impl<U: ScriptUnit, R: UnitList> UnitList for OneOf<Object<U>, R> {
+impl<U: ScriptUnit, R: UnitList> UnitList for OneOf<UnitObject<U>, R> {
     ghost use Rattle.po_language.specs.Units.UnitList.{before};
 
     ghost listed = { before U.known.names R.listed };
@@ -115,7 +115,7 @@ impl<U: ScriptUnit, R: UnitList> UnitList for OneOf<Object<U>, R> {
     }
 }
 
-impl<U: ScriptUnit> ScriptObject for Object<U> {
+impl<U: ScriptUnit> ScriptObject for UnitObject<U> {
     ghost use Rattle.std.specs.Prelude.{refl};
     ghost use Rattle.po_script.specs.Units.{last};
 
@@ -123,8 +123,12 @@ impl<U: ScriptUnit> ScriptObject for Object<U> {
 
     ghost object = { λ it. it.core.object };
 
-    fn begin(alloc: Global, _number: u16, beginning: Beginning) -> Result<Object<U>, AllocError> {
-        Object::new(alloc, beginning)
+    fn begin(
+        alloc: Global,
+        _number: u16,
+        beginning: Beginning,
+    ) -> Result<UnitObject<U>, AllocError> {
+        UnitObject::new(alloc, beginning)
     }
 
     fn facts(alloc: Global, _number: u16, size: u16) -> Result<UnitFacts, AllocError> {
@@ -132,7 +136,7 @@ impl<U: ScriptUnit> ScriptObject for Object<U> {
     }
 
     fn operate(&mut self, operation: Operation, reply: &mut String) -> Result<(), AllocError> {
-        Object::operate(self, operation, reply)
+        UnitObject::operate(self, operation, reply)
     }
 
     ghost same_list = { refl };
@@ -140,7 +144,7 @@ impl<U: ScriptUnit> ScriptObject for Object<U> {
     ghost lawful = { U.lawful };
 }
 
-impl<U: ScriptUnit, R: ScriptObject> ScriptObject for OneOf<Object<U>, R> {
+impl<U: ScriptUnit, R: ScriptObject> ScriptObject for OneOf<UnitObject<U>, R> {
     ghost use Rattle.std.proofs.Common.{inl, inr, ap};
     ghost use Rattle.po_language.specs.Units.UnitList.{before as name_before};
     ghost use Rattle.po_script.specs.Units.{before};
@@ -154,9 +158,9 @@ impl<U: ScriptUnit, R: ScriptObject> ScriptObject for OneOf<Object<U>, R> {
         alloc: Global,
         number: u16,
         beginning: Beginning,
-    ) -> Result<OneOf<Object<U>, R>, AllocError> {
+    ) -> Result<OneOf<UnitObject<U>, R>, AllocError> {
         match number.checked_sub(1) {
-            None => Ok(OneOf::This(Object::new(alloc, beginning)?)),
+            None => Ok(OneOf::This(UnitObject::new(alloc, beginning)?)),
             Some(rest) => Ok(OneOf::Other(R::begin(alloc, rest, beginning)?)),
         }
     }

@@ -12,8 +12,8 @@ use Rattle.po_calls.specs.declared.end.End.{End}
 use Rattle.po_calls.specs.declared.end.End.TheVariants.{Completed, Raised, Cancelled, ProgramError}
 use Rattle.po_history.specs.declared.event.Event.{Event}
 use Rattle.po_history.specs.declared.event.Event.TheVariants.{Issue, Ran, Abort, Tick, Final, Serve, Break, Expire}
-use Rattle.po_accepted.specs.declared.ended.Ended.{Ended}
-use Rattle.po_actions.specs.Base.{is_issue}
+use Rattle.po_engine.specs.declared.ended.Ended.{Ended}
+use Rattle.po_core.specs.Base.{is_issue}
 use Rattle.po_receipts.specs.declared.receipt.Receipt.TheVariants as R
 use Rattle.po_receipts.specs.Passes.{PassView, fresh}
 use Rattle.po_receipts.specs.Receipts.{is_asked_by, answer_of, receipt_of}

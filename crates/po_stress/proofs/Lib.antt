@@ -1,3 +1,3 @@
-pub mod Parts
-pub mod EndSums
 pub mod CallEnds
+pub mod EndSums
+pub mod Parts

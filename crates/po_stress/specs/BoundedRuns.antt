@@ -1,8 +1,8 @@
 -- What the totals of a run over an object with fixed memory say (this project's own).
 use Rattle.std.specs.Prelude.{ℕ, ◌≡◌, ◌+◌, ◌*◌, All, count_by, length, true}
 use Rattle.po_unit.specs.Meaning.{Meaning}
-use Rattle.po_actions.specs.Base.{is_issue}
-use Rattle.po_actions.specs.Headline.{Headline}
+use Rattle.po_core.specs.Base.{is_issue}
+use Rattle.po_core.specs.Headline.{Headline}
 use Rattle.po_classic_units.specs.Buffer.{buffer_meaning}
 use Rattle.po_classic_units.specs.Allocator.{allocator_meaning}
 use Rattle.po_classic_units.specs.Meeting.{meeting_meaning}

@@ -1,8 +1,8 @@
-pub mod Units
+pub mod BoundedRuns
 pub mod Counts
 pub mod Ends
 pub mod Pieces
-pub mod Totals
 pub mod Reports
 pub mod Runs
-pub mod BoundedRuns
+pub mod Totals
+pub mod Units

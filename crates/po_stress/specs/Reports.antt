@@ -2,7 +2,7 @@
 use Rattle.std.specs.Prelude.{codes, ℕ, ◌≡◌, ◌↔◌, ◌+◌, ◌++◌, ◌∷◌, List, [], Option, count_by, flat_map, Result, Ok, Err, IsOk}
 use Rattle.std.specs.Fmt.{decimal}
 use Rattle.std.specs.Io.KnownBytes.{Appends}
-use Rattle.po_actions.specs.Base.{is_issue}
+use Rattle.po_core.specs.Base.{is_issue}
 use Rattle.po_receipts.specs.Agreement.{IsAgreed, IsFaultOf}
 use Rattle.po_receipts.specs.declared.comparison.Agreed.{Agreed}
 use Rattle.po_receipts.specs.declared.fault.ReconcileFault.{ReconcileFault}

@@ -1,7 +1,7 @@
 -- What a report of a run says (this project's own).
 use Rattle.std.specs.Prelude.{ℕ, ◌≡◌, ◌*◌, All, IsOk, length}
 use Rattle.po_unit.specs.Meaning.{Meaning}
-use Rattle.po_actions.specs.Headline.{Headline}
+use Rattle.po_core.specs.Headline.{Headline}
 use Rattle.po_classic_units.specs.Buffer.{buffer_meaning}
 use Rattle.po_classic_units.specs.Allocator.{allocator_meaning}
 use Rattle.po_classic_units.specs.Meeting.{meeting_meaning}

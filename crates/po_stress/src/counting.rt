@@ -1,7 +1,7 @@
 //! The numbers of calls in a history.
 
 ghost use Rattle.std.specs.Prelude.{◌≡◌, count_by};
-ghost use Rattle.po_actions.specs.Base.{is_issue};
+ghost use Rattle.po_core.specs.Base.{is_issue};
 ghost use Rattle.po_stress.specs.Counts.{ends_as, issues_ended};
 
 use po_core::{Core, End, Event};

@@ -4,7 +4,7 @@ use crate::loaded::Loaded;
 use crate::progress::Progress;
 use crate::unit::StressUnit;
 use po_core::Refusal;
-use po_index::EntryRef;
+use po_unit::EntryRef;
 use std::sync::Wait;
 
 /// The first entry of a unit: Put of a buffer, Request of an allocator, Wait of a meeting.

@@ -15,10 +15,10 @@ use crate::report::Report;
 use crate::run::run_over;
 use crate::totals::Totals;
 use po_core::{BoundedCore, Core, Order, Record, Start};
-use po_index::Shape;
-use po_object::hold::Pass;
-use po_object::{BoundedClosed, BoundedObject, CallLedger, Closed, Object, OpenFault, Receipts};
-use po_unit::Unit;
+use po_object::{
+    BoundedClosed, BoundedObject, CallLedger, Closed, Object, OpenFault, Pass, Receipts,
+};
+use po_unit::{Shape, Unit};
 use std::alloc::{AllocError, Global};
 use std::sync::ledger::{Blank, Ledger};
 use std::sync::{Arc, Wait};
@@ -71,7 +71,7 @@ fn open_shared<
     calls: Blank,
     procedures: Blank,
 ) -> Result<(Arc<Object<U, C, P, F, R, Q>>, Vec<Pass<u64, C, P, F, Q>>), AllocError>
-    requires shape { core.object.making.shape ≡ C.shape }
+    requires shape { core.object.setup.shape ≡ C.shape }
     requires calls { (calls.name ≡ C.name) × (calls.parts ≡ C.parts) × (calls.parts ≡ threads + 1) }
     requires procedures { (procedures.name ≡ P.name) × (procedures.parts ≡ P.parts) × (procedures.parts ≡ threads + 1) }
     requires unbounded { (Q.is_bounded ≡ false) × (R.is_bounded ≡ false) }
@@ -104,7 +104,7 @@ fn open_shared_bounded<
     procedures: Blank,
     free: Blank,
 ) -> Result<(Arc<Object<U, C, P, F, R, Q>>, Vec<Pass<u64, C, P, F, Q>>), AllocError>
-    requires shape { core.object.making.shape ≡ C.shape }
+    requires shape { core.object.setup.shape ≡ C.shape }
     requires most { IfSome core.capacity (λ most. threads ≤ most) }
     requires calls { (calls.name ≡ C.name) × (calls.parts ≡ C.parts) × (calls.parts ≡ threads + 1) }
     requires procedures { (procedures.name ≡ P.name) × (procedures.parts ≡ P.parts) × (procedures.parts ≡ threads + 1) }

@@ -1,7 +1,7 @@
 //! What the threads of a run need of an object.
 
 use po_core::Refusal;
-use po_index::EntryRef;
+use po_unit::EntryRef;
 use std::sync::Wait;
 
 /// An object that the threads of a run call. Each thread carries a caller, which has a seat of the object.

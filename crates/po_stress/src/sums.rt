@@ -1,7 +1,7 @@
 //! What the numbers of a report add up to, where all answers agree with the history.
 
 ghost use Rattle.std.specs.Prelude.{◌≡◌, ◌+◌, ◌↔◌, ◌⊎◌, [], Err, IsOk, count_by, sum_by};
-ghost use Rattle.po_actions.specs.Base.{is_issue};
+ghost use Rattle.po_core.specs.Base.{is_issue};
 ghost use Rattle.po_receipts.specs.Agreement.{IsAgreed};
 ghost use Rattle.po_stress.specs.Counts.{issues_ended};
 ghost use Rattle.po_stress.specs.declared.counting.Ending.TheVariants.{Done, GivenUp, Failed};

@@ -11,7 +11,7 @@ pub record Meaning (S V : Type 0) : Type 0 where
   pub procedures : S → ℕ
   pub functions : S → ℕ
   -- whether the entry is open, or the number of the exception that its barrier propagates (9.5.2, 9.5.3)
-  pub gate : S → ℕ → List ℕ → Result Bool ℕ
+  pub barrier : S → ℕ → List ℕ → Result Bool ℕ
   -- the state that the entry's body leaves, and how it ends (9.5.2)
   pub body : S → ℕ → V → List ℕ → S × Outcome V
   -- the state that the procedure leaves, and its reply (9.5.1)

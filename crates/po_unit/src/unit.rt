@@ -31,7 +31,7 @@ pub trait Unit: Sized {
     fn barrier(&self, e: u16, counts: &[u64]) -> Result<bool, u32>
         requires entry { e < meaning.entries self.now }
         requires counts { length counts.now ≡ meaning.entries self.now }
-        ensures { result ≡ meaning.gate self.now e counts.now };
+        ensures { result ≡ meaning.barrier self.now e counts.now };
 
     /// Runs the body of the entry for a call with this value (9.5.2).
     fn body(&mut self, e: u16, v: Self::Value, counts: &[u64]) -> Outcome<Self::Value>

@@ -1,7 +1,7 @@
 -- What is noted so far and what the command ended since are all that have ended.
 use Rattle.std.proofs.Common.{◌≡◌, ◌≤◌, ◌-◌, ◌++◌, length, take, drop, vec_len, ap₂, ◌∙◌, sym, subst}
 use Rattle.std.specs.List.{All, count_by}
-use Rattle.po_accepted.specs.Ending.{has_ended}
+use Rattle.po_engine.specs.Ending.{has_ended}
 use Rattle.po_core.specs.Outcomes.{AreOutcomes, IsCallOf}
 use Rattle.po_core.proofs.Noted.{rest_noted}
 use Rattle.po_core.proofs.noting.note_calls.Goals as goal

@@ -1,7 +1,7 @@
 use Rattle.std.proofs.Common.{◌≡◌, ◌+◌, ◌∷◌, ◌++◌, [], None, take, arith, refl, sym, ap, subst, ◌∙◌, append_assoc}
 use Rattle.std.specs.List.{find}
 use Rattle.std.proofs.lemmas.List.{take_more}
-use Rattle.po_accepted.specs.Ending.{has_ended}
+use Rattle.po_engine.specs.Ending.{has_ended}
 use Rattle.po_core.specs.Outcomes.{AreOutcomes, IsCallOf}
 use Rattle.po_core.proofs.Noted.{not_before, later_holds, outcomes_push}
 use Rattle.po_core.proofs.noting.note_ends.Goals as goal

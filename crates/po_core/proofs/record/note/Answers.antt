@@ -10,7 +10,7 @@ note_calls-requires g c =
       is = c.push.ensures.events;
       from = n.from;
       room = n.room;
-      has = c.push.ensures.has c.args.making.now (known_of n.from) n.room (calls_of c.args.ticket) n.has;
+      has = c.push.ensures.has c.args.setup.now (known_of n.from) n.room (calls_of c.args.ticket) n.has;
       follows = n.follows;
       fits = n.fits;
     })

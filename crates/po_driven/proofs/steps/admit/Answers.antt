@@ -1,4 +1,4 @@
-use Rattle.po_accepted.proofs.TicketCounts.{one-more}
+use Rattle.po_engine.proofs.TicketCounts.{one-more}
 use Rattle.po_driven.proofs.steps.admit.Goals as goal
 
 pub returns-clause-count : goal.returns-clause-count

@@ -4,4 +4,4 @@ use Rattle.po_driven.proofs.steps.cancel.Goals as goal
 
 pub returns-clause-placed : goal.returns-clause-placed
 returns-clause-placed c = λ p.
-    cancelled c.args.state.now c.cancel.new.self c.args.ticket.number c.requires.hand (ap (λ v. v.state) c.cancel.ensures.state) (ap (λ v. v.hand) c.cancel.ensures.state ∙ c.requires.hand) p
+    cancelled c.args.state.now c.cancel.new.self c.args.ticket.number c.requires.serving (ap (λ v. v.state) c.cancel.ensures.state) (ap (λ v. v.serving) c.cancel.ensures.state ∙ c.requires.serving) p

@@ -18,5 +18,5 @@ returns-clause-rises c = λ h. subst (λ v. Increases v.places) (sym c.take_olde
 pub returns-clause-placed : goal.returns-clause-placed
 returns-clause-placed c = λ p.
     let s = c.args.state.now in
-    took s c.take_oldest.new.self (λ x. true) c.take_oldest.result c.requires.hand (oldest_is s.state.waiting ∙ sym c.take_oldest.ensures.found)
-    (ap (λ v. v.state) c.take_oldest.ensures.state ∙ ap (λ xs. record s.state { waiting = xs }) (oldest_left s.state.waiting)) (ap (λ v. v.hand) c.take_oldest.ensures.state) p
+    took s c.take_oldest.new.self (λ x. true) c.take_oldest.result c.requires.serving (oldest_is s.state.waiting ∙ sym c.take_oldest.ensures.found)
+    (ap (λ v. v.state) c.take_oldest.ensures.state ∙ ap (λ xs. record s.state { waiting = xs }) (oldest_left s.state.waiting)) (ap (λ v. v.serving) c.take_oldest.ensures.state) p

@@ -1,10 +1,10 @@
 use Rattle.std.proofs.Common.{length, ap, refl, sym, subst, arith}
 use Rattle.std.specs.Prelude.{IsSome}
 use Rattle.std.specs.List.{find}
-use Rattle.po_accepted.specs.Ending.{has_ended}
-use Rattle.po_accepted.specs.Tickets.{uncollected}
-use Rattle.po_accepted.specs.WaitingCalls.{has_number}
-use Rattle.po_driven.specs.OnePlace.{hands}
+use Rattle.po_engine.specs.Ending.{has_ended}
+use Rattle.po_engine.specs.Tickets.{uncollected}
+use Rattle.po_engine.specs.WaitingCalls.{has_number}
+use Rattle.po_driven.specs.OnePlace.{calls_in_service}
 use Rattle.po_driven.proofs.Held.{cancelled_ended, cancelled_len}
 use Rattle.po_driven.proofs.steps.withdraw.Goals as goal
 
@@ -25,6 +25,6 @@ returns-clause-tickets c = λ h.
       ap (λ v. length v.state.waiting) left,
       ap (λ v. length v.state.waiting) cancelled,
       cancelled_len s n (find (has_number n) s.waiting) refl c.requires.found,
-      ap (λ v. hands v.hand) left,
-      ap (λ v. hands v.hand) cancelled,
+      ap (λ v. calls_in_service v.serving) left,
+      ap (λ v. calls_in_service v.serving) cancelled,
     )

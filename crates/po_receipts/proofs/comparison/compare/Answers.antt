@@ -29,7 +29,7 @@ pub returns-in-Some-clause-agreed : goal.returns-in-Some-clause-agreed
 returns-in-Some-clause-agreed g c =
     let core = c.args.core.now in
     let volumes = c.args.volumes.now in
-    let at : gap core.object.making.first_place volumes core.object.base.place ≡ Some c.in-Some.place = search rules in (
+    let at : gap core.object.setup.first_place volumes core.object.base.place ≡ Some c.in-Some.place = search rules in (
       λ good. absurd (false≢true good),
       λ agreed. absurd (no_fault core c.args.passes.now volumes (Gap c.in-Some.place) at agreed),
     )
@@ -38,7 +38,7 @@ pub returns-in-Some-clause-fault : goal.returns-in-Some-clause-fault
 returns-in-Some-clause-fault g c =
     let core = c.args.core.now in
     let volumes = c.args.volumes.now in
-    let at : gap core.object.making.first_place volumes core.object.base.place ≡ Some c.in-Some.place = search rules in
+    let at : gap core.object.setup.first_place volumes core.object.base.place ≡ Some c.in-Some.place = search rules in
     is_fault core c.args.passes.now volumes (Gap c.in-Some.place) at
 
 pub returns-clause-agreed : goal.returns-clause-agreed
@@ -47,7 +47,7 @@ returns-clause-agreed g c =
     let passes = c.args.passes.now in
     let volumes = c.args.volumes.now in (
       λ _. record {
-        whole = runs_on core.object.making.first_place volumes core.object.base.place (search rules);
+        whole = runs_on core.object.setup.first_place volumes core.object.base.place (search rules);
         agree = agree_all core.object.state.ended (history_of core volumes) passes c.loop-first.first c.loop-first-test.false c.loop-first.invariant.agree;
       },
       λ _. refl,
@@ -59,7 +59,7 @@ returns-clause-fault g c =
     let passes = c.args.passes.now in
     let volumes = c.args.volumes.now in
     is_none core passes volumes (record {}) (record {
-      whole = runs_on core.object.making.first_place volumes core.object.base.place (search rules);
+      whole = runs_on core.object.setup.first_place volumes core.object.base.place (search rules);
       agree = agree_all core.object.state.ended (history_of core volumes) passes c.loop-first.first c.loop-first-test.false c.loop-first.invariant.agree;
     })
 
@@ -70,7 +70,7 @@ returns-in-Some-difference_in_round-clause-agreed g c =
     let volumes = c.args.volumes.now in
     let found = c.in-Some-difference_in_round.found in
     let fault : IsFaultOf core passes volumes (Mismatch found.seat found.place) =
-    (runs_on core.object.making.first_place volumes core.object.base.place (search rules), c.in-Some-difference_in_round.ensures c.loop-first.invariant.agree) in (
+    (runs_on core.object.setup.first_place volumes core.object.base.place (search rules), c.in-Some-difference_in_round.ensures c.loop-first.invariant.agree) in (
       λ good. absurd (false≢true good),
       λ agreed. absurd (no_fault core passes volumes (Mismatch found.seat found.place) fault agreed),
     )
@@ -82,4 +82,4 @@ returns-in-Some-difference_in_round-clause-fault g c =
     let volumes = c.args.volumes.now in
     let found = c.in-Some-difference_in_round.found in
     is_fault core passes volumes (Mismatch found.seat found.place)
-    (runs_on core.object.making.first_place volumes core.object.base.place (search rules), c.in-Some-difference_in_round.ensures c.loop-first.invariant.agree)
+    (runs_on core.object.setup.first_place volumes core.object.base.place (search rules), c.in-Some-difference_in_round.ensures c.loop-first.invariant.agree)

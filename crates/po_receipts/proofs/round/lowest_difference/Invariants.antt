@@ -1,5 +1,5 @@
 use Rattle.std.proofs.Common.{◌+◌, List}
-use Rattle.po_accepted.specs.declared.ended.Ended.{Ended}
+use Rattle.po_engine.specs.declared.ended.Ended.{Ended}
 use Rattle.po_history.specs.declared.event.Event.{Event}
 use Rattle.po_receipts.specs.Agreement.{AgreeBelow}
 use Rattle.po_receipts.specs.Marks.{AreMarks}

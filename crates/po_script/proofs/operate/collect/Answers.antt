@@ -1,5 +1,5 @@
 use Rattle.std.proofs.Common.{◌<◌, ◌≤◌, ◌∙◌, ap, sym, length, arith}
-use Rattle.po_actions.specs.View.{ended_now}
+use Rattle.po_core.specs.View.{ended_now}
 use Rattle.po_script.proofs.CollectLemmas.{found_ended, collected_more}
 use Rattle.po_script.proofs.operate.collect.Goals as goal
 

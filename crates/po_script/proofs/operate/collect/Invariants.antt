@@ -1,5 +1,5 @@
 use Rattle.std.proofs.Common.{◌≡◌}
-use Rattle.po_actions.specs.View.{ended_now}
+use Rattle.po_core.specs.View.{ended_now}
 use Rattle.po_script.specs.Tickets.{Knows}
 use Rattle.po_script.proofs.CollectLemmas.{AreCollectedTo}
 use Rattle.po_script.proofs.operate.collect.Given as goal

@@ -1,6 +1,6 @@
 use Rattle.std.proofs.Common.{◌≡◌, refl, subst}
 use Rattle.std.specs.List.{All}
-use Rattle.po_actions.specs.Headline.{Headline}
+use Rattle.po_core.specs.Headline.{Headline}
 use Rattle.po_core.specs.Tickets.{CoreView}
 use Rattle.po_stress.specs.Reports.{AddUpTo}
 use Rattle.po_stress.proofs.EndSums.{same_tallies}

@@ -1,8 +1,8 @@
 use Rattle.std.proofs.Common.{◌≡◌, ◌+◌, ℕ, refl, subst, ap, ◌∙◌, arith}
 use Rattle.std.specs.List.{count_by}
 use Rattle.std.proofs.lemmas.Bool.{eq-eqb}
-use Rattle.po_actions.specs.Base.{is_issue}
-use Rattle.po_actions.specs.Headline.{Headline}
+use Rattle.po_core.specs.Base.{is_issue}
+use Rattle.po_core.specs.Headline.{Headline}
 use Rattle.po_core.specs.Tickets.{CoreView}
 use Rattle.po_stress.proofs.EndSums.{same_tallies}
 use Rattle.po_stress.proofs.kinds.totals_of.Goals as goal
@@ -13,7 +13,7 @@ returns g c =
     let core = c.args.closed.now.core in
     let holds : M → Type 0 = λ m. Headline g.U.Unit.meaning m.object in
     let issues : M → ℕ = λ m. count_by is_issue m.object.events in
-    let counted : M → Type 0 = λ m. m.object.state.next ≡ m.object.making.first_number + c.issued.result in
+    let counted : M → Type 0 = λ m. m.object.state.next ≡ m.object.setup.first_number + c.issued.result in
     let passes = c.args.closed.now.passes in
     let ends = c.requires.ends in
     let told = c.of.ensures in

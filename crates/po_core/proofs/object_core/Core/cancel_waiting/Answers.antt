@@ -1,11 +1,11 @@
 use Rattle.std.proofs.Common.{◌≡◌, Some, sym, subst}
 use Rattle.std.specs.List.{find}
-use Rattle.po_accepted.specs.WaitingCalls.{has_number}
+use Rattle.po_engine.specs.WaitingCalls.{has_number}
 use Rattle.po_history.specs.declared.event.Event.TheVariants.{Abort}
-use Rattle.po_actions.specs.ProtectedAction.{after_abort}
+use Rattle.po_core.specs.ProtectedAction.{after_abort}
 use Rattle.po_core.proofs.TicketLemmas.{issued_action, issued_begun, same_core}
-use Rattle.po_actions.proofs.Aborts.{marks}
-use Rattle.po_actions.proofs.VolumesStay.{volumes_settled, volumes_begun}
+use Rattle.po_core.proofs.Aborts.{marks}
+use Rattle.po_core.proofs.VolumesStay.{volumes_settled, volumes_begun}
 use Rattle.po_core.proofs.object_core.Core.cancel_waiting.Goals as goal
 
 pub invariant_of-self : goal.invariant_of-self

@@ -1,4 +1,4 @@
-use Rattle.po_actions.proofs.VolumesStay.{volumes_begun}
+use Rattle.po_core.proofs.VolumesStay.{volumes_begun}
 use Rattle.po_history.specs.declared.event.Event.TheVariants.{Final}
 use Rattle.po_core.proofs.object_core.Core.finalize.Goals as goal
 

@@ -1,6 +1,6 @@
 use Rattle.std.proofs.Common.{subst, ap}
-use Rattle.po_actions.specs.Headline.{IsSound}
-use Rattle.po_actions.proofs.Soundness.{uncut}
+use Rattle.po_core.specs.Headline.{IsSound}
+use Rattle.po_core.proofs.Soundness.{uncut}
 use Rattle.po_core.proofs.object_core.Core.headline.Goals as goal
 
 pub returns-clause-uncut : goal.returns-clause-uncut

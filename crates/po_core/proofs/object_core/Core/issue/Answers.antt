@@ -1,13 +1,13 @@
 use Rattle.std.proofs.Common.{◌<◌, ap, sym, subst}
-use Rattle.po_index.proofs.NumberingLemmas.{flat_number-lt-entry_count}
+use Rattle.po_unit.proofs.NumberingLemmas.{flat_number-lt-entry_count}
 use Rattle.po_core.proofs.TicketLemmas.{issued_issue}
-use Rattle.po_actions.proofs.VolumesStay.{volumes_settled}
+use Rattle.po_core.proofs.VolumesStay.{volumes_settled}
 use Rattle.po_history.specs.declared.event.Event.TheVariants.{Issue}
 use Rattle.po_core.proofs.object_core.Core.issue.Goals as goal
 
 pub issue-requires-clause-entry : goal.issue-requires-clause-entry
 issue-requires-clause-entry g c =
-    let low = flat_number-lt-entry_count c.self.inside.tracked.object.making.shape c.args.entry c.in_ok-e.e (rw (← ap (λ core. core.object.making.shape) c.self.view_is) at c.in_ok-e.ensures.number) in
+    let low = flat_number-lt-entry_count c.self.inside.tracked.object.setup.shape c.args.entry c.in_ok-e.e (rw (← ap (λ core. core.object.setup.shape) c.self.view_is) at c.in_ok-e.ensures.number) in
     subst (λ n. c.in_ok-e.e < n) (sym c.recall_invariant.ensures.shaped) low
 
 pub invariant_of-self-2 : goal.invariant_of-self-2

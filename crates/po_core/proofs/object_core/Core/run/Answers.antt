@@ -1,6 +1,6 @@
 use Rattle.po_history.specs.declared.event.Event.TheVariants.{Ran}
 use Rattle.po_core.proofs.TicketLemmas.{issued_action}
-use Rattle.po_actions.proofs.VolumesStay.{volumes_settled}
+use Rattle.po_core.proofs.VolumesStay.{volumes_settled}
 use Rattle.po_core.proofs.object_core.Core.run.Goals as goal
 
 pub invariant_of-self-2 : goal.invariant_of-self-2

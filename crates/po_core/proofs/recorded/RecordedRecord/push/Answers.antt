@@ -6,9 +6,9 @@ pub counted-self-requires : goal.counted-self-requires
 counted-self-requires g c =
     let a = c.args.self.now in
     let n = c.requires in
-    recording_ran g.U.Unit.meaning n.making a.base n.from n.to c.args.event n.noted (n.room + 1) n.ticket a.history a.keys a.ended a.ran n.has n.follows
+    recording_ran g.U.Unit.meaning n.setup a.base n.from n.to c.args.event n.noted (n.room + 1) n.ticket a.history a.keys a.ended a.ran n.has n.follows
 
 pub returns-clause-has : goal.returns-clause-has
-returns-clause-has g c = λ making s room calls i.
+returns-clause-has g c = λ setup s room calls i.
     let a = c.args.self.now in
-    recording_push g.U.Unit.meaning making a.base s c.args.event room calls a.history c.push_owed.new.self a.keys a.ended a.ran c.counted-self.result c.push_owed.ensures.exact c.counted-self.ensures i
+    recording_push g.U.Unit.meaning setup a.base s c.args.event room calls a.history c.push_owed.new.self a.keys a.ended a.ran c.counted-self.result c.push_owed.ensures.exact c.counted-self.ensures i

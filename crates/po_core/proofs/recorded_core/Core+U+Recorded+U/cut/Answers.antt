@@ -1,7 +1,7 @@
 use Rattle.std.proofs.Common.{sym, subst}
 use Rattle.po_engine.specs.ObjectState.{IsAtRest}
 use Rattle.po_core.specs.Tickets.{AreIssued}
-use Rattle.po_actions.proofs.CutLemmas.{joins, leads_there, keeps_arrivals}
+use Rattle.po_core.proofs.CutLemmas.{joins, leads_there, keeps_arrivals}
 use Rattle.po_core.proofs.recorded_core.Core+U+Recorded+U.cut.Goals as goal
 
 pub invariant_of-self-2 : goal.invariant_of-self-2

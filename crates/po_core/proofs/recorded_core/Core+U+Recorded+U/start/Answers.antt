@@ -1,6 +1,6 @@
 use Rattle.std.proofs.Common.{ap}
 use Rattle.po_core.specs.Noting.{known_of}
-use Rattle.po_actions.proofs.Histories.{rest_opening}
+use Rattle.po_core.proofs.Histories.{rest_opening}
 use Rattle.po_core.specs.Tickets.{capacity_of}
 use Rattle.po_core.proofs.TicketLemmas.{issued_opening}
 use Rattle.po_core.proofs.recorded_core.Core+U+Recorded+U.start.Goals as goal
@@ -12,4 +12,4 @@ new-requires-3-clause-has g c =
 
 pub invariant_of-result : goal.invariant_of-result
 invariant_of-result g c =
-    rw c.new-3.ensures (record { rest = rest_opening g.U.Unit.meaning c.new-making.result.opening c.new-making.result.first_number; issued = issued_opening g.row.U-Value.Denot c.new-making.result (capacity_of c.in_ok-state.state) })
+    rw c.new-3.ensures (record { rest = rest_opening g.U.Unit.meaning c.new-setup.result.opening c.new-setup.result.first_number; issued = issued_opening g.row.U-Value.Denot c.new-setup.result (capacity_of c.in_ok-state.state) })

@@ -1,5 +1,5 @@
 use Rattle.std.proofs.Common.{◌≡◌, List, refl, ap, ◌∙◌, arith, length, vec_len}
-use Rattle.po_accepted.specs.declared.ended.Ended.{Ended}
+use Rattle.po_engine.specs.declared.ended.Ended.{Ended}
 use Rattle.po_core.proofs.Cuts.{IsPicture, is_picture, tracked_cut, recording_cut}
 use Rattle.po_core.proofs.recorded_object.TrackedObject+U+Recorded+U.cut.Goals as goal
 
@@ -22,8 +22,8 @@ invariant_of-self-2 g c =
       last = refl;
     } in
     record {
-      tracked = tracked_cut m a.making a.kept.base a.state a.kept.history a.kept.keys a.kept.ended a.last a.place a.kept.ran g.met.U.Unit.lawful _ c.cut.new.self c.self.invariant.tracked r is c.in_ok-volume.ensures.after;
-      has = recording_cut m a.making a.kept.base a.state a.kept.history a.kept.keys a.kept.ended a.last a.place a.kept.ran _ c.cut.new.self r is c.in_ok-volume.ensures.after;
+      tracked = tracked_cut m a.setup a.kept.base a.state a.kept.history a.kept.keys a.kept.ended a.last a.place a.kept.ran g.met.U.Unit.lawful _ c.cut.new.self c.self.invariant.tracked r is c.in_ok-volume.ensures.after;
+      has = recording_cut m a.setup a.kept.base a.state a.kept.history a.kept.keys a.kept.ended a.last a.place a.kept.ran _ c.cut.new.self r is c.in_ok-volume.ensures.after;
     }
 
 pub returns-clause-after : goal.returns-clause-after
@@ -32,7 +32,7 @@ returns-clause-after g c =
     let a = c.self.inside in
     let r = c.self.invariant.has in
     let len : vec_len a.kept.ended ≡ length a.state.state.ended = omega (arith, a.kept.ended.ok.0, ap (λ (l : List (Ended g.row.U-Value.Denot)). length l) r.ended) in
-    let picture = is_picture m a.making a.kept.base a.state a.kept.history a.kept.keys a.kept.ended a.last a.place a.kept.ran _ c.self.invariant.tracked r (record {
+    let picture = is_picture m a.setup a.kept.base a.state a.kept.history a.kept.keys a.kept.ended a.last a.place a.kept.ran _ c.self.invariant.tracked r (record {
       unit = c.in_ok-unit.ensures ∙ c.unit.ensures;
       waiting = c.in_ok-waiting.ensures.calls;
       arrivals = c.in_ok-waiting.ensures.places;

@@ -1,7 +1,7 @@
 use Rattle.std.proofs.Common.{◌≡◌, ◌∙◌, sym, ap, ap₂, Some}
 use Rattle.std.specs.List.{find}
-use Rattle.po_accepted.specs.WaitingCalls.{has_number}
-use Rattle.po_accepted.specs.Calls.{key_of}
+use Rattle.po_engine.specs.WaitingCalls.{has_number}
+use Rattle.po_engine.specs.Calls.{key_of}
 use Rattle.po_core.proofs.Keys.{waiting_by_key, none_without_key}
 use Rattle.po_core.proofs.recorded_object.TrackedObject+U+Recorded+U.waiting_call.Goals as goal
 

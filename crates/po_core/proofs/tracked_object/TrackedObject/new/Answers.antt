@@ -7,8 +7,8 @@ use Rattle.po_core.proofs.tracked_object.TrackedObject.new.Goals as goal
 pub invariant_of-result : goal.invariant_of-result
 invariant_of-result g c =
     let s = c.args.state in
-    let making = c.args.making in
+    let setup = c.args.setup in
     record {
-      tracked = rw (c.from-place.ensures, c.first_place.ensures, c.requires.base, c.requires.events) (tracked_opens g.U.Unit.meaning making c.requires.total (omega (arith, c.first_place.ensures)) (omega (arith, c.first_number-number.ensures)) s s.most s.is_fixed c.requires.state);
-      has = subst (λ x. g.R.Record.IsOf making c.args.kept (known_of s) (owed g.U.Unit.meaning x) 0) (sym (ap (λ x. x.state) c.requires.state)) c.requires.has;
+      tracked = rw (c.from-place.ensures, c.first_place.ensures, c.requires.base, c.requires.events) (tracked_opens g.U.Unit.meaning setup c.requires.total (omega (arith, c.first_place.ensures)) (omega (arith, c.first_number-number.ensures)) s s.most s.is_fixed c.requires.state);
+      has = subst (λ x. g.R.Record.IsOf setup c.args.kept (known_of s) (owed g.U.Unit.meaning x) 0) (sym (ap (λ x. x.state) c.requires.state)) c.requires.has;
     }

@@ -1,6 +1,6 @@
 use Rattle.std.proofs.Common.{◌≡◌}
 use Rattle.po_engine.specs.Pick.{weight}
-use Rattle.po_actions.specs.Progress.{Settles, IsSameCommand}
+use Rattle.po_core.specs.Progress.{Settles, IsSameCommand}
 use Rattle.po_core.proofs.tracked_object.TrackedObject.settle.Given as goal
 
 abbrev pub invariant-loop : goal.invariant-loop

@@ -1,7 +1,7 @@
 use Rattle.std.proofs.Common.{◌≡◌, [], subst}
 use Rattle.std.specs.Prelude.{IfSome, IsSome}
 use Rattle.std.specs.List.{find}
-use Rattle.po_accepted.specs.WaitingCalls.{is_on}
+use Rattle.po_engine.specs.WaitingCalls.{is_on}
 use Rattle.po_driven.proofs.Rests.{none_waits, none_found}
 use Rattle.po_driven.proofs.driven_object.DrivenObject.arrived.Goals as goal
 

@@ -1,6 +1,6 @@
 use Rattle.std.proofs.Common.{◌≡◌, ◌<◌, ◌∙◌, subst, count_by}
-use Rattle.po_accepted.specs.WaitingCalls.{is_on}
-use Rattle.po_accepted.proofs.Lists.{count_at}
+use Rattle.po_engine.specs.WaitingCalls.{is_on}
+use Rattle.po_engine.proofs.Lists.{count_at}
 use Rattle.po_driven.proofs.driven_object.DrivenObject.count.Goals as goal
 
 pub returns-then-e-entries-clause-exact : goal.returns-then-e-entries-clause-exact

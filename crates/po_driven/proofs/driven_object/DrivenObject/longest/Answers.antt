@@ -1,8 +1,8 @@
 use Rattle.std.proofs.Common.{◌≡◌, ◌<◌, ◌∙◌, Some, length, arith, sym, subst, ap, ap₂}
 use Rattle.std.specs.List.{count_by, slice_index}
 use Rattle.std.proofs.lemmas.Grind.{get_or_default_zero}
-use Rattle.po_accepted.specs.WaitingCalls.{is_on}
-use Rattle.po_accepted.proofs.Lists.{count_at}
+use Rattle.po_engine.specs.WaitingCalls.{is_on}
+use Rattle.po_engine.proofs.Lists.{count_at}
 use Rattle.po_driven.specs.Noted.{full_at, longest_on}
 use Rattle.po_driven.proofs.Lengths.{full_some}
 use Rattle.po_driven.proofs.driven_object.DrivenObject.longest.Goals as goal

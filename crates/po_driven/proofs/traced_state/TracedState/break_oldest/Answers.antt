@@ -11,7 +11,7 @@ invariant_of-self-2 c =
     let i = c.self.inside in
     let old : TracedView = record { object = i.state; place = i.place; happened = i.happened.items } in
     let a = c.break_oldest.ensures in
-    let hand = subst (λ v. v.object.hand ≡ None) (sym c.self.view_is) c.requires in
+    let serving = subst (λ v. v.object.serving ≡ None) (sym c.self.view_is) c.requires in
     let new : TracedView = record { object = c.break_oldest.new.state; place = i.place; happened = c.then-self-inside.result.items } in
-    let goes = broken i.state c.break_oldest.new.state (ap (λ v. v.state) a.state ∙ ap (end_oldest i.state.state) a.found) (ap (λ v. v.hand) a.state ∙ hand) in
+    let goes = broken i.state c.break_oldest.new.state (ap (λ v. v.state) a.state ∙ ap (end_oldest i.state.state) a.found) (ap (λ v. v.serving) a.state ∙ serving) in
     traced_on old new Broken c.self.invariant a.unit c.then-self-inside.ensures goes a.placed (a.tickets c.self.invariant.tickets) a.rises (a.kept i.place c.self.invariant.later)

@@ -10,8 +10,8 @@ invariant_of-self c =
     let i = c.self.inside in
     let old : TracedView = record { object = i.state; place = i.place; happened = i.happened.items } in
     let a = c.withdraw.ensures in
-    let hand = subst (λ v. v.object.hand ≡ None) (sym c.self.view_is) c.requires.hand in
+    let serving = subst (λ v. v.object.serving ≡ None) (sym c.self.view_is) c.requires.serving in
     let n = c.args.ticket.number in
     let new : TracedView = record { object = c.withdraw.new.state; place = i.place; happened = c.then-self-inside.result.items } in
-    let goes = cancelled i.state c.withdraw.new.state n (ap (λ v. v.state) a.state) (ap (λ v. v.hand) a.state ∙ hand) in
+    let goes = cancelled i.state c.withdraw.new.state n (ap (λ v. v.state) a.state) (ap (λ v. v.serving) a.state ∙ serving) in
     traced_on old new (Cancelled n) c.self.invariant a.unit c.then-self-inside.ensures goes a.placed (a.tickets c.self.invariant.tickets) a.rises (a.kept i.place c.self.invariant.later)

@@ -1,7 +1,7 @@
 use Rattle.std.proofs.Common.{◌≡◌, ◌∙◌, ◌++◌, ◌∷◌, [], Some, sym, subst, ap}
 use Rattle.std.specs.List.{find}
-use Rattle.po_accepted.specs.Tickets.{waiting_among}
-use Rattle.po_accepted.specs.WaitingCalls.{is_due}
+use Rattle.po_engine.specs.Tickets.{waiting_among}
+use Rattle.po_engine.specs.WaitingCalls.{is_due}
 use Rattle.po_driven.specs.declared.happening.Happening.TheVariants.{Cancelled}
 use Rattle.po_driven.specs.TracedView.{TracedView, led_by}
 use Rattle.po_driven.proofs.Traces.{there}

@@ -14,7 +14,7 @@ invariant_of-self c =
     let old : TracedView = record { object = i.state; place = i.place; happened = i.happened.items } in
     let a = c.set_finalized.ensures in
     let new : TracedView = record { object = c.set_finalized.new.self; place = i.place; happened = c.then-self-inside.result.items } in
-    let goes = finalized i.state c.set_finalized.new.self (ap (λ v. v.state) a) (ap (λ v. v.hand) a) in
+    let goes = finalized i.state c.set_finalized.new.self (ap (λ v. v.state) a) (ap (λ v. v.serving) a) in
     traced_on old new Finalized c.self.invariant (ap (λ v. v.state.unit) a) c.then-self-inside.ensures goes
     (λ p. subst IsThereOnce (sym a) (record { low = p.low; each = p.each }))
     (subst HasTickets (sym a) c.self.invariant.tickets)

@@ -12,7 +12,7 @@ invariant_of-self c =
     let i = c.self.inside in
     let old : TracedView = record { object = i.state; place = i.place; happened = i.happened.items } in
     let a = c.make_due-moved.ensures in
-    let hand = subst (λ v. v.object.hand ≡ Some c.args.call) (sym c.self.view_is) c.requires in
+    let serving = subst (λ v. v.object.serving ≡ Some c.args.call) (sym c.self.view_is) c.requires in
     let new : TracedView = record { object = c.make_due-moved.new.state; place = i.place; happened = c.then-self-inside.result.items } in
-    let goes = due i.state c.make_due-moved.new.state c.args.call hand (ap (λ v. v.state) a.state) (ap (λ v. v.hand) a.state ∙ ap Some a.call) in
+    let goes = due i.state c.make_due-moved.new.state c.args.call serving (ap (λ v. v.state) a.state) (ap (λ v. v.serving) a.state ∙ ap Some a.call) in
     traced_on old new Due c.self.invariant (ap (λ v. v.state.unit) a.state) c.then-self-inside.ensures goes a.placed (a.tickets c.self.invariant.tickets) (λ r. subst (λ v. Increases v.places) (sym a.state) r) (subst (λ v. All (λ k. k < i.place) v.places) (sym a.state) c.self.invariant.later)

@@ -11,10 +11,10 @@ invariant_of-self c =
     let i = c.self.inside in
     let old : TracedView = record { object = i.state; place = i.place; happened = i.happened.items } in
     let a = c.mark.ensures in
-    let hand = subst (λ v. v.object.hand ≡ None) (sym c.self.view_is) c.requires.hand in
+    let serving = subst (λ v. v.object.serving ≡ None) (sym c.self.view_is) c.requires.serving in
     let n = c.args.ticket.number in
     let new : TracedView = record { object = c.mark.new.state; place = i.place; happened = c.then-self-inside.result.items } in
-    let goes = marked i.state c.mark.new.state n (ap (λ v. v.state) a.state) (ap (λ v. v.hand) a.state ∙ hand) in
+    let goes = marked i.state c.mark.new.state n (ap (λ v. v.state) a.state) (ap (λ v. v.serving) a.state ∙ serving) in
     traced_on old new (Marked n) c.self.invariant a.unit c.then-self-inside.ensures goes a.placed (a.tickets c.self.invariant.tickets) a.rises (a.kept i.place c.self.invariant.later)
 
 pub returns-clause-rests : goal.returns-clause-rests

@@ -11,5 +11,5 @@ invariant_of-self c =
     let old : TracedView = record { object = i.state; place = i.place; happened = i.happened.items } in
     let a = c.take-call.ensures in
     let new : TracedView = record { object = c.take-call.new.state; place = i.place; happened = c.then-self-inside.result.items } in
-    let goes = selected i.state c.take-call.new.state c.args.e (ap (λ v. v.state) a.state) (ap (λ v. v.hand) a.state ∙ a.found) in
+    let goes = selected i.state c.take-call.new.state c.args.e (ap (λ v. v.state) a.state) (ap (λ v. v.serving) a.state ∙ a.found) in
     traced_on old new (Selected c.args.e) c.self.invariant (ap (λ v. v.state.unit) a.state) c.then-self-inside.ensures goes a.placed (a.tickets c.self.invariant.tickets) a.rises (a.kept i.place c.self.invariant.later)

@@ -1,6 +1,6 @@
 use Rattle.std.proofs.Common.{◌≡◌, ap, sym, subst, ◌∙◌, ◌-◌, ◌≤◌, arith, Some}
 use Rattle.std.specs.List.{find, count_by}
-use Rattle.po_accepted.specs.WaitingCalls.{has_number}
+use Rattle.po_engine.specs.WaitingCalls.{has_number}
 use Rattle.po_engine.specs.Arrival.{AreAt}
 use Rattle.po_engine.specs.StateView.{AreLow}
 use Rattle.po_engine.specs.StateView.{state_with_calls}

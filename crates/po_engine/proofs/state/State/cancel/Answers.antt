@@ -1,5 +1,5 @@
 use Rattle.std.proofs.Common.{ap, sym, subst, ◌∙◌}
-use Rattle.po_accepted.specs.WaitingCalls.{has_number}
+use Rattle.po_engine.specs.WaitingCalls.{has_number}
 use Rattle.po_engine.specs.Arrival.{AreAt, Increases}
 use Rattle.po_engine.specs.StateView.{state_with_calls}
 use Rattle.po_engine.proofs.Owing.{paid}

@@ -1,7 +1,7 @@
 use Rattle.std.proofs.Common.{◌≡◌, ◌<◌, sym, subst, ◌∙◌}
 use Rattle.std.specs.List.{slice_index}
 use Rattle.po_engine.specs.ObjectState.{counts_in}
-use Rattle.po_accepted.proofs.Lists.{count_at}
+use Rattle.po_engine.proofs.Lists.{count_at}
 use Rattle.po_engine.proofs.state.State.count.Goals as goal
 
 pub returns : goal.returns

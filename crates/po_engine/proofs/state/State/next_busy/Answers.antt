@@ -1,7 +1,7 @@
 use Rattle.std.proofs.Common.{◌<◌, subst}
 use Rattle.std.specs.Prelude.{IfSome, IfNone, IsSome}
 use Rattle.std.specs.List.{All, find}
-use Rattle.po_accepted.specs.WaitingCalls.{is_on}
+use Rattle.po_engine.specs.WaitingCalls.{is_on}
 use Rattle.po_engine.proofs.BusyLemmas.{passed_in, below_in, busy_in}
 use Rattle.po_engine.proofs.state.State.next_busy.Goals as goal
 

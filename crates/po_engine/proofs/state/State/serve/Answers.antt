@@ -1,7 +1,7 @@
 use Rattle.std.proofs.Common.{◌≡◌, ◌<◌, ◌≤◌, Some, sym, subst, ◌∙◌}
 use Rattle.std.specs.List.{find, All, count_by}
 use Rattle.std.specs.Option.{option_map}
-use Rattle.po_accepted.specs.WaitingCalls.{is_on, has_number}
+use Rattle.po_engine.specs.WaitingCalls.{is_on, has_number}
 use Rattle.po_engine.specs.Arrival.{AreAt, noted}
 use Rattle.po_engine.proofs.PlaceSteps.{All-places, at_taken, noted_here}
 use Rattle.po_engine.proofs.state.State.serve.Goals as goal

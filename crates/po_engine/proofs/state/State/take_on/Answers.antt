@@ -1,9 +1,9 @@
 use Rattle.std.proofs.Common.{◌+◌, ap, sym, subst, ◌∙◌, if◌then◌else◌}
 use Rattle.std.specs.List.{sum_by}
-use Rattle.po_accepted.specs.WaitingCalls.{is_on}
+use Rattle.po_engine.specs.WaitingCalls.{is_on}
 use Rattle.po_engine.specs.StateView.{AreLow}
 use Rattle.po_engine.specs.StateView.{state_with_calls}
-use Rattle.po_accepted.proofs.Lists.{without_none}
+use Rattle.po_engine.proofs.Lists.{without_none}
 use Rattle.po_engine.proofs.Owing.{owes, paid}
 use Rattle.po_engine.proofs.state.State.take_on.Goals as goal
 

@@ -1,6 +1,6 @@
 use Rattle.std.proofs.Common.{find}
-use Rattle.po_accepted.specs.WaitingCalls.{is_of}
-use Rattle.po_accepted.proofs.Held.{found_more}
+use Rattle.po_engine.specs.WaitingCalls.{is_of}
+use Rattle.po_engine.proofs.Held.{found_more}
 use Rattle.po_object.proofs.object.Object.abort_seat.Goals as goal
 
 pub returns-clause-reply : goal.returns-clause-reply

@@ -1,5 +1,5 @@
 use Rattle.std.proofs.Common.{ℕ, ◌∙◌, ap, count_by, arith}
-use Rattle.po_actions.specs.Base.{is_issue}
+use Rattle.po_core.specs.Base.{is_issue}
 use Rattle.po_core.specs.Tickets.{CoreView}
 use Rattle.po_stress.specs.Counts.{issues_ended}
 use Rattle.po_stress.specs.declared.counting.Ending.{Ending}

@@ -1,0 +1,13 @@
+use Rattle.bench_calls.proofs.objects.race_recorded.Given as goal
+
+abbrev pub ghosts-race_over-C-Ledger : goal.ghosts-race_over-C-Ledger
+ghosts-race_over-C-Ledger g a = record { name = a.calls.name; parts = a.calls.parts }
+
+abbrev pub ghosts-race_over-P-Ledger : goal.ghosts-race_over-P-Ledger
+ghosts-race_over-P-Ledger g a = record { name = a.procedures.name; parts = a.procedures.parts }
+
+abbrev pub ghosts-race_over-F-Ledger : goal.ghosts-race_over-F-Ledger
+ghosts-race_over-F-Ledger g a = record { name = a.calls.name; parts = a.calls.parts }
+
+abbrev pub ghosts-race_over-C-CallLedger : goal.ghosts-race_over-C-CallLedger
+ghosts-race_over-C-CallLedger g a = record { shape = a.core.object.setup.shape }

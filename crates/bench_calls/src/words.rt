@@ -1,0 +1,89 @@
+//! The words of the command line.
+
+use crate::plan::{MANY, ROUNDS};
+use crate::units::MOST_THREADS;
+use crate::work::{Kind, Task, Work};
+
+/// What is said of other words.
+pub(crate) const USAGE: &str =
+    "usage: bench_calls [small | full [CALLS] | threads [ROUNDS] | bounded CALLS | row WORK THREADS TURNS]
+WORK: mutex, monitor, or, also with bounded- before it, procedure, function, entry, buffer, allocator, meeting
+THREADS: 1 to 64
+";
+
+/// What the words of the command line ask for.
+#[derive(Clone, Copy)]
+pub(crate) enum Wanted {
+    /// All counts of a small run.
+    Small,
+    /// What commands take, with so many calls that wait where many do.
+    Commands(u64),
+    /// What the work of threads takes, in so many rounds.
+    Threads(u32),
+    /// So many calls on one core with fixed memory.
+    Bounded(u64),
+    /// One row of the work of threads.
+    Row(Task),
+}
+
+/// What the object keeps on which the work of this word is done, and the word for the work alone.
+fn kind_of(word: &str) -> (Kind, &str) {
+    match word.strip_prefix(Kind::Bounded.prefix()) {
+        Some(work) => (Kind::Bounded, work),
+        None => (Kind::Recorded, word),
+    }
+}
+
+/// The row that these words ask for, or none where they are refused.
+fn task(work: &str, threads: &str, turns: &str) -> Option<Task> {
+    let threads: u16 = threads.parse().ok()?;
+    if threads < 1 || threads > MOST_THREADS {
+        return None;
+    }
+    let (kind, word) = kind_of(work);
+    let work = Work::named(word)?;
+    if matches!(kind, Kind::Bounded) && !work.needs_object() {
+        return None;
+    }
+    Some(Task {
+        kind,
+        work,
+        threads,
+        turns: turns.parse().ok()?,
+    })
+}
+
+/// What two words ask for, or none where they are refused.
+fn table(kind: &str, number: &str) -> Option<Wanted> {
+    match kind {
+        "full" => Some(Wanted::Commands(number.parse().ok()?)),
+        "threads" => Some(Wanted::Threads(number.parse().ok()?)),
+        "bounded" => Some(Wanted::Bounded(number.parse().ok()?)),
+        _ => None,
+    }
+}
+
+/// What one word asks for, or none where it is refused.
+fn plain(kind: &str) -> Option<Wanted> {
+    match kind {
+        "small" => Some(Wanted::Small),
+        "full" => Some(Wanted::Commands(MANY)),
+        "threads" => Some(Wanted::Threads(ROUNDS)),
+        _ => None,
+    }
+}
+
+impl Wanted {
+    /// What the words of the command line ask for, the first of which is the program's; none where they are refused.
+    pub(crate) fn named(words: &[String]) -> Option<Wanted> {
+        match words {
+            [] | [_] => Some(Wanted::Small),
+            [_, kind] => plain(kind.as_str()),
+            [_, kind, number] => table(kind.as_str(), number.as_str()),
+            [_, kind, work, threads, turns] if kind.as_str() == "row" => {
+                Some(Wanted::Row(task(work.as_str(), threads.as_str(), turns.as_str())?))
+            }
+            _ => None,
+        }
+    }
+}

@@ -1,0 +1,13 @@
+use Rattle.example_bounded.proofs.main.Given as goal
+
+abbrev pub ghosts-use_object-C-Ledger : goal.ghosts-use_object-C-Ledger
+ghosts-use_object-C-Ledger g a = record { name = a.calls.name; parts = a.calls.parts }
+
+abbrev pub ghosts-use_object-P-Ledger : goal.ghosts-use_object-P-Ledger
+ghosts-use_object-P-Ledger g a = record { name = a.procedures.name; parts = a.procedures.parts }
+
+abbrev pub ghosts-use_object-F-Ledger : goal.ghosts-use_object-F-Ledger
+ghosts-use_object-F-Ledger g a = record { name = a.free.name; parts = a.free.parts }
+
+abbrev pub ghosts-use_object-C-CallLedger : goal.ghosts-use_object-C-CallLedger
+ghosts-use_object-C-CallLedger g a = record { shape = a.core.object.setup.shape }

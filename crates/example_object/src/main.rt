@@ -1,0 +1,235 @@
+//! The example of docs/OBJECTS.md: threads that share a bounded buffer.
+//!
+//! Two producers put 100 values each into a buffer for two, and two consumers get 100 each. When they are done, one thread
+//! more calls Get on the empty buffer, and its call waits until it is cancelled. Then the object is closed, and what the
+//! callers were told is compared with the history. What is printed is the same in every run.
+#![tactic(auto)]
+
+ghost use Rattle.std.specs.Prelude.{◌≡◌, ◌+◌};
+
+use anyhow::{Result, bail};
+use po_classic_units::{Buffer, ScriptUnit};
+use po_core::{Aborted, Core, End, Order, Record};
+use po_object::{CallLedger, Closed, Object, Pass, Receipt, Receipts, reconcile};
+use po_unit::EntryRef;
+use std::alloc::{AllocError, Global};
+use std::io::Print;
+use std::marker::Brand;
+use std::sync::ledger::{Blank, Ledger};
+use std::sync::{Arc, Wait};
+use std::thread::{self, JoinHandle, Threads};
+use std::time::{Clock, Duration};
+
+/// How many values the buffer has room for.
+const CAPACITY: u16 = 2;
+
+/// How many values a producer puts, and a consumer gets.
+const VALUES: u64 = 100;
+
+/// Two producers, two consumers, and the one whose call is cancelled.
+const SEATS: u16 = 5;
+
+/// How many parts each ledger has: one for each seat, and one that the object keeps.
+const PARTS: u64 = 6;
+
+/// How often the main thread attempts to cancel that call, once a millisecond.
+const ATTEMPTS: u32 = 10_000;
+
+/// The entry Put of the buffer.
+const PUT: EntryRef = EntryRef {
+    entry: 0,
+    index: None,
+};
+
+/// The entry Get of the buffer.
+const GET: EntryRef = EntryRef {
+    entry: 1,
+    index: None,
+};
+
+/// A core over an empty buffer, whose calls are numbered from 1.
+fn empty_buffer(alloc: Global) -> Result<Core<Buffer>> {
+    let buffer = Buffer::new(alloc, CAPACITY)?;
+    let shape = buffer.shape(alloc)?;
+    Ok(Core::new(alloc, buffer, shape, Order::Textual, 1)?)
+}
+
+/// Calls the entry so many times, with the values from 0 on, and gives the pass back. The object is of either kind.
+///
+/// A caller that is refused finalizes the object, so that no other waits for what it doesn't do.
+fn call_often<C: CallLedger, P: Ledger, F: Ledger, R: Record<Buffer>, Q: Receipts<u64>, W: Wait>(
+    rt: &W,
+    object: &Object<Buffer, C, P, F, R, Q>,
+    mut pass: Pass<u64, C, P, F, Q>,
+    entry: EntryRef,
+    times: u64,
+) -> Pass<u64, C, P, F, Q> {
+    if pass.pending() {
+        return pass;
+    }
+    for value in 0..times {
+        if object.call(rt, &mut pass, entry, value).is_err() {
+            let _ended = object.finalize(rt);
+            break;
+        }
+    }
+    pass
+}
+
+/// Starts a thread that calls the entry so many times.
+fn start<
+    C: CallLedger + Send + Sync + 'static,
+    P: Ledger + Send + Sync + 'static,
+    F: Ledger + Send + Sync + 'static,
+    R: Record<Buffer> + Drop + Send + Sync + 'static,
+    Q: Receipts<u64> + Send + Sync + 'static,
+    W: Threads + Wait + Copy + Send + 'static,
+>(
+    rt: W,
+    object: Arc<Object<Buffer, C, P, F, R, Q>>,
+    pass: Pass<u64, C, P, F, Q>,
+    entry: EntryRef,
+    times: u64,
+) -> Result<JoinHandle<Pass<u64, C, P, F, Q>>, AllocError> {
+    let job = move || -> Pass<u64, C, P, F, Q> { call_often(&rt, &*object, pass, entry, times) };
+    Ok(thread::spawn(&rt, job)?)
+}
+
+/// Cancels the call of the seat, which may not be there yet. If it never comes, the object is finalized.
+fn cancel<C: CallLedger, P: Ledger, R: Wait + Clock>(
+    rt: &R,
+    object: &Object<Buffer, C, P>,
+    seat: u16,
+) {
+    for _ in 0..ATTEMPTS {
+        if object.abort_seat(rt, seat) == Ok(Aborted::Cancelled) {
+            return;
+        }
+        thread::sleep(rt, Duration::from_millis(1));
+    }
+    let _ended = object.finalize(rt);
+}
+
+/// Has a thread for each pass call Put, where its seat is even, or Get, and waits until all are done.
+fn exchange<
+    C: CallLedger + Send + Sync + 'static,
+    P: Ledger + Send + Sync + 'static,
+    R: Threads + Wait + AllocGlobal + Copy + Send + 'static,
+>(
+    rt: R,
+    object: &Arc<Object<Buffer, C, P>>,
+    passes: &mut Vec<Pass<u64, C, P>>,
+) -> Result<(), AllocError> {
+    let mut running = Vec::new(rt.alloc());
+    while let Some(pass) = passes.pop() {
+        let entry = if pass.seat() % 2 == 0 { PUT } else { GET };
+        running.push(start(rt, Arc::try_clone(object)?, pass, entry, VALUES)?)?;
+    }
+    for thread in running {
+        passes.push(thread.join(&rt))?;
+    }
+    Ok(())
+}
+
+/// Has a thread call Get, which waits as the buffer is empty, and cancels its call.
+fn get_in_vain<
+    C: CallLedger + Send + Sync + 'static,
+    P: Ledger + Send + Sync + 'static,
+    R: Threads + Wait + Clock + Copy + Send + 'static,
+>(
+    rt: R,
+    object: &Arc<Object<Buffer, C, P>>,
+    pass: Pass<u64, C, P>,
+) -> Result<Pass<u64, C, P>, AllocError> {
+    let seat = pass.seat();
+    let waiting = start(rt, Arc::try_clone(object)?, pass, GET, 1)?;
+    cancel(&rt, object, seat);
+    Ok(waiting.join(&rt))
+}
+
+/// Has a thread call for each pass, that of the last one alone.
+fn call_all<
+    C: CallLedger + Send + Sync + 'static,
+    P: Ledger + Send + Sync + 'static,
+    R: Threads + Wait + Clock + AllocGlobal + Copy + Send + 'static,
+>(
+    rt: R,
+    object: &Arc<Object<Buffer, C, P>>,
+    passes: &mut Vec<Pass<u64, C, P>>,
+) -> Result<(), AllocError> {
+    let last = passes.pop();
+    exchange(rt, object, passes)?;
+    if let Some(pass) = last {
+        passes.push(get_in_vain(rt, object, pass)?)?;
+    }
+    Ok(())
+}
+
+/// How many calls completed and how many were cancelled, as their callers were told.
+fn answers(closed: &Closed<Buffer>) -> (u64, u64) {
+    let mut completed = 0u64;
+    let mut cancelled = 0u64;
+    for pass in closed.passes() {
+        for receipt in pass.receipts() {
+            match receipt {
+                Receipt::Called {
+                    answer: End::Completed(_),
+                    ..
+                } => completed = completed.saturating_add(1),
+                Receipt::Called {
+                    answer: End::Cancelled,
+                    ..
+                } => cancelled = cancelled.saturating_add(1),
+                _ => {}
+            }
+        }
+    }
+    (completed, cancelled)
+}
+
+/// Closes the object, which no thread has any more.
+fn close<C: CallLedger, P: Ledger>(
+    object: Arc<Object<Buffer, C, P>>,
+    passes: Vec<Pass<u64, C, P>>,
+) -> Result<Closed<Buffer>> {
+    let Ok(object) = Arc::try_unwrap(object) else {
+        bail!("a thread still has the object");
+    };
+    match object.close(passes) {
+        Ok(closed) => Ok(closed),
+        Err(fault) => bail!("{fault}"),
+    }
+}
+
+/// Opens an object over the core, has threads call it, and closes it.
+fn use_object<
+    C: CallLedger + Send + Sync + 'static,
+    P: Ledger + Send + Sync + 'static,
+    R: Threads + Wait + Clock + AllocGlobal + Copy + Send + 'static,
+>(rt: R, core: Core<Buffer>, calls: Blank, procedures: Blank) -> Result<Closed<Buffer>>
+    requires shape { core.object.setup.shape ≡ C.shape }
+    requires calls { (calls.name ≡ C.name) × (calls.parts ≡ C.parts) × (calls.parts ≡ SEATS + 1) }
+    requires procedures { (procedures.name ≡ P.name) × (procedures.parts ≡ P.parts) × (procedures.parts ≡ SEATS + 1) }
+{
+    let opened = Object::<Buffer, C, P>::open(rt.alloc(), core, SEATS, calls, procedures);
+    let (object, mut passes) = opened?;
+    let object = Arc::new(rt.alloc(), object)?;
+    call_all(rt, &object, &mut passes)?;
+    close(object, passes)
+}
+
+/// Prints how the calls ended, and whether each answer is the history's.
+fn report<R: Print>(rt: &R, closed: &Closed<Buffer>) -> Result<()> {
+    let (completed, cancelled) = answers(closed);
+    println!(rt; "{completed} calls completed, {cancelled} cancelled")?;
+    reconcile(closed, &[])?;
+    println!(rt; "every answer agrees with the history")?;
+    Ok(())
+}
+
+fn main(rt: HostRuntime) -> Result<()> {
+    let core = empty_buffer(rt.alloc())?;
+    let (calls, procedures) = (Blank::new(PARTS), Blank::new(PARTS));
+    let closed = use_object::<Brand, Brand, HostRuntime>(rt, core, calls, procedures)?;
+    report(&rt, &closed)
+}

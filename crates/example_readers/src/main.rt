@@ -1,0 +1,80 @@
+//! A unit of one's own with a requeue and a law, as an example: readers and writers.
+//!
+//! A reader goes in, a writer asks, and then a second reader: the writer has the next turn, and the second reader comes
+//! after it. It is printed who asks, and who goes in.
+#![tactic(auto)]
+
+ghost use Rattle.std.specs.Prelude.{[], IfOk, OnOk};
+ghost use Rattle.po_core.specs.Cutting.{AreVolumes, KeepsVolumes};
+ghost use Rattle.example_readers.specs.ReadersWriters.{readers_writers_meaning};
+
+mod law;
+mod readers_writers;
+
+use anyhow::Result;
+use law::exclusion_law;
+use po_core::{Core, Deadline, Order};
+use po_unit::EntryRef;
+use readers_writers::{READ, READ_DONE, ReadersWriters, WRITE, WRITE_DONE};
+use std::alloc::Global;
+use std::io::Print;
+
+/// How many readers may be inside at once.
+const MOST: u64 = 8;
+
+/// A core over readers and writers, whose calls are numbered from 1.
+fn new_core(alloc: Global) -> Result<Core<ReadersWriters>>
+    ensures { IfOk result (λ c. AreVolumes readers_writers_meaning c.object []) }
+{
+    let unit = ReadersWriters::new(MOST);
+    let shape = unit.shape(alloc)?;
+    Ok(Core::new(alloc, unit, shape, Order::Textual, 1)?)
+}
+
+/// Says which calls the last command let in.
+fn tell<R: Print>(rt: &R, core: &Core<ReadersWriters>) -> Result<()> {
+    for call in core.ended_now() {
+        println!(rt; "call {} is inside", call.number)?;
+    }
+    Ok(())
+}
+
+/// A caller asks to go in by this entry.
+fn ask<R: Print>(rt: &R, core: &mut Core<ReadersWriters>, entry: u16) -> Result<()>
+    ensures { OnOk result (KeepsVolumes readers_writers_meaning core.old.object core.new.object) }
+{
+    println!(rt; "call {} asks", core.next())?;
+    core.issue(0, EntryRef { entry, index: None }, 0, Deadline::Never)?;
+    tell(rt, core)
+}
+
+/// Somebody comes out by this procedure.
+fn leave<R: Print>(rt: &R, core: &mut Core<ReadersWriters>, op: u16) -> Result<()>
+    ensures { OnOk result (KeepsVolumes readers_writers_meaning core.old.object core.new.object) }
+{
+    match core.run(0, op, 0)? {
+        Ok(_) => println!(rt; "one comes out")?,
+        Err(exception) => println!(rt; "exception {exception}")?,
+    }
+    tell(rt, core)
+}
+
+/// What the head of this file says. In the end the law is stated of all that has happened: nothing was cut off.
+fn visit<R: Print>(rt: &R, core: &mut Core<ReadersWriters>) -> Result<()>
+    requires { AreVolumes readers_writers_meaning core.old.object [] }
+{
+    ask(rt, core, READ)?;
+    ask(rt, core, WRITE)?;
+    ask(rt, core, READ)?;
+    leave(rt, core, READ_DONE)?;
+    leave(rt, core, WRITE_DONE)?;
+    if core.opening().is_new() {
+        exclusion_law(core, &[]);
+    }
+    Ok(())
+}
+
+fn main(rt: HostRuntime) -> Result<()> {
+    let mut core = new_core(rt.alloc())?;
+    visit(&rt, &mut core)
+}

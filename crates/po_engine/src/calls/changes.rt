@@ -1,0 +1,232 @@
+//! What becomes of the calls of an object.
+
+ghost use Rattle.std.specs.Prelude.{◌≡◌, ◌<◌, ◌+◌, ◌∷◌, ◌++◌, [], max, map, length, Some, None, true, OnSome, IfNone, find, All, drop};
+ghost use Rattle.std.specs.List.{slice_get};
+ghost use Rattle.po_calls.specs.declared.end.End.TheVariants.{ProgramError};
+ghost use Rattle.po_engine.specs.WaitingCalls.{is_on, has_number, mark};
+ghost use Rattle.po_engine.specs.Finding.{without_first};
+ghost use Rattle.po_engine.specs.Ending.{ended_as};
+ghost use Rattle.po_engine.specs.Tickets.{number_at, SetsTicket, status_among, end_at, is_live, uncollected};
+ghost use Rattle.po_engine.specs.Calls.{places_without};
+ghost use Rattle.po_calls.specs.declared.call.Call.{Call};
+
+use crate::calls::{Calls, expires_at, room_left};
+use crate::ended::Ended;
+use po_calls::{Call, Deadline, End, Ticket};
+
+impl<V: Copy> Calls<V> {
+    /// A new call is taken in service. There is memory for it where those that the command has ended so far, and those that
+    /// wait, are fewer than may be uncollected: so it is when a command begins, as `recall_invariant` says.
+    pub fn add(&mut self, call: Call<V>) -> Ticket
+        requires serving { self.old.serving ≡ None }
+        requires room { uncollected self.old.tickets < self.old.most }
+        requires memory { length (drop self.old.ended_before self.old.ended) + length self.old.waiting < self.old.most }
+        requires number { call.number ≡ self.old.next }
+        requires few { self.old.next < u64.MAX }
+        ensures after { self.new ≡ record self.old {
+          serving = Some call;
+          next = self.old.next + 1;
+          tickets = self.new.tickets;
+          keys = self.old.keys ++ result.key ∷ [];
+        } }
+        ensures number { result.number ≡ call.number }
+        // No uncollected call had the key of the ticket.
+        ensures key { number_at self.old.tickets result.key ≡ None }
+        ensures ticket { SetsTicket self.old.tickets self.new.tickets result.key (Some call.number) }
+    {
+        let ticket = self.table.put(call);
+        self.keys = self.keys.then(&ticket.key);
+        self.next += 1;
+        self.serving = Some(ticket.key);
+        ticket
+    }
+
+    /// The call in service goes to the end of the queue of its entry, where it arrives at this place in the history.
+    pub fn queue(&mut self, call: Call<V>, place: u128)
+        requires in_service { self.old.serving ≡ Some call }
+        requires entry { call.entry < self.old.total }
+        requires later { All (λ k. k < place) self.old.places }
+        ensures { self.new ≡ record self.old {
+          waiting = self.old.waiting ++ call ∷ [];
+          places = self.old.places ++ place ∷ [];
+          serving = None;
+        } }
+    {
+        let Some(key) = self.serving else {
+            return;
+        };
+        self.queues
+            .append(call.entry, key, place, expires_at(&call));
+        self.serving = None;
+    }
+
+    /// The call in service gets another entry and value, and whether it may be cancelled.
+    pub fn requeue(&mut self, call: Call<V>, entry: u16, value: V, without_abort: bool) -> Call<V>
+        requires in_service { self.old.serving ≡ Some call }
+        ensures call { result ≡ record call { entry = entry; value = value; without_abort = without_abort } }
+        ensures after { self.new ≡ record self.old { serving = Some result } }
+    {
+        let moved = Call {
+            entry,
+            value,
+            without_abort,
+            ..call
+        };
+        let Some(key) = self.serving else {
+            return moved;
+        };
+        let number = call.number;
+        self.table
+            .requeue(Ticket { key, number }, entry, value, without_abort);
+        moved
+    }
+
+    /// The call in service gets another deadline.
+    pub fn set_deadline(&mut self, call: Call<V>, deadline: Deadline) -> Call<V>
+        requires in_service { self.old.serving ≡ Some call }
+        ensures call { result ≡ record call { deadline = deadline } }
+        ensures after { self.new ≡ record self.old { serving = Some result } }
+    {
+        let moved = Call { deadline, ..call };
+        let Some(key) = self.serving else {
+            return moved;
+        };
+        let number = call.number;
+        self.table.set_deadline(Ticket { key, number }, deadline);
+        moved
+    }
+
+    /// The call in service ends.
+    pub fn end(&mut self, call: Call<V>, end: End<V>)
+        requires { self.old.serving ≡ Some call }
+        ensures { self.new ≡ record self.old {
+          serving = None;
+          ended = self.old.ended ++ ended_as end call ∷ [];
+        } }
+    {
+        let Some(key) = self.serving else {
+            return;
+        };
+        let number = call.number;
+        self.table.finish(Ticket { key, number }, end);
+        let over = Ended {
+            number,
+            owner: call.owner,
+            end,
+        };
+        self.ended = self.ended.then(&over);
+        self.ended_now.push_reserved(over);
+        self.serving = None;
+    }
+
+    /// The first call on the entry is taken in service.
+    pub fn take_on(&mut self, entry: u16) -> Option<Call<V>>
+        requires serving { self.old.serving ≡ None }
+        requires entry { entry < self.old.total }
+        ensures found { result ≡ find (is_on entry) self.old.waiting }
+        ensures taken { self.new ≡ record self.old {
+          waiting = without_first (is_on entry) self.old.waiting;
+          places = places_without (is_on entry) self.old.waiting self.old.places;
+          serving = result;
+        } }
+    {
+        self.queues.recall_invariant();
+        let key = self.queues.take_first(entry)?;
+        self.serving = Some(key);
+        self.in_service()
+    }
+
+    /// The waiting call of the ticket is taken in service.
+    pub fn take_ticket(&mut self, ticket: Ticket) -> Option<Call<V>>
+        requires serving { self.old.serving ≡ None }
+        requires live { is_live self.old.tickets ticket ≡ true }
+        ensures found { result ≡ find (has_number ticket.number) self.old.waiting }
+        ensures taken { self.new ≡ record self.old {
+          waiting = without_first (has_number ticket.number) self.old.waiting;
+          places = places_without (has_number ticket.number) self.old.waiting self.old.places;
+          serving = result;
+        } }
+    {
+        let call = *self.table.get(ticket)?;
+        self.queues.recall_invariant();
+        self.queues.remove(ticket.key);
+        self.serving = Some(ticket.key);
+        Some(call)
+    }
+
+    /// The call that arrived first is taken in service.
+    pub fn take_oldest(&mut self) -> Option<Call<V>>
+        requires serving { self.old.serving ≡ None }
+        ensures found { result ≡ slice_get self.old.waiting 0 }
+        ensures taken { self.new ≡ record self.old {
+          waiting = drop 1 self.old.waiting;
+          places = drop 1 self.old.places;
+          serving = result;
+        } }
+        ensures none_placed { IfNone result (self.old.places ≡ []) }
+    {
+        let key = self.queues.oldest()?;
+        self.queues.recall_invariant();
+        self.queues.remove(key);
+        self.serving = Some(key);
+        self.in_service()
+    }
+
+    /// All waiting calls end by Program_Error, in order of arrival.
+    pub fn end_all(&mut self)
+        requires { self.old.serving ≡ None }
+        ensures { self.new ≡ record self.old {
+          waiting = [];
+          places = [];
+          ended = self.old.ended ++ map (ended_as ProgramError) self.old.waiting;
+        } }
+    {
+        while let Some(call) = self.take_oldest() {
+            self.end(call, End::ProgramError);
+        }
+    }
+
+    /// Marks the waiting call of the ticket as aborted.
+    pub fn mark(&mut self, ticket: Ticket)
+        requires serving { self.old.serving ≡ None }
+        requires live { is_live self.old.tickets ticket ≡ true }
+        ensures { self.new ≡ record self.old { waiting = map (mark ticket.number) self.old.waiting } }
+    {
+        let Some(found) = self.table.get(ticket).copied() else {
+            return;
+        };
+        let number = found.number;
+        self.table.mark(Ticket {
+            key: ticket.key,
+            number,
+        });
+    }
+
+    /// The clock rises to this time, if it is lower.
+    pub fn rise(&mut self, time: u64)
+        ensures { self.new ≡ record self.old { clock = max self.old.clock time } }
+    {
+        self.queues.rise(time);
+    }
+
+    /// Takes the end of the call of the ticket, if it has ended, and makes the ticket Unknown for good.
+    pub fn collect(&mut self, ticket: Ticket) -> Option<End<V>>
+        requires { self.old.serving ≡ None }
+        ensures end { result ≡ end_at (status_among self.old.waiting self.old.ended self.old.tickets ticket) }
+        ensures taken { OnSome result (SetsTicket self.old.tickets self.new.tickets ticket.key None) }
+        ensures rest { self.new ≡ record self.old { tickets = self.new.tickets; most = self.new.most } }
+        ensures room { self.old.is_fixed ≡ true → self.new.most ≡ self.old.most }
+        ensures left { IfNone result (self.new ≡ self.old) }
+    {
+        let end = self.table.collect(ticket)?;
+        let len = self.table.len();
+        self.most = room_left(
+            self.is_fixed,
+            self.most,
+            len,
+            ticket.key,
+            self.queues.reserved(),
+        );
+        Some(end)
+    }
+}

@@ -1,4 +1,0 @@
-pub mod DeclLemmas
-pub mod FirstNumbersLemmas
-mod Lists
-pub mod NumberingLemmas

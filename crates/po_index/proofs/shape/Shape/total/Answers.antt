@@ -1,8 +1,0 @@
--- The list of all entries is as long as they are counted.
-use Rattle.po_index.proofs.NumberingLemmas.{length-entry_references}
-use Rattle.po_index.proofs.shape.Shape.total.Goals as goal
-
-pub returns-clause-listed : goal.returns-clause-listed
-returns-clause-listed c =
-    let long = length-entry_references c.self.inside.decls.items in
-    cc

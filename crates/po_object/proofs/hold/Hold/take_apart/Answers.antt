@@ -1,6 +1,0 @@
-use Rattle.po_object.proofs.Asking.{asked-of}
-use Rattle.po_object.proofs.hold.Hold.take_apart.Goals as goal
-
-pub returns-clause-asked : goal.returns-clause-asked
-returns-clause-asked g c =
-    λ seats same. asked-of g.C.Ledger.parts _ seats c.self.inside.core.object.events c.self.invariant.seats same c.self.invariant.asked

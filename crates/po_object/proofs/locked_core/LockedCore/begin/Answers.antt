@@ -1,0 +1,49 @@
+use Rattle.std.proofs.Common.{rules, sym, ◌≡◌, ◌⊎◌, Some, ◌∙◌, ◌+◌, ◌<◌, ap, length, arith}
+use Rattle.std.proofs.lemmas.List.{length-set}
+use Rattle.po_core.specs.Refusals.{issue_refusal}
+use Rattle.po_object.specs.Refused.{IsOutOfMemory}
+use Rattle.po_object.proofs.Asking.{asked-action, asked-of}
+use Rattle.po_object.proofs.Counting.{counted-issue}
+use Rattle.po_object.proofs.LatestKept.{known-issue}
+use Rattle.po_object.proofs.Rooms.{stays-free, room-issued}
+use Rattle.po_object.proofs.Refused.{call-refused, call-allowed, out-of-memory}
+use Rattle.po_object.proofs.locked_core.LockedCore.begin.Goals as goal
+
+pub invariant_of-self-2 : goal.invariant_of-self-2
+invariant_of-self-2 g c =
+    let old = c.self.inside.core in
+    let new = c.issue.new.self in
+    let latest = c.self.inside.latest in
+    let k = c.in_ok-ticket.ensures in
+    let taken = sym c.audit.ensures.same.0 ∙ c.take.ensures.total in
+    let ticket = c.in_ok-ticket.ticket in
+    let inside : c.pass.inside.seat < length latest = omega (arith, c.pass.invariant.seat, c.self.invariant.seats) in
+    let seats : length c.note.new.self + 1 ≡ g.C.Ledger.parts = ap (λ calls. length calls + 1) c.note.ensures ∙ simp length-set c.self.invariant.seats in
+    record {
+      counted = counted-issue g.U.Unit.meaning _ _ _ _ _ _ _ _ _ _ k.action (c.add.ensures.total ∙ ap (λ n. n + 1) c.audit-2.ensures.total) c.self.invariant.counted;
+      parts = c.self.invariant.parts;
+      amounts = c.self.invariant.amounts;
+      shape = ap (λ made. made.shape) k.action.setup ∙ c.self.invariant.shape;
+      latest = known-issue latest c.pass.inside.seat ticket c.is_idle-idle.result inside old new c.self.invariant.latest g.U.Unit.meaning _ _ _ _ _ c.note.ensures k.action k.number c.headline.ensures.headline.sound.placed c.is_idle-idle.ensures k.key k.ticket;
+      bounded = (stays-free c.self.inside.reservations c.take.new.self taken ∙ c.self.invariant.bounded.0, c.self.invariant.bounded.1);
+      room = room-issued old new ticket c.self.inside.reservations c.take.new.self taken k.capacity k.key k.ticket c.self.invariant.room;
+      seats = seats;
+      asked = asked-of g.C.Ledger.parts (length latest) (length c.note.new.self) _ c.self.invariant.seats (sym seats) (asked-action g.U.Unit.meaning (length latest) _ _ _ k.action inside c.self.invariant.asked);
+    }
+
+pub returns-in_err-make_room-clause-refused : goal.returns-in_err-make_room-clause-refused
+returns-in_err-make_room-clause-refused g c =
+    let none = out-of-memory g.R.Record.is_bounded (sym c.self.invariant.bounded.1 ∙ c.in_err-make_room.ensures.refused) in
+    search (rules, none)
+
+pub returns-in_err-ticket-clause-refused : goal.returns-in_err-ticket-clause-refused
+returns-in_err-ticket-clause-refused g c =
+    let either : IsOutOfMemory g.R.Record.is_bounded c.in_err-ticket.field-0.0 ⊎ (issue_refusal c.args.self.now.object c.args.entry ≡ Some c.in_err-ticket.field-0.0) =
+    rw (← c.self.view_is) (call-refused c.self.inside.core c.self.inside.reservations g.Q.Receipts.is_bounded g.R.Record.is_bounded c.self.invariant.bounded.0 c.self.invariant.bounded.1 c.self.invariant.room c.audit.ensures.some _ _ c.in_err-ticket.ensures.refused) in
+    search (rules, either)
+
+pub returns-clause-allowed : goal.returns-clause-allowed
+returns-clause-allowed g c = rw (← c.self.view_is) (call-allowed c.self.inside.core _ c.in_ok-ticket.ensures.allowed)
+
+pub returns-clause-volumes : goal.returns-clause-volumes
+returns-clause-volumes g c = rw (← c.self.view_is) c.in_ok-ticket.ensures.volumes

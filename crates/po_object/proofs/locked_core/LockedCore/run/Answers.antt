@@ -1,0 +1,37 @@
+use Rattle.std.proofs.Common.{rules, sym, ◌≡◌, ◌⊎◌, Some, ◌∙◌, ap, ◌+◌, arith}
+use Rattle.po_core.specs.Refusals.{run_refusal}
+use Rattle.po_object.specs.Refused.{IsOutOfMemory}
+use Rattle.po_object.proofs.Asking.{asked-action}
+use Rattle.po_object.proofs.Counting.{counted-ran}
+use Rattle.po_object.proofs.LatestKept.{known-action}
+use Rattle.po_object.proofs.Refused.{refused-either, out-of-memory}
+use Rattle.po_object.proofs.Rooms.{room-same}
+use Rattle.po_object.proofs.locked_core.LockedCore.run.Goals as goal
+
+pub invariant_of-self-2 : goal.invariant_of-self-2
+invariant_of-self-2 g c =
+    let old = c.self.inside.core in
+    let new = c.run.new.self in
+    let k = c.in_ok-reply.ensures in
+    record {
+      counted = counted-ran g.U.Unit.meaning _ _ _ _ _ _ _ _ _ k.action (c.add.ensures.total ∙ ap (λ n. n + 1) c.audit.ensures.total) c.self.invariant.counted;
+      parts = c.self.invariant.parts;
+      amounts = c.self.invariant.amounts;
+      shape = ap (λ made. made.shape) k.action.setup ∙ c.self.invariant.shape;
+      latest = known-action g.U.Unit.meaning _ old new (ap (λ core. core.tickets) k.after) _ k.action tt tt c.self.invariant.latest;
+      bounded = c.self.invariant.bounded;
+      room = room-same old new c.self.inside.reservations (ap (λ core. core.tickets) k.after) (ap (λ core. core.capacity) k.after) c.self.invariant.room;
+      seats = c.self.invariant.seats;
+      asked = asked-action g.U.Unit.meaning _ _ _ _ k.action (omega (arith, c.pass.invariant.seat, c.self.invariant.seats)) c.self.invariant.asked;
+    }
+
+pub returns-in_err-make_room-clause-refused : goal.returns-in_err-make_room-clause-refused
+returns-in_err-make_room-clause-refused g c =
+    let none = out-of-memory g.R.Record.is_bounded (sym c.self.invariant.bounded.1 ∙ c.in_err-make_room.ensures.refused) in
+    search (rules, none)
+
+pub returns-in_err-reply-clause-refused : goal.returns-in_err-reply-clause-refused
+returns-in_err-reply-clause-refused g c =
+    let either : IsOutOfMemory g.R.Record.is_bounded c.in_err-reply.field-0.0 ⊎ (run_refusal g.U.Unit.meaning c.args.self.now.object c.args.op ≡ Some c.in_err-reply.field-0.0) =
+    rw (← c.self.view_is) (refused-either c.self.inside.core c.self.inside.reservations g.Q.Receipts.is_bounded g.R.Record.is_bounded c.self.invariant.bounded.0 c.self.invariant.bounded.1 c.self.invariant.room _ _ c.in_err-reply.ensures.refused) in
+    search (rules, either)

@@ -1,0 +1,390 @@
+//! What lies behind an object's lock, with the pass by which callers come to it.
+
+ghost use Rattle.std.specs.Prelude.{ℕ, ◌≡◌, ◌≤◌, ◌+◌, ◌⊎◌, ◌∷◌, ◌++◌, [], None, Some, find, is_some, length, unwrap_or, List, IfOk, IfErr, IfSome, IfNone, IsSome, OnOk, OnErr, OnSome, MatchResult};
+ghost use Rattle.po_engine.specs.Tickets.{number_at, SetsTicket};
+ghost use Rattle.po_engine.specs.WaitingCalls.{is_of};
+ghost use Rattle.po_engine.specs.Finding.{IsFound};
+ghost use Rattle.po_history.specs.Histories.{VolumeView};
+ghost use Rattle.po_history.specs.declared.event.Event.{Event};
+ghost use Rattle.po_core.specs.Tickets.{CoreView, end_of_ticket};
+ghost use Rattle.po_core.specs.View.{base_state, next_place};
+ghost use Rattle.po_core.specs.Cutting.{cut, cut_off, Leads, KeepsArrivals, KeepsVolumes, procedures_run, AreVolumes};
+ghost use Rattle.po_core.specs.Commands.{issue_of, reply_of};
+ghost use Rattle.po_core.specs.ProtectedAction.{IsProtectedAction, IsAbortOf, after_action, after_abort, abort_answer};
+ghost use Rattle.po_core.specs.Commands.{entry_of};
+ghost use Rattle.po_core.specs.Refusals.{MayRefuse, issue_refusal, run_refusal, tick_refusal, finalized_refusal, cut_refusal};
+ghost use Rattle.po_core.specs.declared.refusal.Refusal.{Refusal};
+ghost use Rattle.po_receipts.specs.Passes.{PassView};
+ghost use Rattle.po_receipts.specs.Answers.{AskedBySeats};
+ghost use Rattle.po_object.specs.Filing.{IsFinished, asking, running};
+ghost use Rattle.po_object.specs.Holds.{IsCounted};
+ghost use Rattle.po_object.specs.Refused.{IsOutOfMemory};
+ghost use Rattle.po_object.specs.LatestCalls.{NoneIssued};
+
+use crate::latest::LatestCalls;
+use crate::ledgers::CallLedger;
+use crate::pass::Pass;
+use crate::reservation::Reservations;
+use po_core::{
+    Aborted, Core, Deadline, End, Event, Record, Recorded, Refusal, Ticket, Unrecorded, Volume,
+};
+use po_history::Trace;
+use po_receipts::{Asked, Receipt, Receipts};
+use po_unit::{EntryRef, Unit};
+use std::marker::{Model, PhantomData};
+use std::sync::ledger::{Book, Ledger, Share};
+
+/// The core of an object, with the books of its ledgers. Contracts see it as its core, so the headline holds of it.
+///
+/// A hold of the lock is one command of the core, or a look at it. In its whole history the core has issued as many calls as
+/// the passes have in their tallies, and run as many procedures; seats alone asked for them. Where the number of calls is
+/// fixed, there is memory for one call more of each free pass. By what is known of each seat's latest call, its waiting one
+/// is found at flat cost.
+#[derive(Drop)]
+pub struct LockedCore<
+    U: Unit,
+    C: CallLedger,
+    P: Ledger,
+    F: Ledger = C,
+    R: Record<U> = Recorded<U>,
+    Q: Receipts<<U as Unit>::Value> = Vec<Receipt<<U as Unit>::Value>>,
+> {
+    core: Core<U, R>,
+    calls: Book<C>,
+    procedures: Book<P>,
+    reservations: Reservations<F>,
+    receipts: PhantomData<Q>,
+    last_calls: Share<C>,
+    last_procedures: Share<P>,
+    latest: LatestCalls,
+}
+
+/// `LockedCore`, for callers that know it by this name.
+pub type Hold<U, C, P> = LockedCore<U, C, P>;
+
+/// The value behind the lock of an object that takes no memory.
+pub type BoundedLockedCore<U, C, P, F> = LockedCore<
+    U,
+    C,
+    P,
+    F,
+    Unrecorded<U>,
+    Trace<Receipt<<U as Unit>::Value>>,
+>;
+
+impl<U: Unit, C: CallLedger, P: Ledger, F: Ledger, R: Record<U>, Q: Receipts<U::Value>> Model
+    for LockedCore<U, C, P, F, R, Q> {
+    ghost use Rattle.std.specs.Prelude.{◌≡◌, ◌+◌, is_some, length};
+    ghost use Rattle.po_core.specs.Tickets.{CoreView};
+    ghost use Rattle.po_receipts.specs.Answers.{AskedBySeats};
+    ghost use Rattle.po_object.specs.Holds.{IsCounted};
+    ghost use Rattle.po_object.specs.LatestCalls.{KnowsLatest};
+    ghost use Rattle.po_object.specs.Reservations.{HasRoomFor};
+
+    ghost Value = { CoreView U U.Value };
+
+    ghost view = { λ h. h.core };
+
+    ghost invariant = { λ h. record {
+      counted : IsCounted h.core.object h.calls.total h.procedures.total;
+      parts : (h.last_calls.parts ≡ 1) × (h.last_procedures.parts ≡ 1);
+      amounts : (h.last_calls.amount ≡ 0) × (h.last_procedures.amount ≡ 0);
+      shape : h.core.object.setup.shape ≡ C.shape;
+      latest : KnowsLatest h.latest h.core;
+      bounded : (is_some h.reservations ≡ Q.is_bounded) × (Q.is_bounded ≡ R.is_bounded);
+      room : HasRoomFor h.core h.reservations;
+      seats : length h.latest + 1 ≡ C.parts;
+      asked : AskedBySeats (length h.latest) h.core.object.events;
+    } };
+}
+
+impl<U: Unit + Drop, C: CallLedger, P: Ledger, F: Ledger, Q: Receipts<U::Value>> LockedCore<
+    U,
+    C,
+    P,
+    F,
+    Recorded<U>,
+    Q,
+> {
+    /// Cuts the history, as `Core::cut` does.
+    ///
+    /// Refused as `NumbersSpent` and `OutOfMemory`, also on a finalized object.
+    pub fn cut(&mut self) -> Result<Volume<U::Value>, Refusal>
+        ensures volume { IfOk result (λ volume. volume ≡ cut_off self.old.object) }
+        ensures after { OnOk result (self.new ≡ record self.old { object = cut U.meaning self.old.object }) }
+        ensures leads { IfOk result (λ volume. Leads U.meaning self.old.object.setup volume.events
+            (base_state self.old.object) (base_state self.new.object)) }
+        ensures arrivals { OnOk result (KeepsArrivals U.meaning self.old.object self.new.object) }
+        ensures procedures { OnOk result (procedures_run self.new.object ≡ procedures_run self.old.object) }
+        ensures joins { IfOk result (λ volume. (volumes : List (VolumeView U.Value)) →
+            AreVolumes U.meaning self.old.object volumes → AreVolumes U.meaning self.new.object (volumes ++ volume ∷ [])) }
+        // Seats alone asked for what is in the volume.
+        ensures asked { IfOk result (λ volume. (seats : ℕ) → C.parts ≡ seats + 1 → AskedBySeats seats volume.events) }
+        ensures allowed { OnOk result (cut_refusal self.old.object ≡ None) }
+        ensures refused { IfErr result (λ r.
+            r ≡ unwrap_or (cut_refusal self.old.object) Refusal.OutOfMemory) }
+        ensures unchanged { OnErr result (self.new ≡ self.old) }
+    {
+        let volume = self.core.cut()?;
+        Ok(volume)
+    }
+}
+
+impl<U: Unit, C: CallLedger, P: Ledger, F: Ledger, R: Record<U>, Q: Receipts<U::Value>> LockedCore<
+    U,
+    C,
+    P,
+    F,
+    R,
+    Q,
+> {
+    pub(crate) fn new(
+        core: Core<U, R>,
+        calls: Book<C>,
+        procedures: Book<P>,
+        reservations: Reservations<F>,
+        last_calls: Share<C>,
+        last_procedures: Share<P>,
+        latest: LatestCalls,
+    ) -> LockedCore<U, C, P, F, R, Q>
+        requires fresh { next_place core.object ≡ core.object.setup.first_place }
+        requires shape { core.object.setup.shape ≡ C.shape }
+        requires totals { (calls.total ≡ 0) × (procedures.total ≡ 0) }
+        requires parts { (last_calls.parts ≡ 1) × (last_procedures.parts ≡ 1) }
+        requires amounts { (last_calls.amount ≡ 0) × (last_procedures.amount ≡ 0) }
+        requires seats { length latest + 1 ≡ C.parts }
+        requires latest { NoneIssued (length latest) latest }
+        requires bounded { (is_some reservations ≡ Q.is_bounded) × (Q.is_bounded ≡ R.is_bounded) }
+        // One call of each free pass has its room in memory.
+        requires room { IfSome reservations (λ n. IfSome core.capacity (λ most. n ≤ most)) }
+        ensures { result ≡ core }
+    {
+        core.headline();
+        core.recall_kind();
+        LockedCore {
+            core,
+            calls,
+            procedures,
+            reservations,
+            receipts: PhantomData,
+            last_calls,
+            last_procedures,
+            latest,
+        }
+    }
+
+    /// The core.
+    pub fn core(&self) -> &Core<U, R>
+        ensures core { result.now ≡ self.now }
+        // The ledger of calls names the declarations of the core's entries.
+        ensures shape { self.now.object.setup.shape ≡ C.shape }
+    {
+        &self.core
+    }
+
+    /// Issues a call from the pass's seat (9.5.3), as `Core::issue` does. It is then the pass's pending call.
+    ///
+    /// Refused as `NoSuchEntry`, `PrivateEntry`, `BadIndex`, `Finalized` and `NumbersSpent`; where the number of calls isn't fixed also `OutOfMemory`, first where there is no room for a receipt.
+    /// There is room for it, so it is never refused as `TooManyCalls`.
+    pub fn begin(
+        &mut self,
+        pass: &mut Pass<U::Value, C, P, F, Q>,
+        entry: EntryRef,
+        value: U::Value,
+        deadline: Deadline,
+    ) -> Result<Ticket, Refusal>
+        requires { pass.old.pending ≡ None }
+        ensures after { OnOk result (self.new.object ≡
+            after_action U.meaning self.old.object (issue_of self.old.object pass.old.seat entry value deadline)) }
+        ensures number { IfOk result (λ ticket. ticket.number ≡ self.old.object.state.next) }
+        // No uncollected call had the key of the ticket.
+        ensures key { IfOk result (λ ticket. number_at self.old.tickets ticket.key ≡ None) }
+        ensures ticket { IfOk result (λ ticket.
+            SetsTicket self.old.tickets self.new.tickets ticket.key (Some ticket.number)) }
+        ensures capacity { self.new.capacity ≡ self.old.capacity }
+        ensures volumes { OnOk result (KeepsVolumes U.meaning self.old.object self.new.object) }
+        ensures action { OnOk result (IsProtectedAction U.meaning self.old.object self.new.object
+            (issue_of self.old.object pass.old.seat entry value deadline)) }
+        ensures pending { IfOk result (λ ticket. pass.new ≡ asking pass.old (record {
+          ticket = ticket;
+          entry = entry_of C.shape entry;
+          value = value;
+          deadline = deadline;
+        })) }
+        // The ledger of calls names the declarations of the core's entries.
+        ensures shape { self.old.object.setup.shape ≡ C.shape }
+        ensures allowed { OnOk result (issue_refusal self.old.object entry ≡ None) }
+        ensures refused { IfErr result (λ r. IsOutOfMemory R.is_bounded r ⊎ (issue_refusal self.old.object entry ≡ Some r)) }
+        ensures unchanged { OnErr result ((self.new ≡ self.old) × (pass.new ≡ pass.old)) }
+    {
+        let number = number_of(&self.core, entry);
+        pass.receipts.make_room()?;
+        self.core.headline();
+        self.reservations.audit(&mut pass.reservation);
+        let idle = self.latest.is_idle(&self.core, pass.seat);
+        let ticket = self.core.issue(pass.seat, entry, value, deadline)?;
+        let _next = self.core.next();
+        self.calls.audit(&mut pass.made);
+        self.calls.add(&mut pass.made, 1);
+        self.reservations.take(&mut pass.reservation);
+        pass.calls += 1;
+        self.latest.note(pass.seat, ticket, idle);
+        pass.pending = Some(Asked {
+            ticket,
+            entry: number,
+            value,
+            deadline,
+        });
+        Ok(ticket)
+    }
+
+    /// Collects the pass's pending call, if it has ended, and files its receipt. Else nothing changes. No memory is taken.
+    pub fn finish(&mut self, pass: &mut Pass<U::Value, C, P, F, Q>) -> Option<End<U::Value>>
+        requires { IsSome pass.old.pending }
+        ensures end { IfSome pass.old.pending (λ asked. result ≡ end_of_ticket self.old asked.ticket) }
+        ensures object { self.new.object ≡ self.old.object }
+        ensures capacity { self.new.capacity ≡ self.old.capacity }
+        ensures taken { OnSome result (IfSome pass.old.pending (λ asked.
+            SetsTicket self.old.tickets self.new.tickets asked.ticket.key None)) }
+        ensures filed { IfSome result (λ end. IsFinished pass.old end pass.new) }
+        ensures left { IfNone result ((self.new ≡ self.old) × (pass.new ≡ pass.old)) }
+    {
+        let asked = pass.pending?;
+        self.core.headline();
+        let end = self.core.collect(asked.ticket)?;
+        self.reservations.give(&mut pass.reservation);
+        pass.pending = None;
+        pass.receipts.file(Receipt::Called {
+            number: asked.ticket.number,
+            entry: asked.entry,
+            value: asked.value,
+            deadline: asked.deadline,
+            answer: end,
+        });
+        Some(end)
+    }
+
+    /// Runs a procedure from the pass's seat (9.5.1), as `Core::run` does, and files its receipt.
+    ///
+    /// Refused as `NoSuchOperation`, `Finalized` and `NumbersSpent`; where the number of calls isn't fixed also `OutOfMemory`, first where there is no room for a receipt.
+    pub fn run(
+        &mut self,
+        pass: &mut Pass<U::Value, C, P, F, Q>,
+        op: u16,
+        value: U::Value,
+    ) -> Result<Result<U::Value, u32>, Refusal>
+        requires { pass.old.pending ≡ None }
+        ensures after { IfOk result (λ reply. self.new ≡ record self.old {
+          object = after_action U.meaning self.old.object (Event.Ran pass.old.seat op value reply);
+        }) }
+        ensures reply { IfOk result (λ reply. reply ≡ reply_of U.meaning self.old.object op value) }
+        ensures volumes { OnOk result (KeepsVolumes U.meaning self.old.object self.new.object) }
+        ensures action { IfOk result (λ reply.
+            IsProtectedAction U.meaning self.old.object self.new.object (Event.Ran pass.old.seat op value reply)) }
+        ensures filed { IfOk result (λ reply. pass.new ≡ running pass.old op value reply) }
+        ensures allowed { OnOk result (run_refusal U.meaning self.old.object op ≡ None) }
+        ensures refused { IfErr result (λ r. IsOutOfMemory R.is_bounded r ⊎ (run_refusal U.meaning self.old.object op ≡ Some r)) }
+        ensures unchanged { OnErr result ((self.new ≡ self.old) × (pass.new ≡ pass.old)) }
+    {
+        self.core.headline();
+        pass.receipts.make_room()?;
+        let reply = self.core.run(pass.seat, op, value)?;
+        self.procedures.audit(&mut pass.ran);
+        self.procedures.add(&mut pass.ran, 1);
+        pass.procedures += 1;
+        pass.receipts.file(Receipt::Ran { op, value, reply });
+        Ok(reply)
+    }
+
+    /// Raises the clock to t, if it is lower, and answers the clock, as `Core::tick` does.
+    ///
+    /// Refused as `Finalized`; where the number of calls is fixed `NumbersSpent`, and else `OutOfMemory`.
+    pub fn tick(&mut self, t: u64) -> Result<u64, Refusal>
+        ensures after { OnOk result (self.new ≡ record self.old {
+          object = after_action U.meaning self.old.object (Event.Tick t);
+        }) }
+        ensures clock { IfOk result (λ clock. clock ≡ self.new.object.state.clock) }
+        ensures raised { IfOk result (λ clock. t ≤ clock) }
+        ensures volumes { OnOk result (KeepsVolumes U.meaning self.old.object self.new.object) }
+        ensures action { OnOk result (
+            IsProtectedAction U.meaning self.old.object self.new.object (Event.Tick t)) }
+        ensures allowed { OnOk result (tick_refusal self.old ≡ None) }
+        ensures refused { IfErr result (MayRefuse self.old.capacity (tick_refusal self.old)) }
+        // The number of calls is fixed exactly where the record is that of a bounded core.
+        ensures kind { is_some self.old.capacity ≡ R.is_bounded }
+        ensures unchanged { OnErr result (self.new ≡ self.old) }
+    {
+        self.core.recall_kind();
+        let clock = self.core.tick(t)?;
+        Ok(clock)
+    }
+
+    /// Finalizes the object (9.4), as `Core::finalize` does. No memory is taken.
+    ///
+    /// Refused as `Finalized`.
+    pub fn finalize(&mut self) -> Result<(), Refusal>
+        ensures after { OnOk result (self.new ≡ record self.old {
+          object = after_action U.meaning self.old.object Event.Final;
+        }) }
+        ensures volumes { OnOk result (KeepsVolumes U.meaning self.old.object self.new.object) }
+        ensures action { OnOk result (
+            IsProtectedAction U.meaning self.old.object self.new.object Event.Final) }
+        ensures alone { OnOk result (self.new.object.events ≡ self.old.object.events ++ Event.Final ∷ []) }
+        ensures refused { MatchResult result
+            (λ _. finalized_refusal self.old.object ≡ None)
+            (λ r. finalized_refusal self.old.object ≡ Some r) }
+        ensures unchanged { OnErr result (self.new ≡ self.old) }
+    {
+        self.core.finalize()?;
+        Ok(())
+    }
+
+    /// Attempts to cancel the seat's earliest queued call (9.5.3, 9.5.4), as `Core::cancel` does. No memory is taken.
+    ///
+    /// Refused as `NoCall`, where no call of the seat is queued.
+    pub fn abort_seat(&mut self, seat: u16) -> Result<Aborted, Refusal>
+        ensures found { IfOk result (λ aborted. IsFound (λ x.
+            (aborted ≡ abort_answer self.old.object x.number)
+            × (self.new ≡ record self.old { object = after_abort U.meaning self.old.object x.number })
+            × IsAbortOf U.meaning self.old.object self.new.object x.number)
+            (find (is_of seat) self.old.object.state.waiting)) }
+        ensures volumes { OnOk result (KeepsVolumes U.meaning self.old.object self.new.object) }
+        ensures refused { IfErr result (λ r. (r ≡ Refusal.NoCall) × (find (is_of seat) self.old.object.state.waiting ≡ None)) }
+        ensures unchanged { OnErr result (self.new ≡ self.old) }
+    {
+        self.core.headline();
+        let Some(ticket) = self.latest.waiting_of(&self.core, seat) else {
+            return Err(Refusal::NoCall);
+        };
+        let aborted = self.core.cancel(ticket)?;
+        Ok(aborted)
+    }
+
+    /// The core, and the parts of the ledgers that no pass holds.
+    pub(crate) fn take_apart(self) -> (Core<U, R>, Book<C>, Book<P>, Share<C>, Share<P>)
+        ensures core { result.0 ≡ self }
+        ensures totals { IsCounted result.0.object result.1.total result.2.total }
+        ensures parts { (result.3.parts ≡ 1) × (result.4.parts ≡ 1) }
+        ensures amounts { (result.3.amount ≡ 0) × (result.4.amount ≡ 0) }
+        ensures asked { (seats : ℕ) → C.parts ≡ seats + 1 → AskedBySeats seats result.0.object.events }
+    {
+        let LockedCore {
+            core,
+            calls,
+            procedures,
+            reservations: _reservations,
+            receipts: _receipts,
+            last_calls,
+            last_procedures,
+            latest: _latest,
+        } = self;
+        (core, calls, procedures, last_calls, last_procedures)
+    }
+}
+
+/// The flat number of the entry that an accepted call names.
+fn number_of<U: Unit, R: Record<U>>(core: &Core<U, R>, entry: EntryRef) -> u16
+    ensures { result ≡ entry_of core.now.object.setup.shape entry }
+{
+    core.shape().flat(entry).unwrap_or(0)
+}

@@ -1,0 +1,4 @@
+mod Lists
+pub mod DeclLemmas
+pub mod FirstNumbersLemmas
+pub mod NumberingLemmas

@@ -1,8 +1,0 @@
-mod Attempts
-mod Leading
-mod Moments
-mod Opening
-mod Picks
-mod Runs
-mod Turns
-mod Words

@@ -1,0 +1,10 @@
+use Rattle.test_memory.proofs.objects.run.Given as goal
+
+abbrev pub ghosts-try_object-C-Ledger : goal.ghosts-try_object-C-Ledger
+ghosts-try_object-C-Ledger g a = record { name = a.calls.name; parts = a.calls.parts }
+
+abbrev pub ghosts-try_object-P-Ledger : goal.ghosts-try_object-P-Ledger
+ghosts-try_object-P-Ledger g a = record { name = a.procedures.name; parts = a.procedures.parts }
+
+abbrev pub ghosts-try_object-C-CallLedger : goal.ghosts-try_object-C-CallLedger
+ghosts-try_object-C-CallLedger g a = record { shape = a.core.object.setup.shape }
