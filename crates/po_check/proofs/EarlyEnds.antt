@@ -1,7 +1,7 @@
 -- What a report was told where a check ends early.
-use Rattle.std.proofs.Common.{◌≡◌, ℕ, ◌+◌, ◌-◌, ◌≤◌, Bool, true, false, cond, ltb, List, [], ◌∷◌, ◌++◌, length, take, Option, refl, sym, ap, subst, ◌∙◌, arith, append_assoc}
+use Rattle.std.proofs.Common.{◌≡◌, ℕ, ◌+◌, ◌-◌, ◌<◌, ◌≤◌, Bool, true, false, cond, ltb, List, [], ◌∷◌, ◌++◌, length, take, Option, refl, sym, ap, subst, ◌∙◌, arith, append_assoc}
 use Rattle.std.proofs.Math.Seq.{take-append-add}
-use Rattle.std.proofs.lemmas.List.{append-nil}
+use Rattle.std.proofs.lemmas.List.{append-nil, length_push}
 use Rattle.po_script.proofs.CutLemmas.{full_grows, cut-newline}
 use Rattle.po_script.specs.Script.{Cut, cut}
 use Rattle.po_script.specs.Units.{ScriptUnits, listed}
@@ -13,10 +13,9 @@ use Rattle.po_check.specs.declared.fault.CheckFault.TheVariants.{Read, Write, Me
 use Rattle.po_check.specs.declared.verdict.Verdict.{Verdict}
 use Rattle.po_script.specs.Facts.{Facts}
 use Rattle.po_check.specs.Checked.{StandsBy, EndsEarly}
-use Rattle.po_check.specs.Check.{EndsBehind}
 use Rattle.po_check.specs.Claims.{says, known_after, claims_at, claims_from, whole_claims, limit_claim, claims_within, claims_of}
 use Rattle.po_check.specs.Reports.{Tells, TellsFirst}
-use Rattle.po_check.proofs.CheckLemmas.{tells-nothing, tells-trans, line_claims, within_all}
+use Rattle.po_check.proofs.CheckLemmas.{tells-nothing, tells-trans, line_says, line_claims, within_all}
 
 pub tells_none : (start now : Option (List Claim)) (claims : List Claim) → now ≡ start → TellsFirst start now claims
 tells_none start now claims same = ([], claims, refl, same ∙ tells-nothing start)
@@ -69,32 +68,27 @@ module _ (units : ScriptUnits) where
           subst (TellsFirst start now) (sym last.1) (tells_more start now (whole_claims units (bytes ++ more)) last.0 (early_more start now bytes more told))
 
   -- an end that no read brought about
-  pub early_other : (fault : CheckFault) (bytes : List ℕ) (start now : Option (List Claim)) (failed : Bool) → failed ≡ false → EndsBehind units fault bytes start now → EndsEarly units fault bytes start now failed
-  early_other Read bytes start now failed fine ends = absurd (ends.0 refl)
-  early_other Write bytes start now failed fine ends = (fine, ends.1)
-  early_other Memory bytes start now failed fine ends = (fine, ends.1)
+  pub early_other : (fault : CheckFault) (bytes : List ℕ) (start now : Option (List Claim)) (failed : Bool) → failed ≡ false → (fault ≡ Read → ⊥) → TellsFirst start now (claims_of units bytes) → EndsEarly units fault bytes start now failed
+  early_other Read bytes start now failed fine other told = absurd (other refl)
+  early_other Write bytes start now failed fine other told = (fine, told)
+  early_other Memory bytes start now failed fine other told = (fine, told)
 
   -- where a line that a newline ends was to be told
-  pub newline_early : (line : List ℕ) (number total : ℕ) (known : Known) (verdict : Verdict) (facts : Option Facts) (bytes more : List ℕ) (start now later : Option (List Claim)) → StandsBy units line number total known verdict facts bytes start now → TellsFirst now later (claims_at units known number (says (listed units) known line)) → TellsFirst start later (whole_claims units (bytes ++ (10 ∷ [] ++ more)))
-  newline_early line number total known verdict facts bytes more start now later s told =
-      let whole : whole_claims units (bytes ++ 10 ∷ []) ≡ whole_claims units bytes ++ claims_at units known number (says (listed units) known line) =
-      ap (λ (c : Cut). claims_from units Nothing 1 c.full) (cut-newline bytes) ∙ line_claims units line number total known verdict facts bytes start now s in
-      let here = subst (TellsFirst start later) (sym whole) (tells_then start now later (whole_claims units bytes) (claims_at units known number (says (listed units) known line)) s.told told) in
-      subst (λ b. TellsFirst start later (whole_claims units b)) (append_assoc bytes (10 ∷ []) more) (early_more start later (bytes ++ 10 ∷ []) more here)
+  pub newline_early : (known : Known) (verdict : Verdict) (facts : Option Facts) (bytes more : List ℕ) (start now later : Option (List Claim)) → StandsBy units known verdict facts bytes start now → length bytes < 67108864 → TellsFirst now later (line_says units known bytes) → TellsFirst start later (claims_of units (bytes ++ 10 ∷ more))
+  newline_early known verdict facts bytes more start now later s room told =
+      let whole : whole_claims units (bytes ++ 10 ∷ []) ≡ whole_claims units bytes ++ line_says units known bytes =
+      ap (λ (c : Cut). claims_from units Nothing 1 c.full) (cut-newline bytes) ∙ line_claims units known verdict facts bytes start now s in
+      let here = subst (TellsFirst start later) (sym whole) (tells_then start now later (whole_claims units bytes) (line_says units known bytes) s.told told) in
+      subst (λ b. TellsFirst start later (claims_of units b)) (append_assoc bytes (10 ∷ []) more) (early_within 67108864 start later (bytes ++ 10 ∷ []) more (omega (arith, room, length_push bytes 10)) here)
 
   -- where the last line was to be told
-  pub finish_early : (line : List ℕ) (number total : ℕ) (known : Known) (verdict : Verdict) (facts : Option Facts) (bytes : List ℕ) (start now later : Option (List Claim)) → StandsBy units line number total known verdict facts bytes start now → total ≤ 67108864 → TellsFirst now later (claims_at units known number (says (listed units) known line)) → TellsFirst start later (claims_of units bytes)
-  finish_early line number total known verdict facts bytes start now later s few told =
-      let whole : claims_of units bytes ≡ whole_claims units bytes ++ claims_at units known number (says (listed units) known line) =
-      within_all units 67108864 bytes (omega (arith, few, s.total_is)) ∙ line_claims units line number total known verdict facts bytes start now s in
-      subst (TellsFirst start later) (sym whole) (tells_then start now later (whole_claims units bytes) (claims_at units known number (says (listed units) known line)) s.told told)
+  pub finish_early : (known : Known) (verdict : Verdict) (facts : Option Facts) (bytes : List ℕ) (start now later : Option (List Claim)) → StandsBy units known verdict facts bytes start now → length bytes ≤ 67108864 → TellsFirst now later (line_says units known bytes) → TellsFirst start later (claims_of units bytes)
+  finish_early known verdict facts bytes start now later s few told =
+      let whole : claims_of units bytes ≡ whole_claims units bytes ++ line_says units known bytes =
+      within_all units 67108864 bytes few ∙ line_claims units known verdict facts bytes start now s in
+      subst (TellsFirst start later) (sym whole) (tells_then start now later (whole_claims units bytes) (line_says units known bytes) s.told told)
 
   -- where the limit of a script was to be told
-  pub limit_early : (line : List ℕ) (number total : ℕ) (known : Known) (verdict : Verdict) (facts : Option Facts) (bytes more : List ℕ) (start now later : Option (List Claim)) → StandsBy units line number total known verdict facts bytes start now → total ≤ 67108864 → later ≡ now → TellsFirst start later (claims_of units (bytes ++ more))
-  limit_early line number total known verdict facts bytes more start now later s few same =
-      early_within 67108864 start later bytes more (omega (arith, few, s.total_is)) (tells_all start later (whole_claims units bytes) (same ∙ s.told))
-
-  -- where a piece of the script was to be told, and the script may have had more bytes
-  pub piece_early : (bytes piece more : List ℕ) (start has : Option (List Claim)) → length (bytes ++ piece) ≤ 67108864 → TellsFirst start has (whole_claims units (bytes ++ (piece ++ []))) → TellsFirst start has (claims_of units ((bytes ++ piece) ++ more))
-  piece_early bytes piece more start has few told =
-      early_within 67108864 start has (bytes ++ piece) more few (subst (λ b. TellsFirst start has (whole_claims units (bytes ++ b))) (append-nil piece) told)
+  pub limit_early : (known : Known) (verdict : Verdict) (facts : Option Facts) (bytes more : List ℕ) (start now later : Option (List Claim)) → StandsBy units known verdict facts bytes start now → length bytes ≤ 67108864 → later ≡ now → TellsFirst start later (claims_of units (bytes ++ more))
+  limit_early known verdict facts bytes more start now later s few same =
+      early_within 67108864 start later bytes more few (tells_all start later (whole_claims units bytes) (same ∙ s.told))

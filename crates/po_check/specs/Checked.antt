@@ -1,5 +1,5 @@
 -- How far a check has come.
-use Rattle.std.specs.Prelude.{ℕ, ◌≡◌, ◌+◌, ◌<◌, ◌⊎◌, Bool, true, false, List, length, take, Option, Some, None}
+use Rattle.std.specs.Prelude.{ℕ, ◌≡◌, ◌<◌, ◌⊎◌, Bool, true, false, List, length, Option, Some, None}
 use Rattle.po_script.specs.Script.{cut}
 use Rattle.po_script.specs.Facts.{Facts, facts_at}
 use Rattle.po_script.specs.Units.{ScriptUnits}
@@ -18,13 +18,9 @@ facts_known units Nothing = None
 facts_known units (Begun unit) = Some (facts_at units unit.number unit.size)
 facts_known units Unclear = None
 
--- The check has read these bytes, and said what is to be said of all their whole lines; what the report was told at the
--- start, and now.
-pub record StandsBy (units : ScriptUnits) (line : List ℕ) (number total : ℕ) (known : Known) (verdict : Verdict) (facts : Option Facts)
+-- These bytes were cut, and all that is to be said of their whole lines was said; what the report was told at the start, and now.
+pub record StandsBy (units : ScriptUnits) (known : Known) (verdict : Verdict) (facts : Option Facts)
     (bytes : List ℕ) (start now : Option (List Claim)) : Type 0 where
-  pub line_is : line ≡ take 4097 (cut bytes).rest
-  pub number_is : number ≡ length (cut bytes).full + 1
-  pub total_is : total ≡ length bytes
   pub known_is : known ≡ known_behind units Nothing (cut bytes).full
   pub facts_are : facts ≡ facts_known units known
   pub verdict_is : verdict ≡ verdict_of (whole_claims units bytes)

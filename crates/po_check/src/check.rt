@@ -1,6 +1,6 @@
 //! A check of a script, from the bytes to what is told of them.
 
-ghost use Rattle.std.specs.Prelude.{◌≡◌, ◌≢◌, ◌+◌, ◌<◌, ◌≤◌, ◌∷◌, ◌++◌, [], List, Option, ℕ, false, eqb, nat_lt, if◌then◌else◌, vec_len, vec_capacity, length, OnOk, IfOk, IfErr};
+ghost use Rattle.std.specs.Prelude.{◌≡◌, ◌+◌, ◌<◌, ◌∷◌, ◌++◌, [], List, Option, ℕ, false, nat_lt, if◌then◌else◌, length, OnOk, IfOk, IfErr};
 ghost use Rattle.std.specs.Io.KnownBytes.{Consumes};
 ghost use Rattle.po_check.specs.Checked.{IsChecked, EndsEarly};
 ghost use Rattle.po_check.specs.Claims.{claims_of, verdict_of, first_fault};
@@ -10,7 +10,7 @@ ghost use Rattle.po_language.specs.Faults.{kind_of};
 ghost use Rattle.po_language.specs.declared.command.FaultKind.{FaultKind};
 ghost use Rattle.po_script.specs.Script.{script_of};
 ghost use Rattle.po_script.specs.Units.{listed};
-ghost use Rattle.po_check.specs.declared.check.TheConstants.{KEPT, SCRIPT_LIMIT};
+ghost use Rattle.po_script.specs.declared.cutter.TheConstants.{SCRIPT_LIMIT};
 
 use crate::checker::Checker;
 use crate::fault::CheckFault;
@@ -18,116 +18,51 @@ use crate::finding::{Finding, Found};
 use crate::report::Report;
 use crate::verdict::Verdict;
 use po_language::{LineFault, Reason, Span};
+use po_script::cutter::{Cutter, Step};
 use po_script::facts::refused_behind;
 use po_script::{ScriptObject, Source, Units};
 use std::alloc::Global;
 
-/// How many bytes of a line are kept: one more than a line may have.
-const KEPT: usize = 4097;
-
-/// The most bytes of a script.
-const SCRIPT_LIMIT: u64 = 67108864;
-
-/// A script as far as it has been read.
+/// A script as far as it has been checked.
 #[derive(Drop)]
 struct Check {
-    /// What stands behind the last newline, at most the first bytes that are kept.
-    line: Vec<u8>,
-    /// The number of that line.
-    number: u64,
-    /// How many bytes were read.
-    total: u64,
+    lines: Cutter,
     checker: Checker,
-    ghost room: { KEPT ≤ vec_capacity line },
-    ghost short: { vec_len line ≤ KEPT },
-    ghost few: { total ≤ SCRIPT_LIMIT },
-    ghost numbered: { number ≤ total + 1 },
 }
 
 impl Check {
-    ghost use Rattle.po_check.specs.Check.{Stands, GoesOn, EndsIn, EndsBehind};
+    ghost use Rattle.po_check.specs.Check.{Stands, GoesOn, EndsIn};
     ghost use Rattle.po_check.specs.declared.claim.Claim.{Claim};
+    ghost use Rattle.po_script.specs.Cutter.{kept, total_of, waiting};
 
     /// A check that has read nothing.
     fn new<O: ScriptObject>(alloc: Global) -> Result<Check, CheckFault>
-        ensures ok { IfOk result (λ check. (start : Option (List Claim)) → Stands O.units check [] start start) }
+        ensures ok { IfOk result (λ check. (start : Option (List ℕ)) (first : Option ℕ) (had : Option (List Claim))
+            → Stands O.units check [] start start first first had had) }
         ensures err { IfErr result (λ fault. fault ≡ CheckFault.Memory) }
     {
-        let line = Vec::with_capacity(alloc, KEPT)?;
+        let lines = Cutter::new(alloc)?;
         Ok(Check {
-            line,
-            number: 1,
-            total: 0,
+            lines,
             checker: Checker::new(),
         })
     }
 
-    /// Takes a newline.
+    /// Checks the line that a newline ends, which comes next.
     fn newline<O: ScriptObject, P: Report>(
         &mut self,
         alloc: Global,
         report: &mut P,
     ) -> Result<(), CheckFault>
-        requires { self.old.total < SCRIPT_LIMIT }
+        requires room { total_of self.old.lines < SCRIPT_LIMIT }
+        requires next { (more : List ℕ) × (waiting self.old.lines ≡ 10 ∷ more) }
         ensures ok { OnOk result (GoesOn O.units self.old self.new (10 ∷ []) (P.told report.old) (P.told report.new)) }
-        ensures total { OnOk result (self.new.total ≡ self.old.total + 1) }
-        ensures err { IfErr result (λ fault. EndsIn O.units fault self.old (10 ∷ []) (P.told report.old) (P.told report.new)) }
+        ensures total { OnOk result (total_of self.new.lines ≡ total_of self.old.lines + 1) }
+        ensures err { IfErr result (λ fault. EndsIn O.units fault self.old (P.told report.old) (P.told report.new)) }
     {
         self.checker
-            .check::<O, P>(alloc, self.number, self.line.as_slice(), report)?;
-        self.line.clear();
-        self.number += 1;
-        self.total += 1;
-        Ok(())
-    }
-
-    /// Takes a byte of a line.
-    fn letter<O: ScriptObject>(&mut self, byte: u8)
-        requires room { self.old.total < SCRIPT_LIMIT }
-        requires other { eqb byte 10 ≡ false }
-        ensures ok { (now : Option (List Claim)) → GoesOn O.units self.old self.new (byte ∷ []) now now }
-        ensures total { self.new.total ≡ self.old.total + 1 }
-    {
-        if self.line.len() < KEPT {
-            self.line.push_reserved(byte);
-        }
-        self.total += 1;
-    }
-
-    /// Takes the next byte.
-    fn byte<O: ScriptObject, P: Report>(
-        &mut self,
-        alloc: Global,
-        byte: u8,
-        report: &mut P,
-    ) -> Result<(), CheckFault>
-        requires { self.old.total < SCRIPT_LIMIT }
-        ensures ok { OnOk result (GoesOn O.units self.old self.new (byte ∷ []) (P.told report.old) (P.told report.new)) }
-        ensures total { OnOk result (self.new.total ≡ self.old.total + 1) }
-        ensures err { IfErr result (λ fault. EndsIn O.units fault self.old (byte ∷ []) (P.told report.old) (P.told report.new)) }
-    {
-        if byte == b'\n' {
-            return self.newline::<O, P>(alloc, report);
-        }
-        self.letter::<O>(byte);
-        Ok(())
-    }
-
-    /// Takes the next bytes.
-    fn feed<O: ScriptObject, P: Report>(
-        &mut self,
-        alloc: Global,
-        piece: &[u8],
-        report: &mut P,
-    ) -> Result<(), CheckFault>
-        requires { self.old.total + length piece.now ≤ SCRIPT_LIMIT }
-        ensures ok { OnOk result (GoesOn O.units self.old self.new piece.now (P.told report.old) (P.told report.new)) }
-        ensures total { OnOk result (self.new.total ≡ self.old.total + length piece.now) }
-        ensures err { IfErr result (λ fault. EndsIn O.units fault self.old piece.now (P.told report.old) (P.told report.new)) }
-    {
-        for byte in piece {
-            self.byte::<O, P>(alloc, *byte, report)?;
-        }
+            .check::<O, P>(alloc, self.lines.number(), self.lines.line(), report)?;
+        self.lines.newline();
         Ok(())
     }
 
@@ -137,24 +72,22 @@ impl Check {
         alloc: Global,
         report: &mut P,
     ) -> Result<Verdict, CheckFault>
-        ensures ok { (bytes : List ℕ) (start : Option (List Claim))
-            → Stands O.units self.old bytes start (P.told report.old)
-            → IfOk result (λ verdict. Tells start (P.told report.new) (claims_of O.units bytes)
-            × (verdict ≡ verdict_of (claims_of O.units bytes))) }
-        ensures err { (bytes : List ℕ) (start : Option (List Claim))
-            → Stands O.units self.old bytes start (P.told report.old)
-            → IfErr result (λ fault. EndsBehind O.units fault bytes start (P.told report.new)) }
+        requires { waiting self.old.lines ≡ [] }
+        ensures ok { IfOk result (λ verdict. (bytes : List ℕ) (start left : Option (List ℕ)) (first reads : Option ℕ) (had : Option (List Claim))
+            → Stands O.units self.old bytes start left first reads had (P.told report.old)
+            → Tells had (P.told report.new) (claims_of O.units bytes) × (verdict ≡ verdict_of (claims_of O.units bytes))) }
+        ensures err { IfErr result (λ fault. EndsIn O.units fault self.old (P.told report.old) (P.told report.new)) }
     {
         self.checker
-            .check::<O, P>(alloc, self.number, self.line.as_slice(), report)?;
+            .check::<O, P>(alloc, self.lines.number(), self.lines.line(), report)?;
         Ok(self.checker.verdict)
     }
 
     /// The fault of the line at whose end the script is too long.
     fn limit_fault(&self) -> LineFault
-        ensures { kind_of result.reason ≡ (if nat_lt 4096 (vec_len self.now.line) then FaultKind.LineTooLong else FaultKind.ScriptTooLong) }
+        ensures { kind_of result.reason ≡ (if nat_lt 4096 (length (kept self.now.lines)) then FaultKind.LineTooLong else FaultKind.ScriptTooLong) }
     {
-        let reason = if self.line.len() > 4096 {
+        let reason = if self.lines.is_too_long() {
             Reason::LineTooLong
         } else {
             Reason::ScriptTooLong
@@ -163,7 +96,7 @@ impl Check {
             reason,
             word: 0,
             span: Span {
-                start: self.line.len(),
+                start: self.lines.line().len(),
                 length: 0,
             },
         }
@@ -174,44 +107,21 @@ impl Check {
         &mut self,
         report: &mut P,
     ) -> Result<Verdict, CheckFault>
-        requires { self.old.total ≡ SCRIPT_LIMIT }
-        ensures ok { (bytes more : List ℕ) (start : Option (List Claim))
-            → Stands O.units self.old bytes start (P.told report.old)
-            → more ≢ []
-            → IfOk result (λ verdict. Tells start (P.told report.new) (claims_of O.units (bytes ++ more))
-            × (verdict ≡ verdict_of (claims_of O.units (bytes ++ more)))) }
-        ensures err { (bytes more : List ℕ) (start : Option (List Claim))
-            → Stands O.units self.old bytes start (P.told report.old)
-            → IfErr result (λ fault. EndsBehind O.units fault (bytes ++ more) start (P.told report.new)) }
+        requires all { total_of self.old.lines ≡ SCRIPT_LIMIT }
+        requires next { (byte : ℕ) × (more : List ℕ) × (waiting self.old.lines ≡ byte ∷ more) }
+        ensures ok { IfOk result (λ verdict. (bytes : List ℕ) (start left : Option (List ℕ)) (first reads : Option ℕ) (had : Option (List Claim))
+            → Stands O.units self.old bytes start left first reads had (P.told report.old)
+            → Tells had (P.told report.new) (claims_of O.units (bytes ++ waiting self.old.lines))
+            × (verdict ≡ verdict_of (claims_of O.units (bytes ++ waiting self.old.lines)))) }
+        ensures err { IfErr result (λ fault. EndsIn O.units fault self.old (P.told report.old) (P.told report.new)) }
     {
         let finding = Finding {
-            number: self.number,
+            number: self.lines.number(),
             known: self.checker.known,
             found: Found::Fault(self.limit_fault()),
         };
-        report.report(finding, self.line.as_slice(), None)?;
+        report.report(finding, self.lines.line(), None)?;
         Ok(Verdict::Faulty)
-    }
-
-    /// Takes as many of the next bytes as a script may have, and tells the report that more follow.
-    fn feed_last<O: ScriptObject, P: Report>(
-        &mut self,
-        alloc: Global,
-        piece: &[u8],
-        report: &mut P,
-    ) -> Result<Verdict, CheckFault>
-        requires { SCRIPT_LIMIT < self.old.total + length piece.now }
-        ensures ok { (bytes : List ℕ) (start : Option (List Claim))
-            → Stands O.units self.old bytes start (P.told report.old)
-            → IfOk result (λ verdict. Tells start (P.told report.new) (claims_of O.units (bytes ++ piece.now))
-            × (verdict ≡ verdict_of (claims_of O.units (bytes ++ piece.now)))) }
-        ensures err { (bytes : List ℕ) (start : Option (List Claim))
-            → Stands O.units self.old bytes start (P.told report.old)
-            → IfErr result (λ fault. EndsBehind O.units fault (bytes ++ piece.now) start (P.told report.new)) }
-    {
-        let (last, _) = piece.split_at((SCRIPT_LIMIT - self.total) as usize);
-        self.feed::<O, P>(alloc, last, report)?;
-        self.past_limit::<O, P>(report)
     }
 
     /// Reads the script from its beginning to its end, or to the most bytes that it may have, and tells what is found.
@@ -221,28 +131,25 @@ impl Check {
         reader: &mut R,
         report: &mut P,
     ) -> Result<Verdict, CheckFault>
-        requires fresh { Stands O.units self.old [] (P.told report.old) (P.told report.old) }
+        requires fresh { Stands O.units self.old [] (R.left reader.old) (R.left reader.old)
+            (R.reads reader.old) (R.reads reader.old) (P.told report.old) (P.told report.old) }
         requires reader { (R.failed reader.old ≡ false) × (R.ended reader.old ≡ false) }
         ensures ok { IfOk result (λ verdict. (bytes : List ℕ) × Consumes (R.left reader.old) (R.left reader.new) bytes
             × IsChecked O.units verdict bytes (P.told report.old) (P.told report.new) (R.ended reader.new) (R.failed reader.new)) }
         ensures err { IfErr result (λ fault. (bytes : List ℕ) × Consumes (R.left reader.old) (R.left reader.new) bytes
             × EndsEarly O.units fault bytes (P.told report.old) (P.told report.new) (R.failed reader.new)) }
     {
-        let mut piece = [0u8; 4096];
         loop {
-            let count = match reader.read(&mut piece) {
-                Ok(count) => count,
+            let step = match self.lines.next(reader) {
+                Ok(step) => step,
                 Err(_) => return Err(CheckFault::Read),
             };
-            if count == 0 {
-                return self.finish::<O, P>(alloc, report);
+            match step {
+                Step::Letter => {}
+                Step::Newline => self.newline::<O, P>(alloc, report)?,
+                Step::End => return self.finish::<O, P>(alloc, report),
+                Step::Past => return self.past_limit::<O, P>(report),
             }
-            let chunk = &piece[..count];
-            let room = SCRIPT_LIMIT - self.total;
-            if chunk.len() as u64 > room {
-                return self.feed_last::<O, P>(alloc, chunk, report);
-            }
-            self.feed::<O, P>(alloc, chunk, report)?;
         }
     }
 }

@@ -14,12 +14,10 @@ use crate::known::Known;
 use crate::report::Report;
 use crate::verdict::Verdict;
 use po_language::{Command, LineFault, Reason, Span, command_of, form_of};
+use po_script::cutter::LINE_LIMIT;
 use po_script::{ScriptObject, UnitFacts};
 use po_unit::Shape;
 use std::alloc::{AllocError, Global};
-
-/// The most bytes of a line without its newline.
-const LINE_LIMIT: usize = 4096;
 
 /// The fault of a line that has too many bytes.
 fn too_long() -> LineFault

@@ -1,6 +1,7 @@
 pub mod CollectLemmas
 pub mod CountLemmas
 pub mod CutLemmas
+pub mod CutterLemmas
 pub mod EndLemmas
 pub mod FactLemmas
 pub mod FailLemmas

@@ -1,11 +1,11 @@
 -- What further bytes leave of a script's reading.
-use Rattle.std.proofs.Common.{◌≡◌, ◌⊎◌, ℕ, suc, ◌+◌, ◌-◌, ◌<◌, ◌≤◌, Bool, true, false, cond, eqb, ltb, List, [], ◌∷◌, ◌++◌, length, take, Option, Some, None, Err, refl, sym, ap, ◌∙◌, inl, inr, arith, append_assoc, length-append}
+use Rattle.std.proofs.Common.{◌≡◌, ◌⊎◌, ℕ, ◌+◌, ◌-◌, ◌<◌, ◌≤◌, Bool, true, false, cond, ltb, List, [], ◌∷◌, ◌++◌, length, take, Option, Some, None, Err, refl, sym, ap, ◌∙◌, inl, inr, arith, append_assoc, length-append}
 use Rattle.std.proofs.lemmas.Bool.{cases_Bool, lt-ltb, le-ltb}
 use Rattle.std.proofs.lemmas.List.{take_at}
 use Rattle.std.proofs.Math.Seq.{take-append-add}
 use Rattle.po_script.proofs.CutLemmas.{glue, cut-append, full_grows}
 use Rattle.po_script.proofs.ReadingLemmas.{extend, reading-push, reading_kept, reading_front}
-use Rattle.po_script.specs.Script.{Cut, cut, join, Reading, reading, whole_lines, line_of, past_limit, script_within}
+use Rattle.po_script.specs.Script.{Cut, cut, Reading, reading, whole_lines, line_of, past_limit, script_within}
 use Rattle.po_language.specs.declared.command.UnitChoice.{UnitChoice}
 use Rattle.po_language.specs.declared.command.Command.{Command}
 use Rattle.po_language.specs.declared.command.FaultKind.{FaultKind}
@@ -75,34 +75,32 @@ module _ (units : UnitList) where
       let n : 1 + length (cut bytes).full ≡ length (cut bytes).full + 1 = omega arith in
       ap (λ ls. reading units None 1 ls) (sym (append_assoc (cut bytes).full (line ∷ []) ls)) ∙ reading_kept units None 1 ((cut bytes).full ++ line ∷ []) ls (1 + length (cut bytes).full, LineTooLong) (ap (λ (q : Reading). q.fault) one) ∙ one ∙ ap (λ n. let q : Reading = record { commands = (whole_lines units bytes).commands; fault = Some (n, LineTooLong) } in q) n
 
-  -- the line that goes on with x is ended, or is the rest
-  long_cut : (bytes : List ℕ) (x : ℕ) (zs : List ℕ) → eqb x 10 ≡ false → length (cut bytes).rest ≡ 4096 → ((line : List ℕ) × (ls : List (List ℕ)) × (4096 < length line) × ((cut (bytes ++ x ∷ zs)).full ≡ (cut bytes).full ++ line ∷ ls)) ⊎ (((cut (bytes ++ x ∷ zs)).full ≡ (cut bytes).full) × (4096 < length (cut (bytes ++ x ∷ zs)).rest))
-  long_cut bytes x zs other long = go (cut zs).full (cut-append bytes (x ∷ zs) ∙ simp other refl)
+  -- a line of too many bytes is ended, or is the rest
+  long_cut : (bytes zs : List ℕ) → 4096 < length (cut bytes).rest → ((line : List ℕ) × (ls : List (List ℕ)) × (4096 < length line) × ((cut (bytes ++ zs)).full ≡ (cut bytes).full ++ line ∷ ls)) ⊎ (((cut (bytes ++ zs)).full ≡ (cut bytes).full) × (4096 < length (cut (bytes ++ zs)).rest))
+  long_cut bytes zs long = go (cut zs).full (cut-append bytes zs)
     where
-      go : (fs : List (List ℕ)) → cut (bytes ++ x ∷ zs) ≡ glue (cut bytes).full (cut bytes).rest (join x fs (cut zs).rest).full (join x fs (cut zs).rest).rest → ((line : List ℕ) × (ls : List (List ℕ)) × (4096 < length line) × ((cut (bytes ++ x ∷ zs)).full ≡ (cut bytes).full ++ line ∷ ls)) ⊎ (((cut (bytes ++ x ∷ zs)).full ≡ (cut bytes).full) × (4096 < length (cut (bytes ++ x ∷ zs)).rest))
-      go [] e = inr (ap (λ (c : Cut). c.full) e, omega (arith, ap (λ (c : Cut). length c.rest) e, length-append (cut bytes).rest (x ∷ (cut zs).rest)))
-      go (l ∷ ls) e = inl ((cut bytes).rest ++ x ∷ l, ls, omega (arith, length-append (cut bytes).rest (x ∷ l)), ap (λ (c : Cut). c.full) e)
+      go : (fs : List (List ℕ)) → cut (bytes ++ zs) ≡ glue (cut bytes).full (cut bytes).rest fs (cut zs).rest → ((line : List ℕ) × (ls : List (List ℕ)) × (4096 < length line) × ((cut (bytes ++ zs)).full ≡ (cut bytes).full ++ line ∷ ls)) ⊎ (((cut (bytes ++ zs)).full ≡ (cut bytes).full) × (4096 < length (cut (bytes ++ zs)).rest))
+      go [] e = inr (ap (λ (c : Cut). c.full) e, omega (arith, long, ap (λ (c : Cut). length c.rest) e, length-append (cut bytes).rest (cut zs).rest))
+      go (l ∷ ls) e = inl ((cut bytes).rest ++ l, ls, omega (arith, long, length-append (cut bytes).rest l), ap (λ (c : Cut). c.full) e)
 
   -- past the most bytes of a line
-  pub script_long : (most : ℕ) (bytes : List ℕ) (x : ℕ) (more : List ℕ) → length bytes < most → (whole_lines units bytes).fault ≡ None → length (cut bytes).rest ≡ 4096 → eqb x 10 ≡ false → script_within units most (bytes ++ x ∷ more) ≡ record { commands = (whole_lines units bytes).commands; fault = Some (length (cut bytes).full + 1, LineTooLong) }
-  script_long most bytes x more h fine long other =
+  pub script_long : (most : ℕ) (bytes more : List ℕ) → length bytes ≤ most → (whole_lines units bytes).fault ≡ None → 4096 < length (cut bytes).rest → script_within units most (bytes ++ more) ≡ record { commands = (whole_lines units bytes).commands; fault = Some (length (cut bytes).full + 1, LineTooLong) }
+  script_long most bytes more h fine long =
       let f : ℕ × FaultKind = (length (cut bytes).full + 1, LineTooLong) in
-      elim (cases_Bool (ltb most (length (bytes ++ x ∷ more)))) [
+      elim (cases_Bool (ltb most (length (bytes ++ more)))) [
         | inl past ↦
-            let zs = take (most - length bytes - 1) more in
-            let room : most - length bytes ≡ suc (most - length bytes - 1) = omega arith in
-            let t : take most (bytes ++ x ∷ more) ≡ bytes ++ x ∷ zs = take-append-within most bytes (x ∷ more) (omega arith) ∙ ap (λ n. bytes ++ take n (x ∷ more)) room in
-            script_within-past most (bytes ++ x ∷ more) past ∙ ap (λ b. past_limit (whole_lines units b).commands (whole_lines units b).fault (cut b)) t ∙ elim (long_cut bytes x zs other long) [
+            let zs = take (most - length bytes) more in
+            script_within-past most (bytes ++ more) past ∙ ap (λ b. past_limit (whole_lines units b).commands (whole_lines units b).fault (cut b)) (take-append-within most bytes more h) ∙ elim (long_cut bytes zs long) [
               | inl w ↦
                   let whole = ap (λ ls. reading units None 1 ls) w.3 ∙ long_read bytes w.0 w.1 fine w.2 in
-                  past_limit-fault (whole_lines units (bytes ++ x ∷ zs)) f _ (ap (λ (q : Reading). q.fault) whole) ∙ whole
+                  past_limit-fault (whole_lines units (bytes ++ zs)) f _ (ap (λ (q : Reading). q.fault) whole) ∙ whole
               | inr w ↦
                   let whole = ap (λ ls. reading units None 1 ls) w.0 in
-                  past_limit-fine (whole_lines units (bytes ++ x ∷ zs)) (cut (bytes ++ x ∷ zs)) LineTooLong (ap (λ (q : Reading). q.fault) whole ∙ fine) (ap (λ (b : Bool). cond b LineTooLong ScriptTooLong) (lt-ltb 4096 _ w.1)) ∙ rw w.0 refl
+                  past_limit-fine (whole_lines units (bytes ++ zs)) (cut (bytes ++ zs)) LineTooLong (ap (λ (q : Reading). q.fault) whole ∙ fine) (ap (λ (b : Bool). cond b LineTooLong ScriptTooLong) (lt-ltb 4096 _ w.1)) ∙ rw w.0 refl
             ]
         | inr within ↦
-            script_within-all most (bytes ++ x ∷ more) within ∙ elim (long_cut bytes x more other long) [
-              | inl w ↦ ap (λ ls. reading units None 1 (ls ++ (cut (bytes ++ x ∷ more)).rest ∷ [])) w.3 ∙ ap (λ ls. reading units None 1 ls) (append_assoc (cut bytes).full (w.0 ∷ w.1) _) ∙ long_read bytes w.0 _ fine w.2
-              | inr w ↦ ap (λ ls. reading units None 1 (ls ++ (cut (bytes ++ x ∷ more)).rest ∷ [])) w.0 ∙ long_read bytes _ [] fine w.1
+            script_within-all most (bytes ++ more) within ∙ elim (long_cut bytes more long) [
+              | inl w ↦ ap (λ ls. reading units None 1 (ls ++ (cut (bytes ++ more)).rest ∷ [])) w.3 ∙ ap (λ ls. reading units None 1 ls) (append_assoc (cut bytes).full (w.0 ∷ w.1) _) ∙ long_read bytes w.0 _ fine w.2
+              | inr w ↦ ap (λ ls. reading units None 1 (ls ++ (cut (bytes ++ more)).rest ∷ [])) w.0 ∙ long_read bytes _ [] fine w.1
             ]
       ]

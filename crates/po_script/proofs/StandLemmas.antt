@@ -41,33 +41,24 @@ module _ (units : UnitList) where
     extend-text r n None = sym (append-nil _)
     extend-text r n (Some c) = text_by-append after answer opening r.commands (c ∷ []) ∙ ap (λ t. text_by after answer opening r.commands ++ t) (append-nil _)
 
-    pub newline_stands : (line : List ℕ) (number total : ℕ) (begun : Option UnitChoice) (state : S) (bytes : List ℕ) (start now later : Option (List ℕ)) (c : Option Command) → StandsBy units after answer opening line number total begun state bytes start now → length line ≤ 4096 → command_of units begun line ≡ Ok c → Appends now later (text_with answer state c) → StandsBy units after answer opening [] (number + 1) (total + 1) (begun_with begun c) (state_with after state c) (bytes ++ 10 ∷ []) start later
-    newline_stands line number total begun state bytes start now later c s short says told =
+    pub newline_stands : (begun : Option UnitChoice) (state : S) (bytes : List ℕ) (start now later : Option (List ℕ)) (c : Option Command) → StandsBy units after answer opening begun state bytes start now → length (cut bytes).rest ≤ 4096 → command_of units begun (cut bytes).rest ≡ Ok c → Appends now later (text_with answer state c) → StandsBy units after answer opening (begun_with begun c) (state_with after state c) (bytes ++ 10 ∷ []) start later
+    newline_stands begun state bytes start now later c s short says told =
         let r = whole_lines units bytes in
         let n = 1 + length (cut bytes).full in
-        let e = cut-newline bytes in
-        let says_rest : line_of units (begun_by None r.commands) (cut bytes).rest ≡ Ok c = rw (← s.begun_is, ← s.line_is) (line_of-short begun line short ∙ says) in
+        let says_rest : line_of units (begun_by None r.commands) (cut bytes).rest ≡ Ok c = rw (← s.begun_is) (line_of-short begun (cut bytes).rest short ∙ says) in
         let w = whole_lines-newline bytes (Ok c) s.fine says_rest in
         record {
-          line_is = ap (λ (c : Cut). c.rest) (sym e);
-          number_is = omega (arith, s.number_is, ap (λ (c : Cut). length c.full) e, length_push (cut bytes).full (cut bytes).rest);
-          total_is = omega (arith, s.total_is, length_push bytes 10);
           fine = rw w (extend-fine r n c s.fine);
           begun_is = rw (w, s.begun_is) (extend-begun r n c);
           state_is = rw (w, s.state_is) (extend-state r n c);
           told = rw (w, extend-text r n c) (Appends-trans start now later _ _ s.told (rw (← s.state_is) told));
         }
 
-    pub letter_stands : (line : List ℕ) (number total : ℕ) (begun : Option UnitChoice) (state : S) (bytes : List ℕ) (start now : Option (List ℕ)) (b : ℕ) → StandsBy units after answer opening line number total begun state bytes start now → eqb b 10 ≡ false → StandsBy units after answer opening (line ++ b ∷ []) number (total + 1) begun state (bytes ++ b ∷ []) start now
-    letter_stands line number total begun state bytes start now b s other =
-        let e = cut-letter bytes b other in
-        let w : whole_lines units (bytes ++ b ∷ []) ≡ whole_lines units bytes = ap (λ (c : Cut). reading units None 1 c.full) e in
-        record {
-          line_is = ap (λ l. l ++ b ∷ []) s.line_is ∙ ap (λ (c : Cut). c.rest) (sym e);
-          number_is = omega (arith, s.number_is, ap (λ (c : Cut). length c.full) e);
-          total_is = omega (arith, s.total_is, length_push bytes b);
-          fine = rw w s.fine;
-          begun_is = rw w s.begun_is;
-          state_is = rw w s.state_is;
-          told = rw w s.told;
-        }
+    pub letter_stands : (begun : Option UnitChoice) (state : S) (bytes : List ℕ) (start now : Option (List ℕ)) (b : ℕ) → StandsBy units after answer opening begun state bytes start now → eqb b 10 ≡ false → StandsBy units after answer opening begun state (bytes ++ b ∷ []) start now
+    letter_stands begun state bytes start now b s other =
+        let w : whole_lines units (bytes ++ b ∷ []) ≡ whole_lines units bytes = ap (λ (c : Cut). reading units None 1 c.full) (cut-letter bytes b other) in
+        record { fine = rw w s.fine; begun_is = rw w s.begun_is; state_is = rw w s.state_is; told = rw w s.told }
+
+pub appends-nothing : (had : Option (List ℕ)) → Appends had had []
+appends-nothing None = tt
+appends-nothing (Some l) = sym (append-nil l)

@@ -1,8 +1,8 @@
 -- How far a reading has come, over any session: what a command makes of a state, and what it answers there.
-use Rattle.std.specs.Prelude.{ℕ, ◌+◌, ◌≡◌, List, [], ◌∷◌, ◌++◌, length, Option, Some, None}
+use Rattle.std.specs.Prelude.{ℕ, ◌≡◌, List, [], ◌∷◌, ◌++◌, Option, Some, None}
 use Rattle.std.specs.Io.KnownBytes.{Appends}
 use Rattle.po_language.specs.Units.{UnitList}
-use Rattle.po_script.specs.Script.{cut, whole_lines, begun_after}
+use Rattle.po_script.specs.Script.{whole_lines, begun_after}
 use Rattle.po_language.specs.declared.command.UnitChoice.{UnitChoice}
 use Rattle.po_language.specs.declared.command.Command.{Command}
 
@@ -34,13 +34,9 @@ abbrev pub text_with : {S : Type 0} → (S → Command → List ℕ) → S → O
 text_with answer s None = []
 text_with answer s (Some c) = answer s c
 
--- The bytes read so far are these, and all their whole lines were carried out.
+-- These bytes were cut so far, and all their whole lines were carried out.
 pub record StandsBy (units : UnitList) {S : Type 0} (after : S → Command → S) (answer : S → Command → List ℕ) (opening : S)
-    (line : List ℕ) (number total : ℕ) (begun : Option UnitChoice) (state : S)
-    (bytes : List ℕ) (start now : Option (List ℕ)) : Type 0 where
-  pub line_is : line ≡ (cut bytes).rest
-  pub number_is : number ≡ length (cut bytes).full + 1
-  pub total_is : total ≡ length bytes
+    (begun : Option UnitChoice) (state : S) (bytes : List ℕ) (start now : Option (List ℕ)) : Type 0 where
   pub fine : (whole_lines units bytes).fault ≡ None
   pub begun_is : begun ≡ begun_by None (whole_lines units bytes).commands
   pub state_is : state ≡ state_by after opening (whole_lines units bytes).commands

@@ -1,4 +1,6 @@
 pub mod AnySession
+pub mod Chunk
+pub mod Cutter
 pub mod Ends
 pub mod Facts
 pub mod Interpreter

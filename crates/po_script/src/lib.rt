@@ -1,6 +1,8 @@
 //! Scripts: lines of commands to a protected object are carried out, and answered by lines.
 #![tactic(auto)]
 
+pub mod chunk;
+pub mod cutter;
 pub mod facts;
 pub mod fault;
 mod interpreter;

@@ -15,4 +15,4 @@ pub returns-in_err-check-clause-warned : goal.returns-in_err-check-clause-warned
 returns-in_err-check-clause-warned g c = λ bytes. warns g.O.ScriptObject.units c.refused_behind.ensures 67108864 bytes
 
 pub read_on-verdict-requires-clause-fresh : goal.read_on-verdict-requires-clause-fresh
-read_on-verdict-requires-clause-fresh g c = c.in_ok-check.ensures.ok (g.P.Report.told c.args.report.now)
+read_on-verdict-requires-clause-fresh g c = c.in_ok-check.ensures.ok (g.R.Source.left c.args.reader.now) (g.R.Source.reads c.args.reader.now) (g.P.Report.told c.args.report.now)

@@ -1,75 +1,92 @@
-use Rattle.std.proofs.Common.{◌<◌, ◌≤◌, ◌++◌, ◌∙◌, inl, inr, arith, [], length, take}
-use Rattle.std.proofs.lemmas.List.{append-nil, length-append, length-take-le}
-use Rattle.std.proofs.KnownBytes.{Consumes-trans}
-use Rattle.std.specs.Io.KnownBytes.{Consumes}
+use Rattle.std.proofs.Common.{◌≡◌, ◌<◌, ◌++◌, ◌∷◌, ◌∙◌, [], length, inl, inr, ap, arith}
+use Rattle.std.proofs.lemmas.List.{append-nil, length-append}
 use Rattle.std.proofs.lemmas.Result.{err_from_is_err_and}
-use Rattle.po_script.proofs.EndLemmas.{or_true, err_weaker}
-use Rattle.po_script.proofs.SinkLemmas.{still}
+use Rattle.po_script.specs.Cutter.{waiting}
+use Rattle.po_script.proofs.EndLemmas.{err_weaker}
 use Rattle.po_check.specs.declared.fault.CheckFault.{CheckFault}
-use Rattle.po_check.proofs.CheckLemmas.{ok_weaker}
-use Rattle.po_check.proofs.EarlyEnds.{early_other, piece_early}
+use Rattle.po_check.proofs.CheckLemmas.{letter_stands, ok_weaker}
+use Rattle.po_check.proofs.EarlyEnds.{early_other}
 use Rattle.po_check.proofs.check.Check.read_on.Goals as goal
 
-pub returns-then-count-eq0-clause-ok : goal.returns-then-count-eq0-clause-ok
-returns-then-count-eq0-clause-ok g c =
-    let i = c.loop-count.invariant in
-    let bytes = i.so_far.0 in
-    let fine = c.in-Ok.ensures.fine ∙ i.read ∙ c.requires.reader.0 in
-    let ended = c.in-Ok.ensures.at_end ∙ or_true (g.R.Source.ended c.loop-count.reader) c.in-Ok.count c.if-count-eq0.true in
-    let none : Consumes (g.R.Source.left c.loop-count.reader) (g.R.Source.left c.read.new.self) [] = rw c.if-count-eq0.true at c.in-Ok.ensures.given in
-    let consumed : Consumes (g.R.Source.left c.args.reader.now) (g.R.Source.left c.read.new.self) bytes = rw append-nil at (Consumes-trans _ _ _ bytes [] i.so_far.1 none) in
-    ok_weaker _ _ c.finish.result (λ verdict p. (bytes, consumed, record { whole = inl ended; read = fine; told = p.0; verdict_is = p.1 })) (c.finish.ensures.ok bytes _ i.so_far.2)
+pub returns-in-Err-clause-err : goal.returns-in-Err-clause-err
+returns-in-Err-clause-err g c =
+    let i = c.loop-step.invariant in
+    let s = i.so_far.1 in
+    let e = c.in-Err.ensures.err in
+    let cuts = e.2 i.so_far.0 _ _ s.cuts in
+    (i.so_far.0, rw (e.1, append-nil) at cuts.source.consumed, (e.0, s.tells.told))
 
-pub returns-then-count-eq0-clause-err : goal.returns-then-count-eq0-clause-err
-returns-then-count-eq0-clause-err g c =
-    let i = c.loop-count.invariant in
-    let bytes = i.so_far.0 in
-    let fine = c.in-Ok.ensures.fine ∙ i.read ∙ c.requires.reader.0 in
-    let none : Consumes (g.R.Source.left c.loop-count.reader) (g.R.Source.left c.read.new.self) [] = rw c.if-count-eq0.true at c.in-Ok.ensures.given in
-    let consumed : Consumes (g.R.Source.left c.args.reader.now) (g.R.Source.left c.read.new.self) bytes = rw append-nil at (Consumes-trans _ _ _ bytes [] i.so_far.1 none) in
-    err_weaker _ _ c.finish.result (λ (fault : CheckFault) ends. (bytes, consumed, early_other g.O.ScriptObject.units fault bytes _ _ _ fine ends)) (c.finish.ensures.err bytes _ i.so_far.2)
-
-pub returns-then-chunk-room-clause-ok : goal.returns-then-chunk-room-clause-ok
-returns-then-chunk-room-clause-ok g c =
-    let i = c.loop-count.invariant in
-    let bytes = i.so_far.0 in
-    let n = c.in-Ok.count in
-    let piece = take n c.read.new.buffer in
-    let fine = c.in-Ok.ensures.fine ∙ i.read ∙ c.requires.reader.0 in
-    let size = length-take-le n c.read.new.buffer c.in-Ok.ensures.within in
-    let past : 67108864 < length (bytes ++ piece) = omega (arith, c.if-chunk-room.true, c.loop-count.self.few, i.so_far.2.total_is, length-append bytes piece, size) in
-    ok_weaker _ _ c.feed_last.result (λ verdict p. (bytes ++ piece, Consumes-trans _ _ _ bytes piece i.so_far.1 c.in-Ok.ensures.given, record { whole = inr past; read = fine; told = p.0; verdict_is = p.1 })) (c.feed_last.ensures.ok bytes _ i.so_far.2)
-
-pub returns-then-chunk-room-clause-err : goal.returns-then-chunk-room-clause-err
-returns-then-chunk-room-clause-err g c =
-    let i = c.loop-count.invariant in
-    let bytes = i.so_far.0 in
-    let piece = take c.in-Ok.count c.read.new.buffer in
-    let fine = c.in-Ok.ensures.fine ∙ i.read ∙ c.requires.reader.0 in
-    err_weaker _ _ c.feed_last.result (λ (fault : CheckFault) ends. (bytes ++ piece, Consumes-trans _ _ _ bytes piece i.so_far.1 c.in-Ok.ensures.given, early_other g.O.ScriptObject.units fault (bytes ++ piece) _ _ _ fine ends)) (c.feed_last.ensures.err bytes _ i.so_far.2)
-
-pub returns-in_err-feed-clause-err : goal.returns-in_err-feed-clause-err
-returns-in_err-feed-clause-err g c =
-    let p = err_from_is_err_and c.from_residual.result c.from_residual.ensures.1 in
-    let i = c.loop-count.invariant in
-    let bytes = i.so_far.0 in
-    let n = c.in-Ok.count in
-    let piece = take n c.read.new.buffer in
-    let fine = c.in-Ok.ensures.fine ∙ i.read ∙ c.requires.reader.0 in
-    let size = length-take-le n c.read.new.buffer c.in-Ok.ensures.within in
-    let few : length (bytes ++ piece) ≤ 67108864 = omega (arith, c.if-chunk-room.false, c.loop-count.self.few, i.so_far.2.total_is, length-append bytes piece, size) in
-    let k = c.in_err-feed.ensures.err in
-    let told = rw append-nil at (piece_early g.O.ScriptObject.units bytes piece [] _ _ few (k.1 bytes [] _ i.so_far.2)) in
-    rw (p.1, p.2) (bytes ++ piece, Consumes-trans _ _ _ bytes piece i.so_far.1 c.in-Ok.ensures.given, early_other g.O.ScriptObject.units _ (bytes ++ piece) _ _ _ fine (k.0, told))
-
-pub loop-count-preserved : goal.loop-count-preserved
-loop-count-preserved g c =
-    let i = c.loop-count.invariant in
-    let bytes = i.so_far.0 in
-    let n = c.in-Ok.count in
-    let piece = take n c.read.new.buffer in
+pub loop-step-preserved-in-Letter : goal.loop-step-preserved-in-Letter
+loop-step-preserved-in-Letter g c =
+    let i = c.loop-step.invariant in
+    let s = i.so_far.1 in
+    let k = rw c.in-Letter.is at c.in-Ok.ensures.step in
     record {
-      so_far = (bytes ++ piece, Consumes-trans _ _ _ bytes piece i.so_far.1 c.in-Ok.ensures.given, c.in_ok-feed.ensures.ok bytes _ i.so_far.2);
+      so_far = (i.so_far.0 ++ k.0 ∷ [], record { cuts = k.4 i.so_far.0 _ _ s.cuts; tells = letter_stands g.O.ScriptObject.units _ _ _ i.so_far.0 _ _ k.0 s.tells k.1 });
       read = c.in-Ok.ensures.fine ∙ i.read;
-      gave = still _ _ n c.in-Ok.ensures.at_end c.if-count-eq0.false ∙ i.gave;
     }
+
+pub loop-step-preserved : goal.loop-step-preserved
+loop-step-preserved g c =
+    let i = c.loop-step.invariant in
+    let s = i.so_far.1 in
+    let k = rw c.in-Newline.is at c.in-Ok.ensures.step in
+    record {
+      so_far = (i.so_far.0 ++ 10 ∷ [], c.in_ok-newline-in-Newline.ensures.ok i.so_far.0 _ _ _ _ _ (record { cuts = k.4 i.so_far.0 _ _ s.cuts; tells = s.tells }));
+      read = c.in-Ok.ensures.fine ∙ i.read;
+    }
+
+pub returns-in_err-newline-in-Newline-clause-err : goal.returns-in_err-newline-in-Newline-clause-err
+returns-in_err-newline-in-Newline-clause-err g c =
+    let p = err_from_is_err_and c.from_residual.result c.from_residual.ensures.1 in
+    let i = c.loop-step.invariant in
+    let s = i.so_far.1 in
+    let k = rw c.in-Newline.is at c.in-Ok.ensures.step in
+    let cuts = k.4 i.so_far.0 _ _ s.cuts in
+    let e = c.in_err-newline-in-Newline.ensures.err in
+    rw (p.1, p.2) (
+      i.so_far.0 ++ waiting c.next.new.self,
+      cuts.source.consumed,
+      early_other g.O.ScriptObject.units _ _ _ _ _ (c.in-Ok.ensures.fine ∙ i.read ∙ c.requires.reader.0) e.0 (e.1 i.so_far.0 _ _ _ _ _ (record { cuts = cuts; tells = s.tells })),
+    )
+
+pub returns-in-End-clause-ok : goal.returns-in-End-clause-ok
+returns-in-End-clause-ok g c =
+    let i = c.loop-step.invariant in
+    let s = i.so_far.1 in
+    let k = rw c.in-End.is at c.in-Ok.ensures.step in
+    let cuts = k.2 i.so_far.0 _ _ s.cuts in
+    let read = c.in-Ok.ensures.fine ∙ i.read ∙ c.requires.reader.0 in
+    ok_weaker _ _ c.finish.result (λ verdict ends.
+    let told = ends i.so_far.0 _ _ _ _ _ (record { cuts = cuts; tells = s.tells }) in
+    (i.so_far.0, rw (k.0, append-nil) at cuts.source.consumed, record { whole = inl k.1; read = read; told = told.0; verdict_is = told.1 })) c.finish.ensures.ok
+
+pub returns-in-End-clause-err : goal.returns-in-End-clause-err
+returns-in-End-clause-err g c =
+    let i = c.loop-step.invariant in
+    let s = i.so_far.1 in
+    let k = rw c.in-End.is at c.in-Ok.ensures.step in
+    let cuts = k.2 i.so_far.0 _ _ s.cuts in
+    let read = c.in-Ok.ensures.fine ∙ i.read ∙ c.requires.reader.0 in
+    err_weaker _ _ c.finish.result (λ (fault : CheckFault) e. (i.so_far.0 ++ waiting c.next.new.self, cuts.source.consumed, early_other g.O.ScriptObject.units fault _ _ _ _ read e.0 (e.1 i.so_far.0 _ _ _ _ _ (record { cuts = cuts; tells = s.tells })))) c.finish.ensures.err
+
+pub returns-in-Past-clause-ok : goal.returns-in-Past-clause-ok
+returns-in-Past-clause-ok g c =
+    let i = c.loop-step.invariant in
+    let s = i.so_far.1 in
+    let k = rw c.in-Past.is at c.in-Ok.ensures.step in
+    let cuts = k.3 i.so_far.0 _ _ s.cuts in
+    let read = c.in-Ok.ensures.fine ∙ i.read ∙ c.requires.reader.0 in
+    let past : 67108864 < length (i.so_far.0 ++ waiting c.next.new.self) = omega (arith, cuts.total_is, k.1, length-append i.so_far.0 (waiting c.next.new.self), ap length k.0.2) in
+    ok_weaker _ _ c.past_limit.result (λ verdict ends.
+    let told = ends i.so_far.0 _ _ _ _ _ (record { cuts = cuts; tells = s.tells }) in
+    (i.so_far.0 ++ waiting c.next.new.self, cuts.source.consumed, record { whole = inr past; read = read; told = told.0; verdict_is = told.1 })) c.past_limit.ensures.ok
+
+pub returns-in-Past-clause-err : goal.returns-in-Past-clause-err
+returns-in-Past-clause-err g c =
+    let i = c.loop-step.invariant in
+    let s = i.so_far.1 in
+    let k = rw c.in-Past.is at c.in-Ok.ensures.step in
+    let cuts = k.3 i.so_far.0 _ _ s.cuts in
+    let read = c.in-Ok.ensures.fine ∙ i.read ∙ c.requires.reader.0 in
+    err_weaker _ _ c.past_limit.result (λ (fault : CheckFault) e. (i.so_far.0 ++ waiting c.next.new.self, cuts.source.consumed, early_other g.O.ScriptObject.units fault _ _ _ _ read e.0 (e.1 i.so_far.0 _ _ _ _ _ (record { cuts = cuts; tells = s.tells })))) c.past_limit.ensures.err
