@@ -58,7 +58,7 @@ claims_lead_somewhere() {
     [ -n "$names$file" ] || continue
     if [ -f "$file" ]; then pass; else fail "docs/PROVED.md names '$file', which isn't there"; fi
     for name in $names; do
-      if grep -qsE "\\b(fn|struct|trait|impl.*[ :]) ?$name\\b|\\bensures $name \\{" "$file"; then pass; else fail "docs/PROVED.md: $name isn't in $file"; fi
+      if grep -qsE "\\b(fn|struct|trait|impl.*[ :]) ?$name\\b|^> $name\\b|\\bensures $name \\{" "$file"; then pass; else fail "docs/PROVED.md: $name isn't in $file"; fi
     done
   done < <(awk -F'|' '$3 ~ /(po|example)_.*\/src\// { print $3 }' docs/PROVED.md | sed -E 's:`(po|example)_[a-z_]+/src/[a-z_]+\.rt`:&\n:g')
 }
@@ -101,7 +101,21 @@ edits_are_few() {
   if [ "$number" -le "$most_edits" ]; then pass; else fail "$number wrong bodies, at most $most_edits are to be"; fi
 }
 
+# What threads share is behind the steps of po_object alone: each use of its lock, flags and parkers asks first (steps.rt), and no
+# other crate on which pobj stands has any, but for two files with flags of their own.
+steps_are_asked() {
+  local file uses asks files
+  files=$(grep -rlE '\b(RwLock|Mutex|Condvar|OnceLock|Parker|Unparker|Atomic[A-Z][a-z0-9]*)\b' crates/*/src | grep -vE 'crates/(test|example|bench)_' | sed 's:^crates/::; s:/src/:/:' | LC_ALL=C sort | tr '\n' ' ')
+  if [ "$files" = "po_object/object.rt po_object/opening.rt po_object/pass.rt po_object/seat.rt po_stress/progress.rt pobj_stress/watch.rt " ]; then pass; else fail "files with locks, flags or parkers: $files"; fi
+  for file in object pass seat; do
+    uses=$(grep -cE '\.(try_write|try_read|unpark)\(\)|\.(write|read|park)\(rt\)|\.(load|store|swap|compare_exchange)\(' "crates/po_object/src/$file.rt")
+    asks=$(grep -cE 'steps\.(reach|sleeps)\(' "crates/po_object/src/$file.rt")
+    if [ "$uses" -eq "$asks" ]; then pass; else fail "$file.rt of po_object uses what threads share $uses times, and asks $asks times"; fi
+  done
+}
+
 pages() {
+  steps_are_asked
   map_is_whole
   paths_lead_somewhere
   definitions_are_listed

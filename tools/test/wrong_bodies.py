@@ -33,9 +33,10 @@ def edited(edit, crate):
 
 
 def only(path):
-    """The words by which `rt check` checks the module of this file alone."""
+    """The words by which `rt check` checks the module of this file alone. A method goes by the module of its type, so a folder's
+    file by that of the folder."""
     parts = pathlib.PurePath(path).with_suffix("").parts
-    return ["--only", "::".join(parts[1:])] if parts[0] == "src" and parts[1:] not in (("lib",), ("main",)) else []
+    return ["--only", parts[1]] if parts[0] == "src" and parts[1:] not in (("lib",), ("main",)) else []
 
 
 def says_refused(status, said):

@@ -23,8 +23,10 @@ use Rattle.po_object.specs.contracts.locked_core.LockedCore as LockedCore
 use Rattle.po_object.specs.contracts.object.Object as Object
 use Rattle.po_object.specs.contracts.object.Object.TheInside as Inside
 use Rattle.po_object.specs.contracts.seat.Seat as Seat
+use Rattle.po_object.specs.contracts.steps.Unasked as Unasked
 use Rattle.po_receipts.specs.contracts.closed_pass.ClosedPass as ClosedPass
 use Rattle.po_object.proofs.seat.Seat.TheSendSync as seat
+use Rattle.po_object.proofs.steps.Unasked.TheSendSync as unasked
 use Rattle.po_object.proofs.ledgers.SeatParts.TheSendSync as division
 use Rattle.po_receipts.proofs.closed_pass.ClosedPass.TheSendSync as spent
 use Rattle.std.proofs.sync.RwLock.TheSendSync as lock
@@ -78,11 +80,12 @@ locked_sync U C P F R Q V g e l g' g'' g''' k r n s m t o p w v =
       ),
     )))
 
-pub object_sync : (U C P F R Q V : RattleType) (g : Ghosts C.Denot) (g' : Ghosts P.Denot) (g'' : Unit.Ghosts U.Denot V.Denot) (e : PartialEq.Ghosts V.Denot) (l : CallLedger.Ghosts C.Denot) (g''' : Ghosts F.Denot) (k : Record.Ghosts R.Denot U.Denot V.Denot) (r : Receipts.Ghosts Q.Denot V.Denot) → IsSend U → IsSync U → IsSend R → IsSync R → IsSend Q → IsSync Q → IsSend V → IsSync V → IsSync (Object.the_row U C P F R Q V g g' g'' e l g''' k r)
-object_sync U C P F R Q V g g' g'' e l g''' k r n s m t o p w v =
-    Send.view_sync (Inside.the_row U C P F R Q V g g' g'' e l g''' k r) _ _ _ _
-    (Send.recorded_sync (Inside.the_field U C P F R Q V g g' g'' e l g''' k r).row _ _ (Inside.the_type U C P F R Q V g g' g'' e l g''' k r).to_one
-    (Send.struct_sync (Declared.shape (Inside.the_type U C P F R Q V g g' g'' e l g''' k r)) (
+-- an object that asks any steps which may be shared
+pub object_with_sync : (U C P F R Q S V : RattleType) (g : Ghosts C.Denot) (g' : Ghosts P.Denot) (g'' : Unit.Ghosts U.Denot V.Denot) (e : PartialEq.Ghosts V.Denot) (l : CallLedger.Ghosts C.Denot) (g''' : Ghosts F.Denot) (k : Record.Ghosts R.Denot U.Denot V.Denot) (r : Receipts.Ghosts Q.Denot V.Denot) → IsSend U → IsSync U → IsSend R → IsSync R → IsSend Q → IsSync Q → IsSend V → IsSync V → IsSync S → IsSync (Object.the_row U C P F R Q S V g g' g'' e l g''' k r)
+object_with_sync U C P F R Q S V g g' g'' e l g''' k r n s m t o p w v x =
+    Send.view_sync (Inside.the_row U C P F R Q S V g g' g'' e l g''' k r) _ _ _ _
+    (Send.recorded_sync (Inside.the_field U C P F R Q S V g g' g'' e l g''' k r).row _ _ (Inside.the_type U C P F R Q S V g g' g'' e l g''' k r).to_one
+    (Send.struct_sync (Declared.shape (Inside.the_type U C P F R Q S V g g' g'' e l g''' k r)) (
       lock.the_field_sync (LockedCore.the_row U C P F R Q V g'' e l g g' g''' k r) (locked.the_send U C P F R Q V g'' e l g g' g''' k r n m w) (locked_sync U C P F R Q V g'' e l g g' g''' k r n s m t o p w v),
       (
         vec.the_sync Seat.the_row Global.the_row Heap.ghosts seat.the_sync global.the_sync,
@@ -94,10 +97,18 @@ object_sync U C P F R Q V g g' g'' e l g''' k r n s m t o p w v =
               vec.the_sync (ClosedPass.the_row V Q r) Global.the_row Heap.ghosts (search (sendable, spent.the_sync)) global.the_sync,
               (
                 vec.the_sync _ Global.the_row Heap.ghosts (search sendable) global.the_sync,
-                tt,
+                (
+                  x,
+                  tt,
+                ),
               ),
             ),
           ),
         ),
       ),
     )))
+
+-- an object that asks no one
+pub object_sync : (U C P F R Q V : RattleType) (g : Ghosts C.Denot) (g' : Ghosts P.Denot) (g'' : Unit.Ghosts U.Denot V.Denot) (e : PartialEq.Ghosts V.Denot) (l : CallLedger.Ghosts C.Denot) (g''' : Ghosts F.Denot) (k : Record.Ghosts R.Denot U.Denot V.Denot) (r : Receipts.Ghosts Q.Denot V.Denot) → IsSend U → IsSync U → IsSend R → IsSync R → IsSend Q → IsSync Q → IsSend V → IsSync V → IsSync (Object.the_row U C P F R Q Unasked.the_row V g g' g'' e l g''' k r)
+object_sync U C P F R Q V g g' g'' e l g''' k r n s m t o p w v =
+    object_with_sync U C P F R Q Unasked.the_row V g g' g'' e l g''' k r n s m t o p w v unasked.the_sync

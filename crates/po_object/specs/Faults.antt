@@ -25,5 +25,5 @@ IsWhy core WasUsed = next_place core.object ≢ core.object.setup.first_place
 IsWhy core WithoutMemory = next_place core.object ≡ core.object.setup.first_place
 
 -- The object and the passes are handed back, with the lowest seat that hasn't exactly one pass.
-abbrev pub KeepsAll : {U C P F R Q V : Type 0} → ℕ → List (PassView V) → CloseFault U C P F R Q V → Type 0
+abbrev pub KeepsAll : {U C P F R Q S V : Type 0} → ℕ → List (PassView V) → CloseFault U C P F R Q S V → Type 0
 KeepsAll seats passes (PassMissing seat object back) = (object ≡ seats) × (back.items ≡ passes) × IsMissing seats passes seat

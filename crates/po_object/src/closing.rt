@@ -9,6 +9,7 @@ ghost use Rattle.po_receipts.specs.Answers.{HasClosingTotals, NonePending};
 use crate::fault::CloseFault;
 use crate::ledgers::{CallLedger, SeatParts};
 use crate::object::Object;
+use crate::steps::Steps;
 use crate::{LockedCore, Pass};
 use po_core::{Core, Record, Recorded, Unrecorded};
 use po_history::Trace;
@@ -72,21 +73,22 @@ impl<U: Unit, R: Record<U>, Q: Receipts<U::Value>> Closed<U, R, Q> {
     }
 }
 
-impl<U: Unit, C: CallLedger, P: Ledger, F: Ledger, R: Record<U>, Q: Receipts<U::Value>> Object<
-    U,
-    C,
-    P,
-    F,
-    R,
-    Q,
-> {
+impl<
+    U: Unit,
+    C: CallLedger,
+    P: Ledger,
+    F: Ledger,
+    R: Record<U>,
+    Q: Receipts<U::Value>,
+    S: Steps,
+> Object<U, C, P, F, R, Q, S> {
     /// Closes the object, where each seat has exactly one of the passes. No memory is taken.
     ///
     /// Else the fault names the lowest seat that hasn't, and hands the object and the passes back.
     pub fn close(
         self,
         passes: Vec<Pass<U::Value, C, P, F, Q>>,
-    ) -> Result<Closed<U, R, Q>, CloseFault<U, C, P, F, R, Q>>
+    ) -> Result<Closed<U, R, Q>, CloseFault<U, C, P, F, R, Q, S>>
         ensures one_each { OnOk result (OneEach self passes.items × (length passes.items ≡ self)) }
         ensures by_seat { IfOk result (λ closed. AreBySeat self passes.items closed.passes) }
         ensures totals { IfOk result (λ closed. HasClosingTotals closed.core closed.passes) }
@@ -107,20 +109,22 @@ impl<U: Unit, C: CallLedger, P: Ledger, F: Ledger, R: Record<U>, Q: Receipts<U::
             procedures,
             room,
             counts: _counts,
+            steps: _steps,
         } = object;
         let closed = gather(locked.into_inner(), room, passes, &calls, &procedures);
         Ok(closed)
     }
 }
 
-impl<U: Unit, C: CallLedger, P: Ledger, F: Ledger, R: Record<U>, Q: Receipts<U::Value>> Object<
-    U,
-    C,
-    P,
-    F,
-    R,
-    Q,
-> {
+impl<
+    U: Unit,
+    C: CallLedger,
+    P: Ledger,
+    F: Ledger,
+    R: Record<U>,
+    Q: Receipts<U::Value>,
+    S: Steps,
+> Object<U, C, P, F, R, Q, S> {
     /// The lowest seat that hasn't exactly one of the passes.
     fn missing(&mut self, passes: &Vec<Pass<U::Value, C, P, F, Q>>) -> Option<u16>
         ensures same { self.new ≡ self.old }

@@ -3,6 +3,7 @@
 use crate::Pass;
 use crate::ledgers::CallLedger;
 use crate::object::Object;
+use crate::steps::{Steps, Unasked};
 use po_core::{Core, Record, Recorded, Unrecorded};
 use po_receipts::{Receipt, Receipts};
 use po_unit::Unit;
@@ -55,6 +56,7 @@ pub enum CloseFault<
     F: Ledger = C,
     R: Record<U> = Recorded<U>,
     Q: Receipts<<U as Unit>::Value> = Vec<Receipt<<U as Unit>::Value>>,
+    S: Steps = Unasked,
 > {
     /// 1: a seat hasn't exactly one of the passes.
     #[error("seat {seat} hasn't exactly one of the passes that were given back")]
@@ -62,14 +64,21 @@ pub enum CloseFault<
         /// The lowest such seat.
         seat: u16,
         /// The object.
-        object: Object<U, C, P, F, R, Q>,
+        object: Object<U, C, P, F, R, Q, S>,
         /// The passes.
         passes: Vec<Pass<U::Value, C, P, F, Q>>,
     },
 }
 
-impl<U: Unit, C: CallLedger, P: Ledger, F: Ledger, R: Record<U>, Q: Receipts<U::Value>> fmt::Debug
-    for CloseFault<U, C, P, F, R, Q> {
+impl<
+    U: Unit,
+    C: CallLedger,
+    P: Ledger,
+    F: Ledger,
+    R: Record<U>,
+    Q: Receipts<U::Value>,
+    S: Steps,
+> fmt::Debug for CloseFault<U, C, P, F, R, Q, S> {
     fn fmt<W: fmt::Write>(&self, f: &mut fmt::Formatter<W>) -> fmt::Result {
         match self {
             CloseFault::PassMissing { seat, .. } => write!(f, "PassMissing {{ seat: {seat} }}"),

@@ -12,6 +12,7 @@ mod pass;
 mod reconciliation;
 mod reservation;
 pub mod seat;
+pub mod steps;
 
 pub use closing::{BoundedClosed, Closed};
 pub use fault::{BoundedOpenFault, CloseFault, OpenFault};

@@ -13,6 +13,7 @@ ghost use Rattle.po_object.specs.Refused.{IsCallRefusal, IsProcedureRefusal, IsF
 
 use crate::ledgers::{CallLedger, SeatParts};
 use crate::seat::{Seat, Sleepers};
+use crate::steps::{Step, Steps, Taken, Unasked};
 use crate::{LockedCore, Pass};
 use crossbeam_utils::Backoff;
 use po_core::{Aborted, CallStatus, Deadline, End, Record, Recorded, Refusal, Unrecorded, Volume};
@@ -22,10 +23,6 @@ use po_unit::{EntryRef, Unit};
 use std::marker::Model;
 use std::sync::ledger::Ledger;
 use std::sync::{RwLock, RwLockReadGuard, RwLockWriteGuard, Wait};
-
-/// How often a thread tries to get the lock before it queues for it. Nobody gets the lock by trying while one is queued, so
-/// that queueing slows down all threads.
-const TRIES: u32 = 64;
 
 /// A protected object (9.4) that any number of threads call. Contracts see it as its number of seats.
 ///
@@ -39,6 +36,7 @@ pub struct Object<
     F: Ledger = C,
     R: Record<U> = Recorded<U>,
     Q: Receipts<<U as Unit>::Value> = Vec<Receipt<<U as Unit>::Value>>,
+    S: Steps = Unasked,
 > {
     pub(crate) locked: RwLock<LockedCore<U, C, P, F, R, Q>>,
     pub(crate) seats: Vec<Seat>,
@@ -46,6 +44,7 @@ pub struct Object<
     pub(crate) procedures: SeatParts<P>,
     pub(crate) room: Vec<ClosedPass<U::Value, Q>>,
     pub(crate) counts: Vec<usize>,
+    pub(crate) steps: S,
 }
 
 /// An object all of whose memory is taken when it is opened: none of its calls takes any, and history and receipts are known
@@ -59,8 +58,15 @@ pub type BoundedObject<U, C, P, F> = Object<
     Trace<Receipt<<U as Unit>::Value>>,
 >;
 
-impl<U: Unit, C: CallLedger, P: Ledger, F: Ledger, R: Record<U>, Q: Receipts<U::Value>> Model
-    for Object<U, C, P, F, R, Q> {
+impl<
+    U: Unit,
+    C: CallLedger,
+    P: Ledger,
+    F: Ledger,
+    R: Record<U>,
+    Q: Receipts<U::Value>,
+    S: Steps,
+> Model for Object<U, C, P, F, R, Q, S> {
     ghost use Rattle.std.specs.Prelude.{◌≡◌, ℕ, vec_len};
 
     ghost Value = { ℕ };
@@ -75,13 +81,14 @@ impl<U: Unit, C: CallLedger, P: Ledger, F: Ledger, R: Record<U>, Q: Receipts<U::
     } };
 }
 
-impl<U: Unit + Drop, C: CallLedger, P: Ledger, F: Ledger, Q: Receipts<U::Value>> Object<
+impl<U: Unit + Drop, C: CallLedger, P: Ledger, F: Ledger, Q: Receipts<U::Value>, S: Steps> Object<
     U,
     C,
     P,
     F,
     Recorded<U>,
     Q,
+    S,
 > {
     /// Cuts the history, as `Core::cut` does.
     ///
@@ -92,20 +99,21 @@ impl<U: Unit + Drop, C: CallLedger, P: Ledger, F: Ledger, Q: Receipts<U::Value>>
         ensures refused { IfErr result IsCutRefusal }
     {
         self.recall_parts();
-        let mut locked = self.change(rt);
-        let volume = locked.cut()?;
+        let mut taken = self.change(rt);
+        let volume = taken.locked.cut()?;
         Ok(volume)
     }
 }
 
-impl<U: Unit, C: CallLedger, P: Ledger, F: Ledger, R: Record<U>, Q: Receipts<U::Value>> Object<
-    U,
-    C,
-    P,
-    F,
-    R,
-    Q,
-> {
+impl<
+    U: Unit,
+    C: CallLedger,
+    P: Ledger,
+    F: Ledger,
+    R: Record<U>,
+    Q: Receipts<U::Value>,
+    S: Steps,
+> Object<U, C, P, F, R, Q, S> {
     /// How many seats the object was opened with.
     pub fn seats(&self) -> u16
         ensures { result ≡ self.now }
@@ -188,10 +196,10 @@ impl<U: Unit, C: CallLedger, P: Ledger, F: Ledger, R: Record<U>, Q: Receipts<U::
         ensures refused { IfErr result (IsProcedureRefusal R.is_bounded) }
         ensures unchanged { OnErr result (pass.new ≡ pass.old) }
     {
-        let mut locked = self.change(rt);
-        let reply = locked.run(pass, op, value)?;
-        let sleepers = self.tell(&locked, Some(pass.seat()));
-        drop(locked);
+        let mut taken = self.change(rt);
+        let reply = taken.locked.run(pass, op, value)?;
+        let sleepers = self.tell(&taken.locked, Some(pass.seat()));
+        drop(taken);
         self.wake(&sleepers);
         Ok(reply)
     }
@@ -208,7 +216,7 @@ impl<U: Unit, C: CallLedger, P: Ledger, F: Ledger, R: Record<U>, Q: Receipts<U::
         ensures reply { IfOk result (λ reply. IsFunctionReply U.meaning op value reply) }
         ensures refused { IfErr result IsFunctionRefusal }
     {
-        self.look(rt).core().read(op, value)
+        self.look(rt).locked.core().read(op, value)
     }
 
     /// Raises the clock to t, if it is lower, and answers the clock.
@@ -219,10 +227,10 @@ impl<U: Unit, C: CallLedger, P: Ledger, F: Ledger, R: Record<U>, Q: Receipts<U::
         ensures reply { IfOk result (λ clock. IsTickReply U.meaning t clock) }
         ensures refused { IfErr result (IsTickRefusal R.is_bounded) }
     {
-        let mut locked = self.change(rt);
-        let clock = locked.tick(t)?;
-        let sleepers = self.tell(&locked, None);
-        drop(locked);
+        let mut taken = self.change(rt);
+        let clock = taken.locked.tick(t)?;
+        let sleepers = self.tell(&taken.locked, None);
+        drop(taken);
         self.wake(&sleepers);
         Ok(clock)
     }
@@ -234,10 +242,10 @@ impl<U: Unit, C: CallLedger, P: Ledger, F: Ledger, R: Record<U>, Q: Receipts<U::
         ensures reply { OnOk result (IsFinalReply U.meaning) }
         ensures refused { IfErr result (λ r. r ≡ Refusal.Finalized) }
     {
-        let mut locked = self.change(rt);
-        locked.finalize()?;
-        let sleepers = self.tell(&locked, None);
-        drop(locked);
+        let mut taken = self.change(rt);
+        taken.locked.finalize()?;
+        let sleepers = self.tell(&taken.locked, None);
+        drop(taken);
         self.wake(&sleepers);
         Ok(())
     }
@@ -249,10 +257,10 @@ impl<U: Unit, C: CallLedger, P: Ledger, F: Ledger, R: Record<U>, Q: Receipts<U::
         ensures reply { IfOk result (λ aborted. IsAbortReply U.meaning seat aborted) }
         ensures refused { IfErr result (λ r. r ≡ Refusal.NoCall) }
     {
-        let mut locked = self.change(rt);
-        let aborted = locked.abort_seat(seat)?;
-        let sleepers = self.tell(&locked, None);
-        drop(locked);
+        let mut taken = self.change(rt);
+        let aborted = taken.locked.abort_seat(seat)?;
+        let sleepers = self.tell(&taken.locked, None);
+        drop(taken);
         self.wake(&sleepers);
         Ok(aborted)
     }
@@ -266,8 +274,8 @@ impl<U: Unit, C: CallLedger, P: Ledger, F: Ledger, R: Record<U>, Q: Receipts<U::
         ensures allowed { IfOk result (λ count. IsSome count → if_unindexed (flat_number C.shape entry) None ≡ None) }
         ensures refused { IfErr result (λ r. if_unindexed (flat_number C.shape entry) None ≡ Some r) }
     {
-        match self.locked.try_read() {
-            Some(locked) => Ok(Some(locked.core().count(entry)?)),
+        match self.try_look() {
+            Some(taken) => Ok(Some(taken.locked.core().count(entry)?)),
             None => Ok(None),
         }
     }
@@ -280,20 +288,38 @@ impl<U: Unit, C: CallLedger, P: Ledger, F: Ledger, R: Record<U>, Q: Receipts<U::
     }
 
     /// Takes the lock for a change. It is tried for several times before it is waited for, since sleeping is dear.
-    fn change<W: Wait>(&self, rt: &W) -> RwLockWriteGuard<'_, LockedCore<U, C, P, F, R, Q>> {
+    fn change<'a, W: Wait>(
+        &'a self,
+        rt: &W,
+    ) -> Taken<'a, RwLockWriteGuard<'a, LockedCore<U, C, P, F, R, Q>>, S> {
         let backoff = Backoff::new();
-        for _ in 0..TRIES {
+        for _ in 0..S::TRIES {
+            self.steps.reach(Step::TryChange);
             if let Some(locked) = self.locked.try_write() {
-                return locked;
+                return Taken::new(locked, &self.steps, Step::Changed);
             }
             backoff.snooze();
         }
-        self.locked.write(rt)
+        self.steps.reach(Step::Change);
+        Taken::new(self.locked.write(rt), &self.steps, Step::Changed)
     }
 
     /// Takes the lock for a look.
-    fn look<W: Wait>(&self, rt: &W) -> RwLockReadGuard<'_, LockedCore<U, C, P, F, R, Q>> {
-        self.locked.read(rt)
+    fn look<'a, W: Wait>(
+        &'a self,
+        rt: &W,
+    ) -> Taken<'a, RwLockReadGuard<'a, LockedCore<U, C, P, F, R, Q>>, S> {
+        self.steps.reach(Step::Look);
+        Taken::new(self.locked.read(rt), &self.steps, Step::Looked)
+    }
+
+    /// Takes the lock for a look, if it can be had at once.
+    fn try_look<'a>(
+        &'a self,
+    ) -> Option<Taken<'a, RwLockReadGuard<'a, LockedCore<U, C, P, F, R, Q>>, S>> {
+        self.steps.reach(Step::TryLook);
+        let locked = self.locked.try_read()?;
+        Some(Taken::new(locked, &self.steps, Step::Looked))
     }
 
     /// Issues a call, and waits for its end.
@@ -311,16 +337,16 @@ impl<U: Unit, C: CallLedger, P: Ledger, F: Ledger, R: Record<U>, Q: Receipts<U::
         ensures refused { IfErr result (IsCallRefusal R.is_bounded C.shape entry) }
         ensures unchanged { OnErr result (pass.new ≡ pass.old) }
     {
-        let mut locked = self.change(rt);
-        locked.begin(pass, entry, value, deadline)?;
-        let sleepers = self.tell(&locked, Some(pass.seat()));
-        if let Some(end) = locked.finish(pass) {
-            drop(locked);
+        let mut taken = self.change(rt);
+        taken.locked.begin(pass, entry, value, deadline)?;
+        let sleepers = self.tell(&taken.locked, Some(pass.seat()));
+        if let Some(end) = taken.locked.finish(pass) {
+            drop(taken);
             self.wake(&sleepers);
             return Ok(end);
         }
         self.stay(pass.seat());
-        drop(locked);
+        drop(taken);
         self.wake(&sleepers);
         Ok(self.wait(rt, pass))
     }
@@ -332,13 +358,13 @@ impl<U: Unit, C: CallLedger, P: Ledger, F: Ledger, R: Record<U>, Q: Receipts<U::
     {
         for _ in rt.forever() {
             if !self.look_for_end(pass.seat()) {
-                pass.sleep(rt);
+                pass.sleep(rt, &self.steps);
                 if !self.has_ended(rt, pass) {
                     continue;
                 }
             }
-            let mut locked = self.change(rt);
-            if let Some(end) = locked.finish(pass) {
+            let mut taken = self.change(rt);
+            if let Some(end) = taken.locked.finish(pass) {
                 return end;
             }
         }
@@ -349,7 +375,7 @@ impl<U: Unit, C: CallLedger, P: Ledger, F: Ledger, R: Record<U>, Q: Receipts<U::
     fn has_ended<W: Wait>(&self, rt: &W, pass: &Pass<U::Value, C, P, F, Q>) -> bool {
         match pass.asked() {
             Some(asked) => matches!(
-                self.look(rt).core().end_of(asked.ticket),
+                self.look(rt).locked.core().end_of(asked.ticket),
                 CallStatus::Ended(_)
             ),
             None => false,
@@ -359,14 +385,14 @@ impl<U: Unit, C: CallLedger, P: Ledger, F: Ledger, R: Record<U>, Q: Receipts<U::
     /// Says at the seat that its call waits.
     fn stay(&self, seat: u16) {
         if let Some(there) = self.seats.get(seat as usize) {
-            there.wait();
+            there.wait(&self.steps, seat);
         }
     }
 
     /// Looks for a while at the seat whether its call has ended.
     fn look_for_end(&self, seat: u16) -> bool {
         match self.seats.get(seat as usize) {
-            Some(there) => there.look(),
+            Some(there) => there.look(&self.steps, seat),
             None => false,
         }
     }
@@ -385,8 +411,8 @@ impl<U: Unit, C: CallLedger, P: Ledger, F: Ledger, R: Record<U>, Q: Receipts<U::
     /// Tells the seat that its call has ended.
     fn tell_one(&self, seat: u16, sleepers: &mut Sleepers) {
         if let Some(there) = self.seats.get(seat as usize) {
-            if there.end() && !sleepers.add(seat) {
-                there.wake();
+            if there.end(&self.steps, seat) && !sleepers.add(seat) {
+                there.wake(&self.steps, seat);
             }
         }
     }
@@ -395,7 +421,7 @@ impl<U: Unit, C: CallLedger, P: Ledger, F: Ledger, R: Record<U>, Q: Receipts<U::
     fn wake(&self, sleepers: &Sleepers) {
         for seat in sleepers.seats() {
             if let Some(there) = self.seats.get(*seat as usize) {
-                there.wake();
+                there.wake(&self.steps, *seat);
             }
         }
     }

@@ -13,6 +13,7 @@ use crate::ledgers::{CallLedger, SeatParts};
 use crate::object::Object;
 use crate::reservation::{Reservations, Unreserved};
 use crate::seat::Seat;
+use crate::steps::{Steps, Unasked};
 use crate::{LockedCore, Pass};
 use crossbeam_utils::sync::Parker;
 use po_core::{Core, Record};
@@ -52,14 +53,9 @@ impl<U: Unit, C: CallLedger, P: Ledger, F: Ledger, R: Record<U>, Q: Receipts<U::
         ensures core { OnOk result (next_place core.object ≡ core.object.setup.first_place) }
         ensures fault { IfErr result (λ fault. HandsBack core calls procedures fault) }
     {
-        core.recall_kind();
-        match Prepared::make(alloc, &core, seats) {
-            Ok(places) => {
-                let free = Reservations::without();
-                Ok(open_over(alloc, core, seats, calls, procedures, free, places))
-            }
-            Err(why) => Err(why.with(core, calls, procedures)),
-        }
+        Object::<U, C, P, F, R, Q, Unasked>::open_with(
+            alloc, core, seats, calls, procedures, Unasked,
+        )
     }
 
     /// Opens an object over a core that has no event and takes no memory, with so many seats, and hands out a pass for each.
@@ -87,10 +83,81 @@ impl<U: Unit, C: CallLedger, P: Ledger, F: Ledger, R: Record<U>, Q: Receipts<U::
         ensures core { OnOk result (next_place core.object ≡ core.object.setup.first_place) }
         ensures fault { IfErr result (λ fault. HandsBack core calls procedures fault.fault × (fault.free ≡ free)) }
     {
+        Object::<U, C, P, F, R, Q, Unasked>::open_bounded_with(
+            alloc, core, seats, calls, procedures, free, Unasked,
+        )
+    }
+}
+
+impl<
+    U: Unit,
+    C: CallLedger,
+    P: Ledger,
+    F: Ledger,
+    R: Record<U>,
+    Q: Receipts<U::Value>,
+    S: Steps,
+> Object<U, C, P, F, R, Q, S> {
+    /// Opens an object as `open` does, which asks these before its steps.
+    pub fn open_with(
+        alloc: Global,
+        core: Core<U, R>,
+        seats: u16,
+        calls: Blank,
+        procedures: Blank,
+        steps: S,
+    ) -> Result<(Object<U, C, P, F, R, Q, S>, Vec<Pass<U::Value, C, P, F, Q>>), OpenFault<U, R>>
+        // Each ledger has a part for each seat, and one for the object.
+        requires calls { (calls.name ≡ C.name) × (calls.parts ≡ C.parts) × (calls.parts ≡ seats + 1) }
+        requires procedures { (procedures.name ≡ P.name) × (procedures.parts ≡ P.parts) × (procedures.parts ≡ seats + 1) }
+        requires shape { core.object.setup.shape ≡ C.shape }
+        // Memory is taken for each call.
+        requires unbounded { (Q.is_bounded ≡ false) × (R.is_bounded ≡ false) }
+        ensures seats { IfOk result (λ r. r.0 ≡ seats) }
+        ensures fresh { IfOk result (λ r. AreFresh seats r.1.items) }
+        ensures core { OnOk result (next_place core.object ≡ core.object.setup.first_place) }
+        ensures fault { IfErr result (λ fault. HandsBack core calls procedures fault) }
+    {
+        core.recall_kind();
+        match Prepared::make(alloc, &core, seats) {
+            Ok(places) => {
+                let free = Reservations::without();
+                Ok(open_over(alloc, core, seats, calls, procedures, free, places, steps))
+            }
+            Err(why) => Err(why.with(core, calls, procedures)),
+        }
+    }
+
+    /// Opens an object as `open_bounded` does, which asks these before its steps.
+    pub fn open_bounded_with(
+        alloc: Global,
+        core: Core<U, R>,
+        seats: u16,
+        calls: Blank,
+        procedures: Blank,
+        free: Blank,
+        steps: S,
+    ) -> Result<
+        (Object<U, C, P, F, R, Q, S>, Vec<Pass<U::Value, C, P, F, Q>>),
+        BoundedOpenFault<U, R>,
+    >
+        // Each ledger has a part for each seat, and one for the object.
+        requires calls { (calls.name ≡ C.name) × (calls.parts ≡ C.parts) × (calls.parts ≡ seats + 1) }
+        requires procedures { (procedures.name ≡ P.name) × (procedures.parts ≡ P.parts) × (procedures.parts ≡ seats + 1) }
+        requires free { (free.name ≡ F.name) × (free.parts ≡ F.parts) × (free.parts ≡ seats + 1) }
+        requires shape { core.object.setup.shape ≡ C.shape }
+        // All memory was taken before, and there is some for a call of each seat.
+        requires bounded { (Q.is_bounded ≡ true) × (R.is_bounded ≡ true) }
+        requires room { IfSome core.capacity (λ most. seats ≤ most) }
+        ensures seats { IfOk result (λ r. r.0 ≡ seats) }
+        ensures fresh { IfOk result (λ r. AreFresh seats r.1.items) }
+        ensures core { OnOk result (next_place core.object ≡ core.object.setup.first_place) }
+        ensures fault { IfErr result (λ fault. HandsBack core calls procedures fault.fault × (fault.free ≡ free)) }
+    {
         match Prepared::make(alloc, &core, seats) {
             Ok(places) => {
                 let free = Reservations::open(free);
-                Ok(open_over(alloc, core, seats, calls, procedures, free, places))
+                Ok(open_over(alloc, core, seats, calls, procedures, free, places, steps))
             }
             Err(why) => Err(BoundedOpenFault {
                 fault: why.with(core, calls, procedures),
@@ -206,7 +273,15 @@ fn prepare<V: Copy, C: Ledger, P: Ledger, F: Ledger, Q: Receipts<V>>(
 }
 
 /// Opens the object, for which all memory is there.
-fn open_over<U: Unit, C: CallLedger, P: Ledger, F: Ledger, R: Record<U>, Q: Receipts<U::Value>>(
+fn open_over<
+    U: Unit,
+    C: CallLedger,
+    P: Ledger,
+    F: Ledger,
+    R: Record<U>,
+    Q: Receipts<U::Value>,
+    S: Steps,
+>(
     alloc: Global,
     core: Core<U, R>,
     seats: u16,
@@ -214,7 +289,8 @@ fn open_over<U: Unit, C: CallLedger, P: Ledger, F: Ledger, R: Record<U>, Q: Rece
     procedures: Blank,
     free: (Reservations<F>, Unreserved<F>),
     places: Prepared<U::Value, C, P, F, Q>,
-) -> (Object<U, C, P, F, R, Q>, Vec<Pass<U::Value, C, P, F, Q>>)
+    steps: S,
+) -> (Object<U, C, P, F, R, Q, S>, Vec<Pass<U::Value, C, P, F, Q>>)
     requires fresh { next_place core.object ≡ core.object.setup.first_place }
     requires calls { (calls.name ≡ C.name) × (calls.parts ≡ C.parts) × (calls.parts ≡ seats + 1) }
     requires procedures { (procedures.name ≡ P.name) × (procedures.parts ≡ P.parts) × (procedures.parts ≡ seats + 1) }
@@ -260,17 +336,29 @@ fn open_over<U: Unit, C: CallLedger, P: Ledger, F: Ledger, R: Record<U>, Q: Rece
         last_procedures,
         latest,
     );
-    (object_over(locked, seats, places, room, counts), passes)
+    (
+        object_over(locked, seats, places, room, counts, steps),
+        passes,
+    )
 }
 
 /// An object with this value behind its lock, these seats, and the room that its closing needs.
-fn object_over<U: Unit, C: CallLedger, P: Ledger, F: Ledger, R: Record<U>, Q: Receipts<U::Value>>(
+fn object_over<
+    U: Unit,
+    C: CallLedger,
+    P: Ledger,
+    F: Ledger,
+    R: Record<U>,
+    Q: Receipts<U::Value>,
+    S: Steps,
+>(
     locked: LockedCore<U, C, P, F, R, Q>,
     seats: u16,
     places: Vec<Seat>,
     room: Vec<ClosedPass<U::Value, Q>>,
     counts: Vec<usize>,
-) -> Object<U, C, P, F, R, Q>
+    steps: S,
+) -> Object<U, C, P, F, R, Q, S>
     requires calls { C.parts ≡ seats + 1 }
     requires procedures { P.parts ≡ seats + 1 }
     requires places { vec_len places ≡ seats }
@@ -290,6 +378,7 @@ fn object_over<U: Unit, C: CallLedger, P: Ledger, F: Ledger, R: Record<U>, Q: Re
         },
         room,
         counts,
+        steps,
     }
 }
 

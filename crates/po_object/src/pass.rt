@@ -5,6 +5,7 @@ ghost use Rattle.po_receipts.specs.Passes.{PassView, IsTallied, fresh};
 ghost use Rattle.po_object.specs.Reservations.{reserved};
 
 use crate::reservation::Reservation;
+use crate::steps::Steps;
 use crossbeam_utils::sync::Parker;
 use po_history::Trace;
 use po_receipts::{Asked, ClosedPass, Receipt, Receipts};
@@ -157,8 +158,10 @@ impl<V: Copy, C: Ledger, P: Ledger, F: Ledger, Q: Receipts<V>> Pass<V, C, P, F, 
     }
 
     /// Sleeps until the seat is told, or for no reason.
-    pub(crate) fn sleep<W: Wait>(&self, rt: &W) {
-        self.parker.park(rt);
+    pub(crate) fn sleep<W: Wait, S: Steps>(&self, rt: &W, steps: &S) {
+        if steps.sleeps(self.seat) {
+            self.parker.park(rt);
+        }
     }
 }
 

@@ -2,13 +2,11 @@
 
 ghost use Rattle.std.specs.Prelude.{◌≤◌};
 
+use crate::steps::{Step, Steps};
 use crossbeam_utils::CachePadded;
 use crossbeam_utils::sync::Unparker;
 use std::sync::atomic::{AtomicU64, Ordering};
 use std::{hint, thread};
-
-/// How often a caller looks for the end of its call before it sleeps. Sleeping and waking is much dearer than looks.
-const LOOKS: u32 = 100;
 
 /// After so many of these looks it gives up the processor at each: whoever is to end the call may need it.
 const QUICK_LOOKS: u32 = 8;
@@ -39,24 +37,28 @@ impl Seat {
     }
 
     /// Says that the seat's call waits. The lock is held.
-    pub fn wait(&self) {
+    pub fn wait<S: Steps>(&self, steps: &S, seat: u16) {
+        steps.reach(Step::Flag(seat));
         self.flag.store(WAITS, Ordering::SeqCst);
     }
 
     /// Says that the seat's call has ended, and whether its caller sleeps. The lock is held.
-    pub fn end(&self) -> bool {
+    pub fn end<S: Steps>(&self, steps: &S, seat: u16) -> bool {
+        steps.reach(Step::Flag(seat));
         self.flag.swap(ENDED, Ordering::SeqCst) == SLEEPS
     }
 
     /// Wakes the seat's caller.
-    pub fn wake(&self) {
+    pub fn wake<S: Steps>(&self, steps: &S, seat: u16) {
+        steps.reach(Step::Wake(seat));
         self.unparker.unpark();
     }
 
     /// Looks for a while whether the seat's call has ended, and else says that its caller sleeps. Says whether it has
     /// ended.
-    pub fn look(&self) -> bool {
-        for turn in 0..LOOKS {
+    pub fn look<S: Steps>(&self, steps: &S, seat: u16) -> bool {
+        for turn in 0..S::LOOKS {
+            steps.reach(Step::Flag(seat));
             if self.flag.load(Ordering::SeqCst) == ENDED {
                 return true;
             }
@@ -66,6 +68,7 @@ impl Seat {
                 thread::yield_now();
             }
         }
+        steps.reach(Step::Flag(seat));
         self.flag
             .compare_exchange(WAITS, SLEEPS, Ordering::SeqCst, Ordering::SeqCst)
             == Err(ENDED)

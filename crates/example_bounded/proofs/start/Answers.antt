@@ -9,6 +9,8 @@ use denote.Struct.Declared as Declared
 use denote.Struct.Field as Field
 use denote.Struct.Tuple as Tuple
 use mathlib.Core.List.{List, [], ◌∷◌}
+use Rattle.po_object.proofs.steps.Unasked.TheSendSync as unasked
+use Rattle.po_object.specs.contracts.steps.Unasked as Unasked
 use Rattle.po_object.proofs.Shared.{object_sync}
 use Rattle.po_object.proofs.object.Object.TheSendSync as object
 use Rattle.po_object.proofs.pass.Pass.TheSendSync as pass
@@ -33,8 +35,8 @@ spawn-requires-send-F g c κs within =
     let C = Param.param 0 g.row.C in let P = Param.param 1 g.row.P in let F = Param.param 2 g.row.F in
     let R = Param.param 3 g.row.R in let Q = Param.param 4 g.row.Q in let U = Buffer.the_row in let V = Field.u64-field.row in
     let t = c.type_bounds in
-    let row = Object.the_row U C P F R Q V g.C.Ledger g.P.Ledger BufferUnit.ghosts U64.ghosts g.C.CallLedger g.F.Ledger g.R.Record g.Q.Receipts in
-    let o = object.the_send U C P F R Q V g.C.Ledger g.P.Ledger BufferUnit.ghosts U64.ghosts g.C.CallLedger g.F.Ledger g.R.Record g.Q.Receipts buffer.the_send t.send-R t.send-Q (Send.plain_send _ _ _ _ _) in
+    let row = Object.the_row U C P F R Q Unasked.the_row V g.C.Ledger g.P.Ledger BufferUnit.ghosts U64.ghosts g.C.CallLedger g.F.Ledger g.R.Record g.Q.Receipts in
+    let o = object.the_send U C P F R Q Unasked.the_row V g.C.Ledger g.P.Ledger BufferUnit.ghosts U64.ghosts g.C.CallLedger g.F.Ledger g.R.Record g.Q.Receipts buffer.the_send t.send-R t.send-Q unasked.the_send (Send.plain_send _ _ _ _ _) in
     let y = object_sync U C P F R Q V g.C.Ledger g.P.Ledger BufferUnit.ghosts U64.ghosts g.C.CallLedger g.F.Ledger g.R.Record g.Q.Receipts buffer.the_send buffer.the_sync t.send-R t.sync-R t.send-Q t.sync-Q (Send.plain_send _ _ _ _ _) (Send.plain_sync _ _ _ _ _) in
     let a = arc.the_send row Global.the_row Heap.ghosts o global.the_send y global.the_sync frees.the_frees in
     let p = pass.the_send V C P F Q g.C.Ledger g.P.Ledger g.F.Ledger g.Q.Receipts (Send.plain_send _ _ _ _ _) t.send-Q in

@@ -1,5 +1,5 @@
 use Rattle.po_object.proofs.Rooms.{room-unbounded}
-use Rattle.po_object.proofs.object.Object.open.Goals as goal
+use Rattle.po_object.proofs.object.Object.open_with.Goals as goal
 
 pub open_over-requires-clause-capacity : goal.open_over-requires-clause-capacity
 open_over-requires-clause-capacity g c =

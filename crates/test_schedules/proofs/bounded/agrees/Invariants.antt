@@ -1,0 +1,13 @@
+use Rattle.test_schedules.proofs.bounded.agrees.Given as goal
+
+abbrev pub ghosts-open_and_close-C-Ledger : goal.ghosts-open_and_close-C-Ledger
+ghosts-open_and_close-C-Ledger g a = record { name = a.calls.name; parts = a.calls.parts }
+
+abbrev pub ghosts-open_and_close-P-Ledger : goal.ghosts-open_and_close-P-Ledger
+ghosts-open_and_close-P-Ledger g a = record { name = a.procedures.name; parts = a.procedures.parts }
+
+abbrev pub ghosts-open_and_close-F-Ledger : goal.ghosts-open_and_close-F-Ledger
+ghosts-open_and_close-F-Ledger g a = record { name = a.free.name; parts = a.free.parts }
+
+abbrev pub ghosts-open_and_close-C-CallLedger : goal.ghosts-open_and_close-C-CallLedger
+ghosts-open_and_close-C-CallLedger g a = record { shape = a.core.object.setup.shape }

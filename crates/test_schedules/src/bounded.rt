@@ -1,0 +1,101 @@
+//! Objects with fixed memory.
+
+ghost use Rattle.std.specs.Prelude.{◌≡◌, ◌≤◌, ◌+◌, IfSome, true};
+
+use crate::explorer::Explorer;
+use crate::gate::Gate;
+use crate::objects::{Shelf, beginning, play_and_close};
+use crate::plays::Kept;
+use crate::scene::Scene;
+use crate::station::Station;
+use po_core::{BoundedCore, Core, Order, Unrecorded, Volume};
+use po_history::Trace;
+use po_object::steps::Steps;
+use po_object::{CallLedger, Object, Receipt, Receipts};
+use std::alloc::AllocError;
+use std::marker::Brand;
+use std::sync::ledger::{Blank, Ledger};
+use std::sync::{Arc, Wait};
+use std::thread::Threads;
+use std::time::Clock;
+
+impl Kept for Unrecorded<Station> {
+    /// The history is known to proofs alone.
+    fn cut<C: CallLedger, P: Ledger, F: Ledger, Q: Receipts<u64>, S: Steps, W: Wait>(
+        _rt: &W,
+        _object: &Object<Station, C, P, F, Unrecorded<Station>, Q, S>,
+    ) -> Option<Volume<u64>> {
+        None
+    }
+}
+
+/// Opens an object, plays the scene, and closes the object.
+fn open_and_close<
+    C: CallLedger + Send + Sync + 'static,
+    P: Ledger + Send + Sync + 'static,
+    F: Ledger + Send + Sync + 'static,
+    R: Kept + Send + Sync + 'static,
+    Q: Receipts<u64> + Send + Sync + 'static,
+    W: Threads + Wait + Clock + AllocGlobal + Copy + Drop + Send + Sync + 'static,
+>(
+    rt: W,
+    explorer: &Arc<Explorer>,
+    core: Core<Station, R>,
+    seats: u16,
+    calls: Blank,
+    procedures: Blank,
+    free: Blank,
+    scene: Scene,
+) -> Result<Option<Shelf<R, Q>>, AllocError>
+    requires shape { core.object.setup.shape ≡ C.shape }
+    requires calls { (calls.name ≡ C.name) × (calls.parts ≡ C.parts) × (calls.parts ≡ seats + 1) }
+    requires procedures { (procedures.name ≡ P.name) × (procedures.parts ≡ P.parts) × (procedures.parts ≡ seats + 1) }
+    requires free { (free.name ≡ F.name) × (free.parts ≡ F.parts) × (free.parts ≡ seats + 1) }
+    requires bounded { (Q.is_bounded ≡ true) × (R.is_bounded ≡ true) }
+    requires most { IfSome core.capacity (λ most. seats ≤ most) }
+{
+    let gate = Gate {
+        rt,
+        explorer: Arc::try_clone(explorer)?,
+    };
+    let opened = Object::<Station, C, P, F, R, Q, Gate<W>>::open_bounded_with(
+        rt.alloc(),
+        core,
+        seats,
+        calls,
+        procedures,
+        free,
+        gate,
+    );
+    let Ok((object, passes)) = opened else {
+        return Ok(None);
+    };
+    play_and_close(rt, explorer, object, passes, scene)
+}
+
+/// Plays the scene in the explorer's next schedule. Says whether all threads came to an end, and no call is
+/// left without an answer.
+pub(crate) fn agrees<W: Threads + Wait + Clock + AllocGlobal + Copy + Drop + Send + Sync + 'static>(
+    rt: W,
+    explorer: &Arc<Explorer>,
+    scene: Scene,
+) -> Result<bool, AllocError> {
+    let alloc = rt.alloc();
+    let shape = Station::shape(alloc)?;
+    let seats = scene.threads();
+    let core = BoundedCore::with_capacity(
+        alloc,
+        Station::new(),
+        shape,
+        Order::Textual,
+        beginning(scene),
+        usize::from(seats),
+    )
+    .map_err(|_| AllocError)?;
+    let parts = u64::from(seats) + 1;
+    let (calls, procedures, free) = (Blank::new(parts), Blank::new(parts), Blank::new(parts));
+    let shelf = open_and_close::<Brand, Brand, Brand, Unrecorded<Station>, Trace<Receipt<u64>>, W>(
+        rt, explorer, core, seats, calls, procedures, free, scene,
+    )?;
+    Ok(shelf.is_some_and(|shelf| shelf.closed.none_pending()))
+}

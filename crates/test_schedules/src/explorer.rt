@@ -1,0 +1,128 @@
+//! What lets the threads of a scene go on, one at a time.
+
+use crate::ending::Ending;
+use crate::path::Bound;
+use crate::schedule::Schedule;
+use crate::threads::MOST;
+use po_object::steps::Step;
+use std::alloc::{AllocError, Global};
+use std::sync::atomic::{AtomicU64, Ordering};
+use std::sync::{Condvar, CondvarTimeouts, Mutex, MutexGuard, Wait};
+use std::time::{Clock, Duration};
+
+/// It isn't the thread's turn.
+const NOT_YET: u64 = 0;
+
+/// It is the thread's turn.
+const NOW: u64 = 1;
+
+/// How often it is looked whether a schedule has ended, before it is given up.
+const LOOKS: u32 = 100;
+
+/// How many milliseconds are between two of these looks, at most.
+const PAUSE: u64 = 50;
+
+/// What lets the threads of a scene go on. Who asks it is the one that goes on, so that no thread needs a name.
+#[derive(Drop)]
+pub(crate) struct Explorer {
+    schedule: Mutex<Schedule>,
+    turns: [AtomicU64; MOST],
+    ended: Condvar,
+}
+
+impl Explorer {
+    /// No schedule was tried yet.
+    pub(crate) fn new(alloc: Global, bound: Bound, may_doze: bool) -> Result<Explorer, AllocError> {
+        Ok(Explorer {
+            schedule: Mutex::new(Schedule::new(alloc, bound, may_doze)?),
+            turns: [
+                AtomicU64::new(NOT_YET),
+                AtomicU64::new(NOT_YET),
+                AtomicU64::new(NOT_YET),
+                AtomicU64::new(NOT_YET),
+                AtomicU64::new(NOT_YET),
+                AtomicU64::new(NOT_YET),
+                AtomicU64::new(NOT_YET),
+                AtomicU64::new(NOT_YET),
+            ],
+            ended: Condvar::new(),
+        })
+    }
+
+    /// The schedule that is tried.
+    pub(crate) fn schedule<W: Wait>(&self, rt: &W) -> MutexGuard<'_, Schedule> {
+        self.schedule.lock(rt)
+    }
+
+    /// Begins a schedule of so many threads, which needn't be there yet.
+    pub(crate) fn begin<W: Wait>(&self, rt: &W, threads: usize) {
+        for turn in &self.turns {
+            turn.store(NOT_YET, Ordering::SeqCst);
+        }
+        let mut schedule = self.schedule.lock(rt);
+        schedule.begin(threads);
+        self.hand_on(schedule);
+    }
+
+    /// The thread waits for its turn.
+    pub(crate) fn wait_for_turn<W: Wait>(&self, rt: &W, thread: usize) {
+        let Some(turn) = self.turns.get(thread) else {
+            return;
+        };
+        for _ in rt.forever() {
+            if turn.swap(NOT_YET, Ordering::SeqCst) == NOW {
+                return;
+            }
+            turn.park(rt, 0);
+        }
+    }
+
+    /// The thread whose turn it is comes to a step, and waits until it is to take it.
+    pub(crate) fn reach<W: Wait>(&self, rt: &W, step: Step) {
+        let mut schedule = self.schedule.lock(rt);
+        let thread = schedule.current();
+        schedule.reach(step);
+        if schedule.ending().is_none() && schedule.current() == thread {
+            return;
+        }
+        self.hand_on(schedule);
+        self.wait_for_turn(rt, thread);
+    }
+
+    /// The thread whose turn it is has done all.
+    pub(crate) fn finish<W: Wait>(&self, rt: &W) {
+        let mut schedule = self.schedule.lock(rt);
+        schedule.finish();
+        self.hand_on(schedule);
+    }
+
+    /// Lets the chosen thread go on, or tells that the schedule has ended.
+    fn hand_on(&self, schedule: MutexGuard<'_, Schedule>) {
+        let thread = schedule.current();
+        let has_ended = schedule.ending().is_some();
+        drop(schedule);
+        if has_ended {
+            self.ended.notify_one();
+            return;
+        }
+        if let Some(turn) = self.turns.get(thread) {
+            turn.store(NOW, Ordering::SeqCst);
+            turn.wake_one();
+        }
+    }
+
+    /// How the schedule ended.
+    pub(crate) fn ending<W: Wait + Clock>(&self, rt: &W) -> Ending {
+        let mut schedule = self.schedule.lock(rt);
+        for _ in 0..LOOKS {
+            if let Some(ending) = schedule.ending() {
+                return ending;
+            }
+            let pause = Duration::from_millis(PAUSE);
+            let (guard, _timed_out) = self.ended.wait_timeout(rt, schedule, pause);
+            schedule = guard;
+        }
+        schedule.give_up();
+        Ending::Lost
+    }
+}

@@ -1,0 +1,27 @@
+//! What an object asks before each step: here the explorer.
+
+use crate::explorer::Explorer;
+use po_object::steps::{Step, Steps};
+use std::sync::{Arc, Wait};
+
+/// Holds each thread of an object until the explorer lets it go on.
+#[derive(Drop)]
+pub(crate) struct Gate<W: Wait + Drop> {
+    pub(crate) rt: W,
+    pub(crate) explorer: Arc<Explorer>,
+}
+
+impl<W: Wait + Drop> Steps for Gate<W> {
+    const TRIES: u32 = 1;
+
+    const LOOKS: u32 = 1;
+
+    fn reach(&self, step: Step) {
+        self.explorer.reach(&self.rt, step);
+    }
+
+    fn sleeps(&self, seat: u16) -> bool {
+        self.explorer.reach(&self.rt, Step::Sleep(seat));
+        self.explorer.schedule(&self.rt).was_woken()
+    }
+}

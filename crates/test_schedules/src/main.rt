@@ -1,0 +1,171 @@
+//! A program for the gate: scenes of a few callers, played on the object as it is, in each order of their steps.
+//!
+//! Without an argument each scene is played with up to one interruption, and the scenes of two threads in every order, some of
+//! them also with sleeps that end for no reason. With the argument `all` the scenes of three threads are played in every order
+//! too. A scene's name plays that scene alone, and `recorded` or `bounded` plays on objects of that kind alone.
+#![tactic(auto)]
+
+mod act;
+mod bounded;
+mod company;
+mod ending;
+mod explore;
+mod explorer;
+mod gate;
+mod next;
+mod objects;
+mod path;
+mod places;
+mod plan;
+mod player;
+mod plays;
+mod recorded;
+mod report;
+mod scene;
+mod schedule;
+mod station;
+mod threads;
+mod turn;
+
+use explore::explore;
+use path::Bound;
+use plan::{Kind, Plan};
+use scene::{SCENES, Scene};
+use std::env::{Env, args};
+use std::io::{self, Print};
+use std::process::ExitCode;
+use std::sync::Wait;
+use std::thread::Threads;
+use std::time::Clock;
+
+/// What the words of the command line ask for.
+#[derive(Clone, Copy)]
+struct Asked {
+    /// Whether scenes of three threads are played in every order too.
+    is_all: bool,
+    /// The only scene.
+    scene: Option<Scene>,
+    /// The only kind of object.
+    kind: Option<Kind>,
+}
+
+impl Asked {
+    /// Reads the words.
+    fn read<W: Env + AllocGlobal>(rt: &W) -> io::Result<Asked> {
+        let mut asked = Asked {
+            is_all: false,
+            scene: None,
+            kind: None,
+        };
+        for word in args(rt)?.skip(1) {
+            asked.note(word.as_str());
+        }
+        Ok(asked)
+    }
+
+    /// Notes what a word asks for.
+    fn note(&mut self, word: &str) {
+        match word {
+            "all" => self.is_all = true,
+            "recorded" => self.kind = Some(Kind::Recorded),
+            "bounded" => self.kind = Some(Kind::Bounded),
+            _ => self.scene = scene_named(word),
+        }
+    }
+
+    /// Whether the scene is played.
+    fn has_scene(&self, scene: Scene) -> bool {
+        match self.scene {
+            Some(only) => only == scene,
+            None => true,
+        }
+    }
+
+    /// Whether objects of this kind are played on.
+    fn has_kind(&self, kind: Kind) -> bool {
+        match self.kind {
+            Some(only) => only == kind,
+            None => true,
+        }
+    }
+
+    /// Whether the scene is played in every order.
+    fn has_every_order(&self, scene: Scene) -> bool {
+        scene.threads() == 2 || scene.threads() == 3 && self.is_all
+    }
+
+    /// Whether the plan's scene is played with sleeps that end for no reason too: else those with few schedules alone are.
+    fn has_dozing(&self, plan: Plan) -> bool {
+        let is_short = !matches!(plan.scene, Scene::Twice | Scene::Again | Scene::Full);
+        plan.scene.threads() == 2 && (self.is_all || is_short && plan.kind == Kind::Recorded)
+    }
+}
+
+/// The scene of this name.
+fn scene_named(name: &str) -> Option<Scene> {
+    SCENES.into_iter().find(|scene| scene.name() == name)
+}
+
+/// Plays the scene in all ways that are asked for. Says whether all schedules ended as they are to.
+fn explore_scene<
+    W: Threads + Wait + Clock + Print + AllocGlobal + Copy + Drop + Send + Sync + 'static,
+>(rt: W, kind: Kind, scene: Scene, asked: Asked) -> io::Result<bool> {
+    let plan = Plan {
+        kind,
+        scene,
+        bound: Bound::Interruptions(1),
+        may_doze: false,
+    };
+    if !explore(rt, plan)? {
+        return Ok(false);
+    }
+    if !asked.has_every_order(scene) {
+        return Ok(true);
+    }
+    explore_every_order(rt, plan, asked)
+}
+
+/// Plays the scene in every order, and where that is asked for also with sleeps that end for no reason.
+fn explore_every_order<
+    W: Threads + Wait + Clock + Print + AllocGlobal + Copy + Drop + Send + Sync + 'static,
+>(rt: W, plan: Plan, asked: Asked) -> io::Result<bool> {
+    let plan = Plan {
+        bound: Bound::EveryOrder,
+        ..plan
+    };
+    if !explore(rt, plan)? {
+        return Ok(false);
+    }
+    if !asked.has_dozing(plan) {
+        return Ok(true);
+    }
+    explore(
+        rt,
+        Plan {
+            may_doze: true,
+            ..plan
+        },
+    )
+}
+
+/// Plays all scenes that are asked for on an object of this kind.
+fn explore_all<
+    W: Threads + Wait + Clock + Print + AllocGlobal + Copy + Drop + Send + Sync + 'static,
+>(rt: W, kind: Kind, asked: Asked) -> io::Result<bool> {
+    for scene in SCENES {
+        if asked.has_scene(scene) && !explore_scene(rt, kind, scene, asked)? {
+            return Ok(false);
+        }
+    }
+    Ok(true)
+}
+
+fn main(rt: HostRuntime) -> io::Result<ExitCode> {
+    let asked = Asked::read(&rt)?;
+    for kind in [Kind::Recorded, Kind::Bounded] {
+        if asked.has_kind(kind) && !explore_all(rt, kind, asked)? {
+            return Ok(ExitCode::from(1));
+        }
+    }
+    Ok(ExitCode::from(0))
+}

@@ -1,0 +1,99 @@
+//! Objects that keep their history.
+
+ghost use Rattle.std.specs.Prelude.{◌≡◌, ◌+◌, false};
+
+use crate::explorer::Explorer;
+use crate::gate::Gate;
+use crate::objects::{Shelf, beginning, play_and_close};
+use crate::plays::Kept;
+use crate::scene::Scene;
+use crate::station::Station;
+use po_core::{Core, Order, Recorded, Volume};
+use po_object::steps::Steps;
+use po_object::{CallLedger, Object, Receipt, Receipts, reconcile};
+use std::alloc::AllocError;
+use std::marker::Brand;
+use std::sync::ledger::{Blank, Ledger};
+use std::sync::{Arc, Wait};
+use std::thread::Threads;
+use std::time::Clock;
+
+impl Kept for Recorded<Station> {
+    fn cut<C: CallLedger, P: Ledger, F: Ledger, Q: Receipts<u64>, S: Steps, W: Wait>(
+        rt: &W,
+        object: &Object<Station, C, P, F, Recorded<Station>, Q, S>,
+    ) -> Option<Volume<u64>> {
+        object.cut(rt).ok()
+    }
+}
+
+/// Opens an object, plays the scene, and closes the object.
+fn open_and_close<
+    C: CallLedger + Send + Sync + 'static,
+    P: Ledger + Send + Sync + 'static,
+    F: Ledger + Send + Sync + 'static,
+    R: Kept + Send + Sync + 'static,
+    Q: Receipts<u64> + Send + Sync + 'static,
+    W: Threads + Wait + Clock + AllocGlobal + Copy + Drop + Send + Sync + 'static,
+>(
+    rt: W,
+    explorer: &Arc<Explorer>,
+    core: Core<Station, R>,
+    seats: u16,
+    calls: Blank,
+    procedures: Blank,
+    scene: Scene,
+) -> Result<Option<Shelf<R, Q>>, AllocError>
+    requires shape { core.object.setup.shape ≡ C.shape }
+    requires calls { (calls.name ≡ C.name) × (calls.parts ≡ C.parts) × (calls.parts ≡ seats + 1) }
+    requires procedures { (procedures.name ≡ P.name) × (procedures.parts ≡ P.parts) × (procedures.parts ≡ seats + 1) }
+    requires unbounded { (Q.is_bounded ≡ false) × (R.is_bounded ≡ false) }
+{
+    let gate = Gate {
+        rt,
+        explorer: Arc::try_clone(explorer)?,
+    };
+    let opened = Object::<Station, C, P, F, R, Q, Gate<W>>::open_with(
+        rt.alloc(),
+        core,
+        seats,
+        calls,
+        procedures,
+        gate,
+    );
+    let Ok((object, passes)) = opened else {
+        return Ok(None);
+    };
+    play_and_close(rt, explorer, object, passes, scene)
+}
+
+/// Plays the scene in the explorer's next schedule. Says whether all threads came to an end, and every answer is the
+/// history's.
+pub(crate) fn agrees<W: Threads + Wait + Clock + AllocGlobal + Copy + Drop + Send + Sync + 'static>(
+    rt: W,
+    explorer: &Arc<Explorer>,
+    scene: Scene,
+) -> Result<bool, AllocError> {
+    let alloc = rt.alloc();
+    let shape = Station::shape(alloc)?;
+    let core = Core::start(
+        alloc,
+        Station::new(),
+        shape,
+        Order::Textual,
+        beginning(scene),
+    )
+    .map_err(|_| AllocError)?;
+    let seats = scene.threads();
+    let parts = u64::from(seats) + 1;
+    let (calls, procedures) = (Blank::new(parts), Blank::new(parts));
+    let shelf = open_and_close::<Brand, Brand, Brand, Recorded<Station>, Vec<Receipt<u64>>, W>(
+        rt, explorer, core, seats, calls, procedures, scene,
+    )?;
+    Ok(match shelf {
+        Some(Shelf { closed, volumes }) => {
+            closed.none_pending() && reconcile(&closed, &volumes).is_ok()
+        }
+        None => false,
+    })
+}

@@ -1,0 +1,166 @@
+//! The schedule that is tried: where each thread stands, and what was done.
+
+use crate::ending::Ending;
+use crate::next::Next;
+use crate::path::{Bound, MOST_TURNS, Path, next_of};
+use crate::places::Places;
+use crate::threads::{MOST, ThreadSet};
+use po_object::steps::Step;
+use std::alloc::{AllocError, Global};
+
+/// A step that a thread took.
+#[derive(Clone, Copy)]
+pub(crate) struct Taken {
+    /// The thread.
+    pub(crate) thread: usize,
+    /// What it did.
+    pub(crate) step: Step,
+}
+
+/// The schedule that is tried, on the way to it.
+#[derive(Drop)]
+pub(crate) struct Schedule {
+    next: [Next; MOST],
+    current: usize,
+    places: Places,
+    path: Path,
+    log: Vec<Taken>,
+    ending: Option<Ending>,
+}
+
+impl Schedule {
+    /// No schedule was tried yet.
+    pub(crate) fn new(alloc: Global, bound: Bound, may_doze: bool) -> Result<Schedule, AllocError> {
+        let mut log = Vec::new(alloc);
+        log.reserve(MOST_TURNS + MOST)?;
+        Ok(Schedule {
+            next: [Next::Nothing; MOST],
+            current: 0,
+            places: Places::new(may_doze),
+            path: Path::new(alloc, bound)?,
+            log,
+            ending: None,
+        })
+    }
+
+    /// Begins a schedule of so many threads, and chooses who goes on.
+    pub(crate) fn begin(&mut self, threads: usize) {
+        for thread in 0..MOST {
+            let next = if thread < threads {
+                Next::Begin
+            } else {
+                Next::Nothing
+            };
+            self.set_next(thread, next);
+        }
+        self.places.renew();
+        self.path.begin();
+        self.log.clear();
+        self.ending = None;
+        self.pass_on(None);
+    }
+
+    /// The thread that goes on.
+    pub(crate) fn current(&self) -> usize {
+        self.current
+    }
+
+    /// How the schedule ended, if it has.
+    pub(crate) fn ending(&self) -> Option<Ending> {
+        self.ending
+    }
+
+    /// The thread that was to go on doesn't come to its next step.
+    pub(crate) fn give_up(&mut self) {
+        self.ending = Some(Ending::Lost);
+    }
+
+    /// Whether the last sleep had a reason to end.
+    pub(crate) fn was_woken(&self) -> bool {
+        self.places.was_woken()
+    }
+
+    /// Whether the schedule is like one that was tried: it was cut off there.
+    pub(crate) fn is_like_another(&self) -> bool {
+        self.path.is_like_another()
+    }
+
+    /// The steps that were taken.
+    pub(crate) fn log(&self) -> &Vec<Taken> {
+        &self.log
+    }
+
+    /// What a thread does next.
+    pub(crate) fn next(&self, thread: usize) -> Next {
+        next_of(&self.next, thread)
+    }
+
+    /// The thread that goes on comes to a step.
+    pub(crate) fn reach(&mut self, step: Step) {
+        self.set_next(self.current, Next::Take(step));
+        self.pass_on(Some(self.current));
+    }
+
+    /// The thread that goes on has done all.
+    pub(crate) fn finish(&mut self) {
+        self.set_next(self.current, Next::Nothing);
+        self.pass_on(None);
+    }
+
+    /// Goes over to the next schedule, and says whether there is one.
+    pub(crate) fn go_back(&mut self) -> bool {
+        self.path.go_back()
+    }
+
+    /// Notes what a thread does next.
+    fn set_next(&mut self, thread: usize, next: Next) {
+        if let Some(place) = self.next.get_mut(thread) {
+            *place = next;
+        }
+    }
+
+    /// Chooses who goes on, or ends the schedule.
+    fn pass_on(&mut self, before: Option<usize>) {
+        let able = self.able();
+        if self.log.len() >= MOST_TURNS {
+            self.ending = Some(Ending::Endless);
+            return;
+        }
+        match self.path.choose(&able, before, &self.next) {
+            Some(thread) => self.take(thread),
+            None => self.ending = Some(self.ending_without()),
+        }
+    }
+
+    /// The thread takes its next step.
+    fn take(&mut self, thread: usize) {
+        self.current = thread;
+        if let Next::Take(step) = next_of(&self.next, thread) {
+            self.places.take(step);
+            let _noted = self.log.push(Taken { thread, step });
+        }
+    }
+
+    /// How a schedule ends in which no thread goes on.
+    fn ending_without(&self) -> Ending {
+        let is_done = self.next.iter().all(|next| matches!(next, Next::Nothing));
+        if is_done { Ending::Done } else { Ending::Stuck }
+    }
+
+    /// The threads that can go on. A sleep that ends for no reason isn't waited for: it counts where another one can go on.
+    fn able(&self) -> ThreadSet {
+        let mut able = ThreadSet::new();
+        let mut able_or_dozing = ThreadSet::new();
+        for thread in 0..MOST {
+            let next = next_of(&self.next, thread);
+            let can_go_on = self.places.can_go_on(next);
+            able.put(thread, can_go_on);
+            able_or_dozing.put(thread, can_go_on || self.places.can_doze(next));
+        }
+        if able.is_empty() {
+            able
+        } else {
+            able_or_dozing
+        }
+    }
+}

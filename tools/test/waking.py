@@ -1,0 +1,117 @@
+#!/usr/bin/env python3
+"""Plants bugs of waking in the object for threads, and plays the scenes of crates/test_schedules over each: the schedule that
+shows it has to be found. Prints a line for each, and at the end 'N passed, M failed'.
+
+Each is tried in a copy of the sources by `rt try`, which proves nothing: about a minute."""
+
+import pathlib
+import subprocess
+import sys
+import tempfile
+
+from wrong_bodies import copy_sources
+
+STAY = """        self.stay(pass.seat());
+        drop(taken);
+        self.wake(&sleepers);
+        Ok(self.wait(rt, pass))
+"""
+AT_ONCE = "            drop(taken);\n            self.wake(&sleepers);\n            return Ok(end);\n"
+TICK = "        let clock = taken.locked.tick(t)?;\n        let sleepers = self.tell(&taken.locked, None);\n"
+ABORT = "        let aborted = taken.locked.abort_seat(seat)?;\n        let sleepers = self.tell(&taken.locked, None);\n"
+FINAL = "        taken.locked.finalize()?;\n        let sleepers = self.tell(&taken.locked, None);\n        drop(taken);\n        self.wake(&sleepers);\n"
+REPLY = "        drop(taken);\n        self.wake(&sleepers);\n        Ok(reply)\n"
+WAKE = "self.wake(&sleepers);\n"
+NO_WAKE = "let _ = &sleepers;\n"
+MANY = "!sleepers.add(seat) {\n                there.wake(&self.steps, seat);\n"
+SLEEP = "                pass.sleep(rt, &self.steps);\n"
+AGAIN = "                if !self.has_ended(rt, pass) {\n                    continue;\n"
+SWAP = "self.flag.swap(ENDED, Ordering::SeqCst) == SLEEPS"
+FALL_ASLEEP = """        self.flag
+            .compare_exchange(WAITS, SLEEPS, Ordering::SeqCst, Ordering::SeqCst)
+            == Err(ENDED)
+"""
+LOOK_THEN_SET = """        if self.flag.load(Ordering::SeqCst) == ENDED {
+            return true;
+        }
+        steps.reach(Step::Flag(seat));
+        self.flag.store(SLEEPS, Ordering::SeqCst);
+        false
+"""
+
+# Of each bug: what is wrong, the file, its old and its new text, and the words by which the program plays a scene that shows it.
+BUGS = [
+    ("a call says that it waits after the lock is left", "object.rt",
+     STAY, STAY.replace("        self.stay(pass.seat());\n        drop(taken);\n", "        drop(taken);\n        self.stay(pass.seat());\n"), "pair recorded"),
+    ("a call that waits wakes nobody", "object.rt", STAY, STAY.replace(WAKE, NO_WAKE), "requeue recorded"),
+    ("the same, bounded", "object.rt", STAY, STAY.replace(WAKE, NO_WAKE), "requeue bounded"),
+    ("a call that ends at once wakes nobody", "object.rt", AT_ONCE, AT_ONCE.replace(WAKE, NO_WAKE), "pair recorded"),
+    ("a call doesn't say that it waits", "object.rt", STAY, STAY.replace("        self.stay(pass.seat());\n", ""), "twice recorded"),
+    ("tick tells before it raises the clock", "object.rt",
+     TICK, "        let sleepers = self.tell(&taken.locked, None);\n        let clock = taken.locked.tick(t)?;\n", "tick recorded"),
+    ("tick doesn't tell the seat 0", "object.rt", TICK, TICK.replace("None", "Some(0)"), "tick recorded"),
+    ("abort_seat doesn't tell the seat", "object.rt", ABORT, ABORT.replace("None", "Some(seat)"), "cancel recorded"),
+    ("more sleepers than can be noted aren't woken", "object.rt",
+     MANY, MANY.replace("there.wake(&self.steps, seat);", "let _ = there;"), "five recorded"),
+    ("the same, bounded", "object.rt", MANY, MANY.replace("there.wake(&self.steps, seat);", "let _ = there;"), "five bounded"),
+    ("a caller sleeps with the lock", "object.rt", SLEEP, "                let held = self.look(rt);\n" + SLEEP + "                drop(held);\n", "pair recorded"),
+    ("finalize neither tells nor wakes", "object.rt", FINAL, "        taken.locked.finalize()?;\n", "final recorded"),
+    ("a procedure wakes nobody", "object.rt", REPLY, REPLY.replace(WAKE, NO_WAKE), "five recorded"),
+    ("who ends a call leaves its flag", "seat.rt", SWAP, SWAP.replace("swap(ENDED, ", "load("), "pair recorded"),
+    ("a caller looks and falls asleep in two steps", "seat.rt", FALL_ASLEEP, LOOK_THEN_SET, "pair recorded"),
+    ("a caller that sleeps again takes its call for ended", "seat.rt", "            == Err(ENDED)\n", "            .is_err()\n", "requeue recorded"),
+    ("a seat is woken at another's place", "opening.rt", "    parkers.reverse();\n", "", "pair recorded"),
+]
+
+# What looks wrong and isn't: who ends the call after the look has seen a sleeper, and wakes it.
+HARMLESS = [
+    ("a caller says again that it waits, before it sleeps again", "object.rt",
+     AGAIN, AGAIN.replace("continue;", "self.stay(pass.seat());\n                    continue;"), "requeue recorded"),
+]
+
+
+def play(program, words):
+    """Plays a scene, and answers how the program ended, and what it wrote."""
+    command = ["rt", "try", "--seconds", "120", "--", *words.split()]
+    ran = subprocess.run(command, cwd=program, stdin=subprocess.DEVNULL, capture_output=True, text=True, errors="replace")
+    return ran.returncode, ran.stdout + ran.stderr
+
+
+def is_found(said):
+    """Whether the program printed a schedule that shows a bug."""
+    return ": schedule " in said and "status=1" in said
+
+
+def has_passed(said):
+    """Whether the program played all that it was to, and found nothing."""
+    return ": schedule " not in said and "ended status=0" in said
+
+
+def try_bug(room, bug, is_good):
+    """Plants a bug in the copy, plays its scene, takes the bug out again, and answers whether what came of it is good."""
+    name, file, old, new, words = bug
+    path = room / "crates/po_object/src" / file
+    text = path.read_text()
+    if text.count(old) != 1:
+        print(f"FAILED: {name}: its old text stands in {file} {text.count(old)} times", flush=True)
+        return False
+    path.write_text(text.replace(old, new))
+    status, said = play(room / "crates/test_schedules", words)
+    path.write_text(text)
+    good = is_good(said)
+    print(f"{name}: as it has to be" if good else f"FAILED: {name}: status {status}: {said[-400:]}", flush=True)
+    return good
+
+
+def main():
+    """Tries all bugs, and gives the status."""
+    with tempfile.TemporaryDirectory() as folder:
+        room = pathlib.Path(folder)
+        copy_sources(room)
+        results = [try_bug(room, bug, is_found) for bug in BUGS] + [try_bug(room, bug, has_passed) for bug in HARMLESS]
+    print(f"{sum(results)} passed, {len(results) - sum(results)} failed")
+    return 0 if all(results) else 1
+
+
+if __name__ == "__main__":
+    sys.exit(main())
