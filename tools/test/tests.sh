@@ -31,3 +31,12 @@ layout_of_tests() {
     if is_tests_alone "$name"; then is_laid_out "$name"; fi
   done
 }
+
+# Whether the scenes of two and of three threads end in every order as every_order.out says: five minutes, by the built program.
+every_order() {
+  if crates/test_schedules/out/test_schedules all 2>&1 | cmp -s - tools/test/every_order.out; then
+    pass
+  else
+    fail "test_schedules all doesn't write what tools/test/every_order.out has"
+  fi
+}
