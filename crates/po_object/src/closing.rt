@@ -7,7 +7,7 @@ ghost use Rattle.po_object.specs.Closing.{IsClosed};
 ghost use Rattle.po_receipts.specs.Answers.{HasClosingTotals, NonePending};
 
 use crate::fault::CloseFault;
-use crate::ledgers::{CallLedger, SeatParts};
+use crate::ledgers::{CallLedger, SeatParts, Story};
 use crate::object::Object;
 use crate::steps::Steps;
 use crate::{LockedCore, Pass};
@@ -75,7 +75,7 @@ impl<U: Unit, R: Record<U>, Q: Receipts<U::Value>> Closed<U, R, Q> {
 
 impl<
     U: Unit,
-    C: CallLedger,
+    C: Story<U>,
     P: Ledger,
     F: Ledger,
     R: Record<U>,
@@ -118,7 +118,7 @@ impl<
 
 impl<
     U: Unit,
-    C: CallLedger,
+    C: Story<U>,
     P: Ledger,
     F: Ledger,
     R: Record<U>,
@@ -142,7 +142,7 @@ impl<
 }
 
 /// Counts the passes of each seat.
-fn count<V: Copy, C: Ledger, P: Ledger, F: Ledger, Q: Receipts<V>>(
+fn count<V: Copy, C: CallLedger, P: Ledger, F: Ledger, Q: Receipts<V>>(
     counts: &mut Vec<usize>,
     passes: &Vec<Pass<V, C, P, F, Q>>,
 )
@@ -168,7 +168,7 @@ fn count_one(counts: &mut Vec<usize>, seat: u16)
 }
 
 /// Takes the core out, with the passes by rising seat.
-fn gather<U: Unit, C: CallLedger, P: Ledger, F: Ledger, R: Record<U>, Q: Receipts<U::Value>>(
+fn gather<U: Unit, C: Story<U>, P: Ledger, F: Ledger, R: Record<U>, Q: Receipts<U::Value>>(
     locked: LockedCore<U, C, P, F, R, Q>,
     room: Vec<ClosedPass<U::Value, Q>>,
     passes: Vec<Pass<U::Value, C, P, F, Q>>,
@@ -194,7 +194,7 @@ fn gather<U: Unit, C: CallLedger, P: Ledger, F: Ledger, R: Record<U>, Q: Receipt
 }
 
 /// Puts each pass into the room of its seat, and its parts of the ledgers to these.
-fn collect<V: Copy, C: Ledger, P: Ledger, F: Ledger, Q: Receipts<V>>(
+fn collect<V: Copy, C: CallLedger, P: Ledger, F: Ledger, Q: Receipts<V>>(
     seats: u16,
     room: Vec<ClosedPass<V, Q>>,
     passes: Vec<Pass<V, C, P, F, Q>>,

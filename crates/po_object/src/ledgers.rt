@@ -1,19 +1,34 @@
-//! The two ledgers of an object: of its accepted calls, and of its procedures.
+//! The two ledgers of an object: of its accepted calls, and of its procedures. The first also says which object it is.
 
-ghost use Rattle.std.specs.Prelude.{◌≡◌, ◌+◌, List, []};
+ghost use Rattle.std.specs.Prelude.{◌≡◌, ◌+◌, ℕ, List, [], Option, None};
 ghost use Rattle.po_unit.specs.declared.decl.Decl.{Decl};
+ghost use Rattle.po_core.specs.Setup.{Setup};
 
 use std::marker::{Brand, PhantomData};
 use std::sync::ledger::Ledger;
 
 /// A ledger of accepted calls, which names the declarations of the entries that they are made on: so a call can say of its
-/// entry what only the core behind the lock knows.
+/// entry what only the core behind the lock knows. It also names the log of the object's history.
 pub trait CallLedger: Ledger {
     ghost shape: { List Decl };
+
+    ghost log: { ℕ };
 }
 
 impl CallLedger for Brand {
     ghost shape = { [] };
+
+    ghost log = { 0 };
+}
+
+/// A ledger of accepted calls that says what its object was made with, so that an answer can speak of the object's whole
+/// history. Nothing is said where it doesn't.
+pub trait Story<U>: CallLedger {
+    ghost setup: { Option (Setup U) };
+}
+
+impl<U> Story<U> for Brand {
+    ghost setup = { None };
 }
 
 /// That a ledger is cut into a part for each seat, and one more, which the object keeps.

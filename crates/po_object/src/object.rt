@@ -1,17 +1,21 @@
 //! An object that threads share: its core behind a lock, and where the callers of its seats wait.
 
-ghost use Rattle.std.specs.Prelude.{◌≡◌, ◌+◌, ◌≤◌, None, Some, IfOk, IfErr, IfSome, OnOk, OnErr, IsSome};
+ghost use Rattle.std.specs.Prelude.{◌≡◌, ◌+◌, ◌≤◌, [], None, Some, IfOk, IfErr, IfSome, OnOk, OnErr, IsSome};
 ghost use Rattle.po_unit.specs.Numbering.{flat_number};
 ghost use Rattle.po_calls.specs.declared.call.Deadline.TheVariants.{Never, At};
+ghost use Rattle.po_history.specs.declared.event.Event.{Event};
+ghost use Rattle.po_engine.specs.Finding.{IsFound};
 ghost use Rattle.po_core.specs.Commands.{entry_of};
 ghost use Rattle.po_core.specs.Refusals.{entry_refusal, if_unindexed};
 ghost use Rattle.po_core.specs.declared.refusal.Refusal.{Refusal};
 ghost use Rattle.po_receipts.specs.Answers.{AskedBySeats};
+ghost use Rattle.po_receipts.specs.OneHistory.{Stands, HasEnded, IsAnswered, IsTicked, IsReadAt, IsCountAt, IsAborted};
 ghost use Rattle.po_object.specs.Filing.{IsFinished, IsCalled, running};
 ghost use Rattle.po_object.specs.Replies.{IsFunctionReply, IsProcedureReply, IsTickReply, IsFinalReply, IsAbortReply, IsCountReply};
 ghost use Rattle.po_object.specs.Refused.{IsCallRefusal, IsProcedureRefusal, IsFunctionRefusal, IsTickRefusal, IsCutRefusal};
 
-use crate::ledgers::{CallLedger, SeatParts};
+use crate::front::Front;
+use crate::ledgers::{SeatParts, Story};
 use crate::seat::{Seat, Sleepers};
 use crate::steps::{Step, Steps, Taken, Unasked};
 use crate::{LockedCore, Pass};
@@ -31,7 +35,7 @@ use std::sync::{RwLock, RwLockReadGuard, RwLockWriteGuard, Wait};
 #[derive(Drop)]
 pub struct Object<
     U: Unit,
-    C: CallLedger,
+    C: Story<U>,
     P: Ledger,
     F: Ledger = C,
     R: Record<U> = Recorded<U>,
@@ -60,7 +64,7 @@ pub type BoundedObject<U, C, P, F> = Object<
 
 impl<
     U: Unit,
-    C: CallLedger,
+    C: Story<U>,
     P: Ledger,
     F: Ledger,
     R: Record<U>,
@@ -81,7 +85,7 @@ impl<
     } };
 }
 
-impl<U: Unit + Drop, C: CallLedger, P: Ledger, F: Ledger, Q: Receipts<U::Value>, S: Steps> Object<
+impl<U: Unit + Drop, C: Story<U>, P: Ledger, F: Ledger, Q: Receipts<U::Value>, S: Steps> Object<
     U,
     C,
     P,
@@ -107,7 +111,7 @@ impl<U: Unit + Drop, C: CallLedger, P: Ledger, F: Ledger, Q: Receipts<U::Value>,
 
 impl<
     U: Unit,
-    C: CallLedger,
+    C: Story<U>,
     P: Ledger,
     F: Ledger,
     R: Record<U>,
@@ -133,6 +137,8 @@ impl<
     ) -> Result<End<U::Value>, Refusal>
         requires { pass.old.pending ≡ None }
         ensures called { IfOk result (λ end. IsCalled pass.old (entry_of C.shape entry) value Never end pass.new) }
+        ensures answered { IfOk result (λ end. IsFound (λ setup. IsAnswered U.meaning setup
+            pass.old.seat (entry_of C.shape entry) value Never end pass.old.seen pass.new.seen) C.setup) }
         ensures allowed { OnOk result (entry_refusal C.shape entry None ≡ None) }
         ensures refused { IfErr result (IsCallRefusal R.is_bounded C.shape entry) }
         ensures unchanged { OnErr result (pass.new ≡ pass.old) }
@@ -152,6 +158,8 @@ impl<
     ) -> Result<End<U::Value>, Refusal>
         requires { pass.old.pending ≡ None }
         ensures called { IfOk result (λ end. IsCalled pass.old (entry_of C.shape entry) value (At 0) end pass.new) }
+        ensures answered { IfOk result (λ end. IsFound (λ setup. IsAnswered U.meaning setup
+            pass.old.seat (entry_of C.shape entry) value (At 0) end pass.old.seen pass.new.seen) C.setup) }
         ensures allowed { OnOk result (entry_refusal C.shape entry None ≡ None) }
         ensures refused { IfErr result (IsCallRefusal R.is_bounded C.shape entry) }
         ensures unchanged { OnErr result (pass.new ≡ pass.old) }
@@ -173,6 +181,8 @@ impl<
     ) -> Result<End<U::Value>, Refusal>
         requires { pass.old.pending ≡ None }
         ensures called { IfOk result (λ end. IsCalled pass.old (entry_of C.shape entry) value (At deadline) end pass.new) }
+        ensures answered { IfOk result (λ end. IsFound (λ setup. IsAnswered U.meaning setup
+            pass.old.seat (entry_of C.shape entry) value (At deadline) end pass.old.seen pass.new.seen) C.setup) }
         ensures allowed { OnOk result (entry_refusal C.shape entry None ≡ None) }
         ensures refused { IfErr result (IsCallRefusal R.is_bounded C.shape entry) }
         ensures unchanged { OnErr result (pass.new ≡ pass.old) }
@@ -192,7 +202,9 @@ impl<
     ) -> Result<Result<U::Value, u32>, Refusal>
         requires { pass.old.pending ≡ None }
         ensures reply { IfOk result (λ reply. IsProcedureReply U.meaning op value reply) }
-        ensures ran { IfOk result (λ reply. pass.new ≡ running pass.old op value reply) }
+        ensures filed { IfOk result (λ reply. pass.new ≡ running pass.old op value reply pass.new.seen) }
+        ensures ran { IfOk result (λ reply. IsFound (λ setup. Stands U.meaning setup
+            (Event.Ran pass.old.seat op value reply) pass.old.seen pass.new.seen) C.setup) }
         ensures refused { IfErr result (IsProcedureRefusal R.is_bounded) }
         ensures unchanged { OnErr result (pass.new ≡ pass.old) }
     {
@@ -219,6 +231,21 @@ impl<
         self.look(rt).locked.core().read(op, value)
     }
 
+    /// As `function`, with the history up to the moment at which the function gives this: all that comes behind it is known to.
+    ///
+    /// Refused as `Core::read` is.
+    pub fn function_seen<W: Wait>(
+        &self,
+        rt: &W,
+        op: u16,
+        value: U::Value,
+    ) -> Result<(Result<U::Value, u32>, Front<U::Value, C>), Refusal>
+        ensures read { IfOk result (λ r. IsFound (λ setup. IsReadAt U.meaning setup op value r.0 [] r.1) C.setup) }
+        ensures refused { IfErr result IsFunctionRefusal }
+    {
+        self.look(rt).locked.read(op, value)
+    }
+
     /// Raises the clock to t, if it is lower, and answers the clock.
     ///
     /// Refused as `Core::tick` is.
@@ -228,7 +255,31 @@ impl<
         ensures refused { IfErr result (IsTickRefusal R.is_bounded) }
     {
         let mut taken = self.change(rt);
-        let clock = taken.locked.tick(t)?;
+        let mut front = taken.locked.front();
+        let clock = taken.locked.tick(&mut front, t)?;
+        let sleepers = self.tell(&taken.locked, None);
+        drop(taken);
+        self.wake(&sleepers);
+        Ok(clock)
+    }
+
+    /// As `tick`, behind all that the front has seen. What it then sees is the history up to this tick.
+    ///
+    /// Refused as `Core::tick` is.
+    pub fn tick_after<W: Wait>(
+        &self,
+        rt: &W,
+        front: &mut Front<U::Value, C>,
+        t: u64,
+    ) -> Result<u64, Refusal>
+        ensures raised { IfOk result (λ clock. t ≤ clock) }
+        ensures reply { IfOk result (λ clock. IsTickReply U.meaning t clock) }
+        ensures ticked { IfOk result (λ clock. IsFound (λ setup. IsTicked U.meaning setup t clock front.old front.new) C.setup) }
+        ensures refused { IfErr result (IsTickRefusal R.is_bounded) }
+        ensures unchanged { OnErr result (front.new ≡ front.old) }
+    {
+        let mut taken = self.change(rt);
+        let clock = taken.locked.tick(front, t)?;
         let sleepers = self.tell(&taken.locked, None);
         drop(taken);
         self.wake(&sleepers);
@@ -243,7 +294,29 @@ impl<
         ensures refused { IfErr result (λ r. r ≡ Refusal.Finalized) }
     {
         let mut taken = self.change(rt);
-        taken.locked.finalize()?;
+        let mut front = taken.locked.front();
+        taken.locked.finalize(&mut front)?;
+        let sleepers = self.tell(&taken.locked, None);
+        drop(taken);
+        self.wake(&sleepers);
+        Ok(())
+    }
+
+    /// As `finalize`, behind all that the front has seen. What it then sees is the history up to this end.
+    ///
+    /// Refused as `Core::finalize` is.
+    pub fn finalize_after<W: Wait>(
+        &self,
+        rt: &W,
+        front: &mut Front<U::Value, C>,
+    ) -> Result<(), Refusal>
+        ensures reply { OnOk result (IsFinalReply U.meaning) }
+        ensures finalized { OnOk result (IsFound (λ setup. Stands U.meaning setup Event.Final front.old front.new) C.setup) }
+        ensures refused { IfErr result (λ r. r ≡ Refusal.Finalized) }
+        ensures unchanged { OnErr result (front.new ≡ front.old) }
+    {
+        let mut taken = self.change(rt);
+        taken.locked.finalize(front)?;
         let sleepers = self.tell(&taken.locked, None);
         drop(taken);
         self.wake(&sleepers);
@@ -258,7 +331,30 @@ impl<
         ensures refused { IfErr result (λ r. r ≡ Refusal.NoCall) }
     {
         let mut taken = self.change(rt);
-        let aborted = taken.locked.abort_seat(seat)?;
+        let mut front = taken.locked.front();
+        let aborted = taken.locked.abort_seat(&mut front, seat)?;
+        let sleepers = self.tell(&taken.locked, None);
+        drop(taken);
+        self.wake(&sleepers);
+        Ok(aborted)
+    }
+
+    /// As `abort_seat`, behind all that the front has seen. What it then sees is the history up to this attempt.
+    ///
+    /// Refused as `NoCall`, where no call of the seat is queued.
+    pub fn abort_seat_after<W: Wait>(
+        &self,
+        rt: &W,
+        front: &mut Front<U::Value, C>,
+        seat: u16,
+    ) -> Result<Aborted, Refusal>
+        ensures reply { IfOk result (λ aborted. IsAbortReply U.meaning seat aborted) }
+        ensures aborted { IfOk result (λ aborted. IsFound (λ setup. IsAborted U.meaning setup seat aborted front.old front.new) C.setup) }
+        ensures refused { IfErr result (λ r. r ≡ Refusal.NoCall) }
+        ensures unchanged { OnErr result (front.new ≡ front.old) }
+    {
+        let mut taken = self.change(rt);
+        let aborted = taken.locked.abort_seat(front, seat)?;
         let sleepers = self.tell(&taken.locked, None);
         drop(taken);
         self.wake(&sleepers);
@@ -276,6 +372,24 @@ impl<
     {
         match self.try_look() {
             Some(taken) => Ok(Some(taken.locked.core().count(entry)?)),
+            None => Ok(None),
+        }
+    }
+
+    /// As `try_count`, with the history up to the moment at which so many calls are queued.
+    ///
+    /// Refused as `Core::count` is.
+    pub fn try_count_seen(
+        &self,
+        entry: EntryRef,
+    ) -> Result<Option<(u64, Front<U::Value, C>)>, Refusal>
+        ensures count { IfOk result (λ count. IfSome count (λ r. IsFound (λ setup.
+            IsCountAt U.meaning setup (entry_of C.shape entry) r.0 [] r.1) C.setup)) }
+        ensures allowed { IfOk result (λ count. IsSome count → if_unindexed (flat_number C.shape entry) None ≡ None) }
+        ensures refused { IfErr result (λ r. if_unindexed (flat_number C.shape entry) None ≡ Some r) }
+    {
+        match self.try_look() {
+            Some(taken) => Ok(Some(taken.locked.count(entry)?)),
             None => Ok(None),
         }
     }
@@ -333,6 +447,8 @@ impl<
     ) -> Result<End<U::Value>, Refusal>
         requires { pass.old.pending ≡ None }
         ensures called { IfOk result (λ end. IsCalled pass.old (entry_of C.shape entry) value deadline end pass.new) }
+        ensures answered { IfOk result (λ end. IsFound (λ setup. IsAnswered U.meaning setup
+            pass.old.seat (entry_of C.shape entry) value deadline end pass.old.seen pass.new.seen) C.setup) }
         ensures allowed { OnOk result (entry_refusal C.shape entry None ≡ None) }
         ensures refused { IfErr result (IsCallRefusal R.is_bounded C.shape entry) }
         ensures unchanged { OnErr result (pass.new ≡ pass.old) }
@@ -354,7 +470,9 @@ impl<
     /// Waits for the end of the pending call. Nothing is locked in the meantime.
     fn wait<W: Wait>(&self, rt: &W, pass: &mut Pass<U::Value, C, P, F, Q>) -> End<U::Value>
         requires { IsSome pass.old.pending }
-        ensures { IsFinished pass.old result pass.new }
+        ensures finished { IsFinished pass.old result pass.new }
+        ensures ended { IfSome pass.old.pending (λ asked. IsFound (λ setup. HasEnded U.meaning setup
+            asked.ticket.number result pass.old.seen pass.new.seen) C.setup) }
     {
         for _ in rt.forever() {
             if !self.look_for_end(pass.seat()) {

@@ -1,5 +1,6 @@
 pub mod Agreement
 pub mod Answers
 pub mod Marks
+pub mod OneHistory
 pub mod Passes
 pub mod Receipts

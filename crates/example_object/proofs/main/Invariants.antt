@@ -1,3 +1,4 @@
+use Rattle.std.specs.Prelude.{Some}
 use Rattle.example_object.proofs.main.Given as goal
 
 abbrev pub ghosts-use_object-C-Ledger : goal.ghosts-use_object-C-Ledger
@@ -7,4 +8,7 @@ abbrev pub ghosts-use_object-P-Ledger : goal.ghosts-use_object-P-Ledger
 ghosts-use_object-P-Ledger g a = record { name = a.procedures.name; parts = a.procedures.parts }
 
 abbrev pub ghosts-use_object-C-CallLedger : goal.ghosts-use_object-C-CallLedger
-ghosts-use_object-C-CallLedger g a = record { shape = a.core.object.setup.shape }
+ghosts-use_object-C-CallLedger g a = record { shape = a.core.object.setup.shape; log = a.log.name }
+
+abbrev pub ghosts-use_object-C-Story : goal.ghosts-use_object-C-Story
+ghosts-use_object-C-Story g a = record { setup = Some a.core.object.setup }

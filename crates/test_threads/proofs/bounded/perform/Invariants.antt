@@ -1,3 +1,4 @@
+use Rattle.std.specs.Prelude.{Some}
 use Rattle.test_threads.proofs.bounded.perform.Given as goal
 
 abbrev pub ghosts-open_and_close-C-Ledger : goal.ghosts-open_and_close-C-Ledger
@@ -10,4 +11,7 @@ abbrev pub ghosts-open_and_close-F-Ledger : goal.ghosts-open_and_close-F-Ledger
 ghosts-open_and_close-F-Ledger g a = record { name = a.free.name; parts = a.free.parts }
 
 abbrev pub ghosts-open_and_close-C-CallLedger : goal.ghosts-open_and_close-C-CallLedger
-ghosts-open_and_close-C-CallLedger g a = record { shape = a.core.object.setup.shape }
+ghosts-open_and_close-C-CallLedger g a = record { shape = a.core.object.setup.shape; log = a.log.name }
+
+abbrev pub ghosts-open_and_close-C-Story : goal.ghosts-open_and_close-C-Story
+ghosts-open_and_close-C-Story g a = record { setup = Some a.core.object.setup }

@@ -1,5 +1,8 @@
-use Rattle.std.proofs.Common.{ap, ◌∙◌}
-use Rattle.po_object.proofs.Asking.{asked-cut}
+use Rattle.std.proofs.Common.{ap, ◌∙◌, sym, subst, Some, ◌++◌, ◌∷◌, []}
+use Rattle.po_core.specs.Cutting.{AreVolumes}
+use Rattle.po_receipts.proofs.OneHistory.{whole-cut}
+use Rattle.po_receipts.specs.Answers.{AskedBySeats}
+use Rattle.po_object.proofs.Asking.{asked-cut, asked-of}
 use Rattle.po_object.proofs.Counting.{counted-cut}
 use Rattle.po_object.proofs.LatestKept.{known-same}
 use Rattle.po_object.proofs.Rooms.{room-same}
@@ -20,4 +23,16 @@ invariant_of-self-2 g c =
       room = room-same old new c.self.inside.reservations (ap (λ core. core.tickets) k.after) (ap (λ core. core.capacity) k.after) c.self.invariant.room;
       seats = c.self.invariant.seats;
       asked = asked-cut g.U.Unit.meaning _ _ _ (ap (λ core. core.object) k.after);
+      made = c.self.invariant.made ∙ sym (ap (λ core. Some core.object.setup) k.after);
+      log = whole-cut g.U.Unit.meaning old.object new.object c.self.inside.log (ap (λ core. core.object) k.after) (λ volumes are. subst (λ volume. AreVolumes g.U.Unit.meaning new.object (volumes ++ volume ∷ [])) k.volume (k.joins volumes are)) c.self.invariant.log;
     }
+
+pub returns-clause-arrivals : goal.returns-clause-arrivals
+returns-clause-arrivals g c = rw (← c.self.view_is) c.in_ok-volume.ensures.arrivals
+
+pub returns-clause-joins : goal.returns-clause-joins
+returns-clause-joins g c = rw (← c.self.view_is) c.in_ok-volume.ensures.joins
+
+pub returns-clause-asked : goal.returns-clause-asked
+returns-clause-asked g c =
+    λ seats same. subst (λ volume. AskedBySeats seats volume.events) (sym c.in_ok-volume.ensures.volume) (asked-of g.C.Ledger.parts _ seats c.self.inside.core.object.events c.self.invariant.seats same c.self.invariant.asked)

@@ -1,6 +1,12 @@
-use Rattle.std.proofs.Common.{rules, sym, ◌≡◌, ◌⊎◌, Some, ◌∙◌, ◌+◌, ◌<◌, ap, length, arith}
+use Rattle.std.proofs.Common.{rules, sym, ◌≡◌, ◌⊎◌, Some, ◌∙◌, ◌+◌, ◌<◌, ap, length, arith, ◌++◌, subst, ℕ, List}
 use Rattle.std.proofs.lemmas.List.{length-set}
 use Rattle.po_core.specs.Refusals.{issue_refusal}
+use Rattle.po_unit.specs.declared.decl.Decl.{Decl}
+use Rattle.po_history.specs.declared.event.Event.TheVariants.{Issue}
+use Rattle.po_core.specs.Commands.{entry_of}
+use Rattle.po_core.specs.ProtectedAction.{IsProtectedAction}
+use Rattle.po_receipts.specs.OneHistory.{IsWholeLog}
+use Rattle.po_receipts.proofs.OneHistory.{whole-on, found-on}
 use Rattle.po_object.specs.Refused.{IsOutOfMemory}
 use Rattle.po_object.proofs.Asking.{asked-action, asked-of}
 use Rattle.po_object.proofs.Counting.{counted-issue}
@@ -19,6 +25,8 @@ invariant_of-self-2 g c =
     let ticket = c.in_ok-ticket.ticket in
     let inside : c.pass.inside.seat < length latest = omega (arith, c.pass.invariant.seat, c.self.invariant.seats) in
     let seats : length c.note.new.self + 1 ≡ g.C.Ledger.parts = ap (λ calls. length calls + 1) c.note.ensures ∙ simp length-set c.self.invariant.seats in
+    let f = c.go_on.ensures in
+    let goes : old.object.events ++ f.followed.0 ≡ new.object.events = ap (λ core. core.object.events ++ f.followed.0) (sym c.of-before.ensures) ∙ f.followed.1 in
     record {
       counted = counted-issue g.U.Unit.meaning _ _ _ _ _ _ _ _ _ _ k.action (c.add.ensures.total ∙ ap (λ n. n + 1) c.audit-2.ensures.total) c.self.invariant.counted;
       parts = c.self.invariant.parts;
@@ -29,6 +37,8 @@ invariant_of-self-2 g c =
       room = room-issued old new ticket c.self.inside.reservations c.take.new.self taken k.capacity k.key k.ticket c.self.invariant.room;
       seats = seats;
       asked = asked-of g.C.Ledger.parts (length latest) (length c.note.new.self) _ c.self.invariant.seats (sym seats) (asked-action g.U.Unit.meaning (length latest) _ _ _ k.action inside c.self.invariant.asked);
+      made = c.self.invariant.made ∙ sym (ap Some k.action.setup);
+      log = subst (IsWholeLog g.U.Unit.meaning new.object) (sym f.followed.2) (whole-on g.U.Unit.meaning old.object new.object c.self.inside.log f.followed.0 k.volumes c.self.invariant.log goes);
     }
 
 pub returns-in_err-make_room-clause-refused : goal.returns-in_err-make_room-clause-refused
@@ -47,3 +57,17 @@ returns-clause-allowed g c = rw (← c.self.view_is) (call-allowed c.self.inside
 
 pub returns-clause-volumes : goal.returns-clause-volumes
 returns-clause-volumes g c = rw (← c.self.view_is) c.in_ok-ticket.ensures.volumes
+
+pub returns-clause-issued : goal.returns-clause-issued
+returns-clause-issued g c =
+    let old = c.self.inside.core in
+    let new = c.issue.new.self in
+    let k = c.in_ok-ticket.ensures in
+    let f = c.go_on.ensures in
+    let goes : old.object.events ++ f.followed.0 ≡ new.object.events = ap (λ core. core.object.events ++ f.followed.0) (sym c.of-before.ensures) ∙ f.followed.1 in
+    let m = g.U.Unit.meaning in
+    let number = k.number in
+    let shape = c.self.invariant.shape in
+    let own = λ (t : ℕ × List Decl). IsProtectedAction m old.object new.object (Issue t.0 c.pass.inside.seat (entry_of t.1 c.args.entry) c.args.value c.args.deadline) in
+    let action = subst own (λ i. (sym number i, shape i)) k.action in
+    rw (← c.pass.view_is) (found-on g.U.Unit.meaning _ old.object new.object _ _ c.self.inside.log f.followed.0 _ c.self.invariant.made action c.headline-2.ensures.headline k.volumes c.self.invariant.log f.later goes (f.all ∙ f.followed.2))

@@ -1,4 +1,6 @@
-use Rattle.std.proofs.Common.{sym, subst, ◌∙◌, ap, length}
+use Rattle.std.proofs.Common.{sym, subst, ◌∙◌, ap, length, Some}
+use Rattle.po_receipts.specs.OneHistory.{IsWholeLog}
+use Rattle.po_receipts.proofs.OneHistory.{ended-on, answered}
 use Rattle.po_object.specs.Holds.{IsCounted}
 use Rattle.po_receipts.specs.Answers.{AskedBySeats}
 use Rattle.po_object.proofs.LatestKept.{known-collected, ended-ticket}
@@ -21,4 +23,13 @@ invariant_of-self-2 g c =
       room = room-collected old new ticket c.self.inside.reservations c.give.new.self c.give.ensures.total k.capacity (ended-ticket old ticket c.in_ok-end.end k.end) k.taken c.self.invariant.room;
       seats = c.self.invariant.seats;
       asked = subst (λ view. AskedBySeats (length c.self.inside.latest) view.events) (sym k.object) c.self.invariant.asked;
+      made = c.self.invariant.made ∙ sym (ap (λ view. Some view.setup) k.object);
+      log = subst (λ view. IsWholeLog g.U.Unit.meaning view c.show_to.new.self) (sym k.object) (subst (IsWholeLog g.U.Unit.meaning old.object) (sym c.show_to.ensures.same) c.self.invariant.log);
     }
+
+pub returns-clause-ended : goal.returns-clause-ended
+returns-clause-ended g c =
+    let m = g.U.Unit.meaning in
+    let old = c.self.inside.core in
+    let k = c.in_ok-end.ensures in
+    rw (← c.pass.view_is, c.in_ok-asked.was) (ended-on m _ old.object c.in_ok-asked.asked.ticket.number c.in_ok-end.end _ c.self.inside.log _ c.self.invariant.made c.headline.ensures.headline c.self.invariant.log c.show_to.ensures.later c.show_to.ensures.all (answered _ _ _ c.in_ok-end.end (sym k.end)))

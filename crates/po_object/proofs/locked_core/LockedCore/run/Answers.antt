@@ -1,5 +1,7 @@
-use Rattle.std.proofs.Common.{rules, sym, ◌≡◌, ◌⊎◌, Some, ◌∙◌, ap, ◌+◌, arith}
+use Rattle.std.proofs.Common.{rules, sym, ◌≡◌, ◌⊎◌, Some, ◌∙◌, ap, ◌+◌, arith, ◌++◌, subst}
 use Rattle.po_core.specs.Refusals.{run_refusal}
+use Rattle.po_receipts.specs.OneHistory.{IsWholeLog}
+use Rattle.po_receipts.proofs.OneHistory.{whole-on, found-on}
 use Rattle.po_object.specs.Refused.{IsOutOfMemory}
 use Rattle.po_object.proofs.Asking.{asked-action}
 use Rattle.po_object.proofs.Counting.{counted-ran}
@@ -13,6 +15,8 @@ invariant_of-self-2 g c =
     let old = c.self.inside.core in
     let new = c.run.new.self in
     let k = c.in_ok-reply.ensures in
+    let f = c.go_on.ensures in
+    let goes : old.object.events ++ f.followed.0 ≡ new.object.events = ap (λ core. core.object.events ++ f.followed.0) (sym c.of-before.ensures) ∙ f.followed.1 in
     record {
       counted = counted-ran g.U.Unit.meaning _ _ _ _ _ _ _ _ _ k.action (c.add.ensures.total ∙ ap (λ n. n + 1) c.audit.ensures.total) c.self.invariant.counted;
       parts = c.self.invariant.parts;
@@ -23,6 +27,8 @@ invariant_of-self-2 g c =
       room = room-same old new c.self.inside.reservations (ap (λ core. core.tickets) k.after) (ap (λ core. core.capacity) k.after) c.self.invariant.room;
       seats = c.self.invariant.seats;
       asked = asked-action g.U.Unit.meaning _ _ _ _ k.action (omega (arith, c.pass.invariant.seat, c.self.invariant.seats)) c.self.invariant.asked;
+      made = c.self.invariant.made ∙ sym (ap Some k.action.setup);
+      log = subst (IsWholeLog g.U.Unit.meaning new.object) (sym f.followed.2) (whole-on g.U.Unit.meaning old.object new.object c.self.inside.log f.followed.0 k.volumes c.self.invariant.log goes);
     }
 
 pub returns-in_err-make_room-clause-refused : goal.returns-in_err-make_room-clause-refused
@@ -35,3 +41,12 @@ returns-in_err-reply-clause-refused g c =
     let either : IsOutOfMemory g.R.Record.is_bounded c.in_err-reply.field-0.0 ⊎ (run_refusal g.U.Unit.meaning c.args.self.now.object c.args.op ≡ Some c.in_err-reply.field-0.0) =
     rw (← c.self.view_is) (refused-either c.self.inside.core c.self.inside.reservations g.Q.Receipts.is_bounded g.R.Record.is_bounded c.self.invariant.bounded.0 c.self.invariant.bounded.1 c.self.invariant.room _ _ c.in_err-reply.ensures.refused) in
     search (rules, either)
+
+pub returns-clause-ran : goal.returns-clause-ran
+returns-clause-ran g c =
+    let old = c.self.inside.core in
+    let new = c.run.new.self in
+    let k = c.in_ok-reply.ensures in
+    let f = c.go_on.ensures in
+    let goes : old.object.events ++ f.followed.0 ≡ new.object.events = ap (λ core. core.object.events ++ f.followed.0) (sym c.of-before.ensures) ∙ f.followed.1 in
+    rw (← c.pass.view_is) (found-on g.U.Unit.meaning _ old.object new.object _ _ c.self.inside.log f.followed.0 _ c.self.invariant.made k.action c.headline-2.ensures.headline k.volumes c.self.invariant.log f.later goes (f.all ∙ f.followed.2))

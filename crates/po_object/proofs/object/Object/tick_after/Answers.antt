@@ -1,0 +1,16 @@
+use Rattle.std.proofs.Common.{◌∙◌, ap, rules}
+use Rattle.po_object.specs.Refused.{IsTickRefusal}
+use Rattle.po_object.proofs.Refused.{tick-refused, tick-allowed}
+use Rattle.po_object.proofs.object.Object.tick_after.Goals as goal
+
+pub returns-clause-reply : goal.returns-clause-reply
+returns-clause-reply g c =
+    let e = c.in_ok-clock.ensures in
+    let core = c.deref_mut.result.now in
+    (core.object, (tick-allowed core e.allowed, e.clock ∙ ap (λ core. core.object.state.clock) e.after))
+
+pub returns-in_err-clock-clause-refused : goal.returns-in_err-clock-clause-refused
+returns-in_err-clock-clause-refused g c =
+    let e = c.in_err-clock.ensures in
+    let refused : IsTickRefusal g.R.Record.is_bounded c.in_err-clock.field-0.0 = tick-refused c.deref_mut.result.now g.R.Record.is_bounded e.kind c.in_err-clock.field-0.0 e.refused in
+    search (rules, refused)
