@@ -1,6 +1,7 @@
 //! Threads that call an object, which records its history or has fixed memory.
 
-ghost use Rattle.std.specs.Prelude.{◌≡◌, ◌≤◌, ◌+◌, IfSome, true, false};
+ghost use Rattle.std.specs.Prelude.{◌≡◌, ◌≤◌, ◌+◌, IfSome, true, false, [], Some};
+ghost use Rattle.po_object.specs.Stories.{IsStory};
 
 use crate::callers::Called;
 use crate::engine::{Kept, make_bounded};
@@ -8,9 +9,9 @@ use crate::races::race;
 use crate::team::Round;
 use crate::work::Task;
 use po_classic_units::ScriptUnit;
-use po_core::{Core, End, Order, Record, Recorded, Unrecorded};
+use po_core::{Core, End, Event, Order, Record, Recorded, Unrecorded};
 use po_history::Trace;
-use po_object::{CallLedger, Object, Pass, Receipt, Receipts};
+use po_object::{Keeper, Object, Pass, Receipt, Receipts, Story};
 use po_unit::{EntryRef, Unit};
 use std::alloc::AllocError;
 use std::io;
@@ -22,7 +23,7 @@ use std::time::Clock;
 
 impl<
     U: Unit<Value = u64>,
-    C: CallLedger,
+    C: Story<U>,
     P: Ledger,
     F: Ledger,
     R: Record<U>,
@@ -56,19 +57,28 @@ impl<
 /// Has threads do the task on an object over the core.
 fn race_over<
     U: ScriptUnit + Send + Sync + 'static,
-    C: CallLedger + Send + Sync + 'static,
+    C: Story<U> + Send + Sync + 'static,
     P: Ledger + Send + Sync + 'static,
     F: Ledger + Send + Sync + 'static,
     R: Record<U> + Send + Sync + Drop + 'static,
     Q: Receipts<u64> + Send + Sync + 'static,
     W: Threads + Wait + Clock + AllocGlobal + Copy + Send + 'static,
->(rt: W, core: Core<U, R>, task: Task, calls: Blank, procedures: Blank) -> io::Result<Round>
+>(
+    rt: W,
+    core: Core<U, R>,
+    task: Task,
+    calls: Blank,
+    procedures: Blank,
+    log: Keeper<Event<u64>>,
+) -> io::Result<Round>
     requires shape { core.object.setup.shape ≡ C.shape }
+    requires story { IsStory U.meaning core.object.setup C.setup C.end_of }
+    requires log { (log.name ≡ C.log) × (log.items ≡ []) }
     requires calls { (calls.name ≡ C.name) × (calls.parts ≡ C.parts) × (calls.parts ≡ task.threads + 1) }
     requires procedures { (procedures.name ≡ P.name) × (procedures.parts ≡ P.parts) × (procedures.parts ≡ task.threads + 1) }
     requires unbounded { (Q.is_bounded ≡ false) × (R.is_bounded ≡ false) }
 {
-    match Object::<U, C, P, F, R, Q>::open(rt.alloc(), core, task.threads, calls, procedures) {
+    match Object::<U, C, P, F, R, Q>::open(rt.alloc(), core, task.threads, calls, procedures, log) {
         Ok((object, passes)) => race(rt, object, passes, task),
         Err(_) => Err(AllocError.into()),
     }
@@ -77,7 +87,7 @@ fn race_over<
 /// The same, on an object with fixed memory.
 fn race_over_bounded<
     U: ScriptUnit + Send + Sync + 'static,
-    C: CallLedger + Send + Sync + 'static,
+    C: Story<U> + Send + Sync + 'static,
     P: Ledger + Send + Sync + 'static,
     F: Ledger + Send + Sync + 'static,
     R: Record<U> + Send + Sync + Drop + 'static,
@@ -90,8 +100,11 @@ fn race_over_bounded<
     calls: Blank,
     procedures: Blank,
     free: Blank,
+    log: Keeper<Event<u64>>,
 ) -> io::Result<Round>
     requires shape { core.object.setup.shape ≡ C.shape }
+    requires story { IsStory U.meaning core.object.setup C.setup C.end_of }
+    requires log { (log.name ≡ C.log) × (log.items ≡ []) }
     requires most { IfSome core.capacity (λ most. task.threads ≤ most) }
     requires calls { (calls.name ≡ C.name) × (calls.parts ≡ C.parts) × (calls.parts ≡ task.threads + 1) }
     requires procedures { (procedures.name ≡ P.name) × (procedures.parts ≡ P.parts) × (procedures.parts ≡ task.threads + 1) }
@@ -106,6 +119,7 @@ fn race_over_bounded<
         calls,
         procedures,
         free,
+        log,
     );
     match opened {
         Ok((object, passes)) => race(rt, object, passes, task),
@@ -123,7 +137,12 @@ pub(crate) fn race_recorded<
     let parts = u64::from(task.threads) + 1;
     let (calls, procedures) = (Blank::new(parts), Blank::new(parts));
     race_over::<U, Brand, Brand, Brand, Recorded<U>, Vec<Receipt<u64>>, W>(
-        rt, core, task, calls, procedures,
+        rt,
+        core,
+        task,
+        calls,
+        procedures,
+        Keeper::open(),
     )
 }
 
@@ -137,6 +156,12 @@ pub(crate) fn race_bounded<
     let parts = u64::from(task.threads) + 1;
     let (calls, procedures, free) = (Blank::new(parts), Blank::new(parts), Blank::new(parts));
     race_over_bounded::<U, Brand, Brand, Brand, Unrecorded<U>, Trace<Receipt<u64>>, W>(
-        rt, core, task, calls, procedures, free,
+        rt,
+        core,
+        task,
+        calls,
+        procedures,
+        free,
+        Keeper::open(),
     )
 }

@@ -5,14 +5,16 @@
 //! is closed, and its closing totals are told. What is printed is the same in every run.
 #![tactic(auto)]
 
-ghost use Rattle.std.specs.Prelude.{◌≡◌, ◌≤◌, ◌+◌, IfOk, IfSome, Some};
+ghost use Rattle.std.specs.Prelude.{◌≡◌, ◌≤◌, ◌+◌, IfOk, IfSome, Some, []};
+ghost use Rattle.po_classic_units.specs.Buffer.{buffer_meaning};
+ghost use Rattle.po_object.specs.Stories.{IsStory};
 
 mod alone;
 
 use anyhow::{Result, bail};
 use po_classic_units::{Buffer, ScriptUnit};
-use po_core::{BoundedCore, Order, Record, Start};
-use po_object::{BoundedClosed, BoundedObject, BoundedPass, CallLedger, Object, Pass, Receipts};
+use po_core::{BoundedCore, Event, Order, Record, Start};
+use po_object::{BoundedClosed, BoundedObject, BoundedPass, Keeper, Object, Pass, Receipts, Story};
 use po_unit::EntryRef;
 use std::alloc::{AllocError, Global};
 use std::io::Print;
@@ -68,7 +70,7 @@ fn empty_buffer(alloc: Global) -> Result<BoundedCore<Buffer>>
 /// Calls the entry so many times, with the values from 0 on, and gives the pass back. The object is of either kind.
 ///
 /// A caller that is refused finalizes the object, so that no other waits for what it doesn't do.
-fn call_often<C: CallLedger, P: Ledger, F: Ledger, R: Record<Buffer>, Q: Receipts<u64>, W: Wait>(
+fn call_often<C: Story<Buffer>, P: Ledger, F: Ledger, R: Record<Buffer>, Q: Receipts<u64>, W: Wait>(
     rt: &W,
     object: &Object<Buffer, C, P, F, R, Q>,
     mut pass: Pass<u64, C, P, F, Q>,
@@ -89,7 +91,7 @@ fn call_often<C: CallLedger, P: Ledger, F: Ledger, R: Record<Buffer>, Q: Receipt
 
 /// Starts a thread that calls the entry so many times.
 fn start<
-    C: CallLedger + Send + Sync + 'static,
+    C: Story<Buffer> + Send + Sync + 'static,
     P: Ledger + Send + Sync + 'static,
     F: Ledger + Send + Sync + 'static,
     R: Record<Buffer> + Drop + Send + Sync + 'static,
@@ -108,7 +110,7 @@ fn start<
 
 /// Has a thread for each pass call Put, where its seat is even, or Get, and waits until all are done.
 fn exchange<
-    C: CallLedger + Send + Sync + 'static,
+    C: Story<Buffer> + Send + Sync + 'static,
     P: Ledger + Send + Sync + 'static,
     F: Ledger + Send + Sync + 'static,
     R: Threads + Wait + AllocGlobal + Copy + Send + 'static,
@@ -129,7 +131,7 @@ fn exchange<
 }
 
 /// Closes the object, which no thread has any more.
-fn close<C: CallLedger, P: Ledger, F: Ledger>(
+fn close<C: Story<Buffer>, P: Ledger, F: Ledger>(
     object: Arc<BoundedObject<Buffer, C, P, F>>,
     passes: Vec<BoundedPass<u64, C, P, F>>,
 ) -> Result<BoundedClosed<Buffer>> {
@@ -144,7 +146,7 @@ fn close<C: CallLedger, P: Ledger, F: Ledger>(
 
 /// Opens an object over the core, has threads call it, and closes it.
 fn use_object<
-    C: CallLedger + Send + Sync + 'static,
+    C: Story<Buffer> + Send + Sync + 'static,
     P: Ledger + Send + Sync + 'static,
     F: Ledger + Send + Sync + 'static,
     R: Threads + Wait + AllocGlobal + Copy + Send + 'static,
@@ -154,8 +156,11 @@ fn use_object<
     calls: Blank,
     procedures: Blank,
     free: Blank,
+    log: Keeper<Event<u64>>,
 ) -> Result<BoundedClosed<Buffer>>
     requires shape { core.object.setup.shape ≡ C.shape }
+    requires story { IsStory buffer_meaning core.object.setup C.setup C.end_of }
+    requires log { (log.name ≡ C.log) × (log.items ≡ []) }
     requires most { IfSome core.capacity (λ most. SEATS ≤ most) }
     requires calls { (calls.name ≡ C.name) × (calls.parts ≡ C.parts) × (calls.parts ≡ SEATS + 1) }
     requires procedures { (procedures.name ≡ P.name) × (procedures.parts ≡ P.parts) × (procedures.parts ≡ SEATS + 1) }
@@ -168,6 +173,7 @@ fn use_object<
         calls,
         procedures,
         free,
+        log,
     );
     let (object, mut passes) = opened?;
     let object = Arc::new(rt.alloc(), object)?;
@@ -188,7 +194,14 @@ fn main(rt: HostRuntime) -> Result<()> {
     alone::run(&rt)?;
     let core = empty_buffer(rt.alloc())?;
     let (calls, procedures, free) = (Blank::new(PARTS), Blank::new(PARTS), Blank::new(PARTS));
-    let closed = use_object::<Brand, Brand, Brand, HostRuntime>(rt, core, calls, procedures, free)?;
+    let closed = use_object::<Brand, Brand, Brand, HostRuntime>(
+        rt,
+        core,
+        calls,
+        procedures,
+        free,
+        Keeper::open(),
+    )?;
     let issued = closed.core().next().saturating_sub(START.first_number);
     println!(rt;
         "{issued} calls were issued, and {} were counted",

@@ -5,12 +5,14 @@
 //! callers were told is compared with the history. What is printed is the same in every run.
 #![tactic(auto)]
 
-ghost use Rattle.std.specs.Prelude.{◌≡◌, ◌+◌};
+ghost use Rattle.std.specs.Prelude.{◌≡◌, ◌+◌, [], Some};
+ghost use Rattle.po_classic_units.specs.Buffer.{buffer_meaning};
+ghost use Rattle.po_object.specs.Stories.{IsStory};
 
 use anyhow::{Result, bail};
 use po_classic_units::{Buffer, ScriptUnit};
-use po_core::{Aborted, Core, End, Order, Record};
-use po_object::{CallLedger, Closed, Object, Pass, Receipt, Receipts, reconcile};
+use po_core::{Aborted, Core, End, Event, Order, Record};
+use po_object::{Closed, Keeper, Object, Pass, Receipt, Receipts, Story, reconcile};
 use po_unit::EntryRef;
 use std::alloc::{AllocError, Global};
 use std::io::Print;
@@ -57,7 +59,7 @@ fn empty_buffer(alloc: Global) -> Result<Core<Buffer>> {
 /// Calls the entry so many times, with the values from 0 on, and gives the pass back. The object is of either kind.
 ///
 /// A caller that is refused finalizes the object, so that no other waits for what it doesn't do.
-fn call_often<C: CallLedger, P: Ledger, F: Ledger, R: Record<Buffer>, Q: Receipts<u64>, W: Wait>(
+fn call_often<C: Story<Buffer>, P: Ledger, F: Ledger, R: Record<Buffer>, Q: Receipts<u64>, W: Wait>(
     rt: &W,
     object: &Object<Buffer, C, P, F, R, Q>,
     mut pass: Pass<u64, C, P, F, Q>,
@@ -78,7 +80,7 @@ fn call_often<C: CallLedger, P: Ledger, F: Ledger, R: Record<Buffer>, Q: Receipt
 
 /// Starts a thread that calls the entry so many times.
 fn start<
-    C: CallLedger + Send + Sync + 'static,
+    C: Story<Buffer> + Send + Sync + 'static,
     P: Ledger + Send + Sync + 'static,
     F: Ledger + Send + Sync + 'static,
     R: Record<Buffer> + Drop + Send + Sync + 'static,
@@ -96,7 +98,7 @@ fn start<
 }
 
 /// Cancels the call of the seat, which may not be there yet. If it never comes, the object is finalized.
-fn cancel<C: CallLedger, P: Ledger, R: Wait + Clock>(
+fn cancel<C: Story<Buffer>, P: Ledger, R: Wait + Clock>(
     rt: &R,
     object: &Object<Buffer, C, P>,
     seat: u16,
@@ -112,7 +114,7 @@ fn cancel<C: CallLedger, P: Ledger, R: Wait + Clock>(
 
 /// Has a thread for each pass call Put, where its seat is even, or Get, and waits until all are done.
 fn exchange<
-    C: CallLedger + Send + Sync + 'static,
+    C: Story<Buffer> + Send + Sync + 'static,
     P: Ledger + Send + Sync + 'static,
     R: Threads + Wait + AllocGlobal + Copy + Send + 'static,
 >(
@@ -133,7 +135,7 @@ fn exchange<
 
 /// Has a thread call Get, which waits as the buffer is empty, and cancels its call.
 fn get_in_vain<
-    C: CallLedger + Send + Sync + 'static,
+    C: Story<Buffer> + Send + Sync + 'static,
     P: Ledger + Send + Sync + 'static,
     R: Threads + Wait + Clock + Copy + Send + 'static,
 >(
@@ -149,7 +151,7 @@ fn get_in_vain<
 
 /// Has a thread call for each pass, that of the last one alone.
 fn call_all<
-    C: CallLedger + Send + Sync + 'static,
+    C: Story<Buffer> + Send + Sync + 'static,
     P: Ledger + Send + Sync + 'static,
     R: Threads + Wait + Clock + AllocGlobal + Copy + Send + 'static,
 >(
@@ -188,7 +190,7 @@ fn answers(closed: &Closed<Buffer>) -> (u64, u64) {
 }
 
 /// Closes the object, which no thread has any more.
-fn close<C: CallLedger, P: Ledger>(
+fn close<C: Story<Buffer>, P: Ledger>(
     object: Arc<Object<Buffer, C, P>>,
     passes: Vec<Pass<u64, C, P>>,
 ) -> Result<Closed<Buffer>> {
@@ -203,15 +205,23 @@ fn close<C: CallLedger, P: Ledger>(
 
 /// Opens an object over the core, has threads call it, and closes it.
 fn use_object<
-    C: CallLedger + Send + Sync + 'static,
+    C: Story<Buffer> + Send + Sync + 'static,
     P: Ledger + Send + Sync + 'static,
     R: Threads + Wait + Clock + AllocGlobal + Copy + Send + 'static,
->(rt: R, core: Core<Buffer>, calls: Blank, procedures: Blank) -> Result<Closed<Buffer>>
+>(
+    rt: R,
+    core: Core<Buffer>,
+    calls: Blank,
+    procedures: Blank,
+    log: Keeper<Event<u64>>,
+) -> Result<Closed<Buffer>>
     requires shape { core.object.setup.shape ≡ C.shape }
+    requires story { IsStory buffer_meaning core.object.setup C.setup C.end_of }
+    requires log { (log.name ≡ C.log) × (log.items ≡ []) }
     requires calls { (calls.name ≡ C.name) × (calls.parts ≡ C.parts) × (calls.parts ≡ SEATS + 1) }
     requires procedures { (procedures.name ≡ P.name) × (procedures.parts ≡ P.parts) × (procedures.parts ≡ SEATS + 1) }
 {
-    let opened = Object::<Buffer, C, P>::open(rt.alloc(), core, SEATS, calls, procedures);
+    let opened = Object::<Buffer, C, P>::open(rt.alloc(), core, SEATS, calls, procedures, log);
     let (object, mut passes) = opened?;
     let object = Arc::new(rt.alloc(), object)?;
     call_all(rt, &object, &mut passes)?;
@@ -230,6 +240,12 @@ fn report<R: Print>(rt: &R, closed: &Closed<Buffer>) -> Result<()> {
 fn main(rt: HostRuntime) -> Result<()> {
     let core = empty_buffer(rt.alloc())?;
     let (calls, procedures) = (Blank::new(PARTS), Blank::new(PARTS));
-    let closed = use_object::<Brand, Brand, HostRuntime>(rt, core, calls, procedures)?;
+    let closed = use_object::<Brand, Brand, HostRuntime>(
+        rt,
+        core,
+        calls,
+        procedures,
+        Keeper::open(),
+    )?;
     report(&rt, &closed)
 }

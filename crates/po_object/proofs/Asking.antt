@@ -1,23 +1,28 @@
 -- Who asked for the calls and procedures of a history: seats alone, after each command.
 use Rattle.std.proofs.Common.{◌≡◌, ◌⊎◌, inl, inr, ℕ, ◌+◌, ◌<◌, List, [], ◌∷◌, ◌++◌, refl, subst, sym, arith, Bool, true, false, Option, Some, None}
+use Rattle.std.specs.List.{All}
 use Rattle.std.specs.Option.{IfSome}
-use Rattle.std.proofs.lemmas.List.Elements.{All-nil, All-cons, All-append, All-weaker}
+use Rattle.std.proofs.lemmas.List.Elements.{All-cons, All-tail, All-append, All-weaker}
 use Rattle.po_unit.specs.Meaning.{Meaning}
 use Rattle.po_calls.specs.declared.call.Call.{Call}
 use Rattle.po_history.specs.declared.event.Event.{Event}
 use Rattle.po_history.specs.declared.event.Event.TheVariants.{Issue, Ran, Abort, Tick, Final, Serve, Break, Expire}
-use Rattle.po_history.specs.Histories.{VolumeView}
+use Rattle.po_history.specs.Histories.{VolumeView, joined}
 use Rattle.po_engine.specs.Finding.{IsFound}
 use Rattle.po_engine.specs.Step.{step}
 use Rattle.po_engine.specs.Pick.{last_from}
 use Rattle.po_core.specs.View.{View}
 use Rattle.po_core.specs.Tickets.{CoreView}
 use Rattle.po_core.specs.ProtectedAction.{IsProtectedAction, IsAbortOfCall}
-use Rattle.po_core.specs.Cutting.{cut}
 use Rattle.po_core.proofs.Counting.{is_neither, picks-neither}
 use Rattle.po_receipts.specs.Passes.{PassView}
 use Rattle.po_receipts.specs.Agreement.{history_of}
+use Rattle.po_receipts.specs.OneHistory.{IsWholeLog}
 use Rattle.po_receipts.specs.Answers.{asker_of, AskedBySeats, HasNoOthers, NonePending}
+
+All-right : {X : Type 0} (P : X → Type 0) (xs ys : List X) → All P (xs ++ ys) → All P ys
+All-right P [] ys h = h
+All-right P (x ∷ xs) ys h = All-right P xs ys (All-tail P x (xs ++ ys) h)
 
 module _ {V : Type 0} (seats : ℕ) where
   -- a seat asked for the event, if anyone did
@@ -53,9 +58,15 @@ module _ {S V : Type 0} (m : Meaning S V) (seats : ℕ) where
   asked-abort_of old new n None a h = absurd a
   asked-abort_of old new n (Some x) a h = asked-mark old new n x x.without_abort x.aborted refl refl a h
 
-  -- behind a cut there is no event
-  pub asked-cut : (old new : View S V) → new ≡ cut m old → AskedBySeats seats new.events
-  asked-cut old new is = subst (λ (view : View S V). AskedBySeats seats view.events) (sym is) (All-nil (BySeat {V = V} seats))
+  -- who asked in the whole history asked since the last cut
+  pub asked-since : (view : View S V) (log : List (Event V)) → IsWholeLog m view log → AskedBySeats seats log → AskedBySeats seats view.events
+  asked-since view log w h = All-right (BySeat seats) (joined w.0) view.events (subst (AskedBySeats seats) w.2 h)
+
+  -- in the whole history they ask as they do since the last cut
+  pub asked-on : (old new : View S V) (log more after : List (Event V)) → IsWholeLog m old log → (AskedBySeats seats old.events → AskedBySeats seats new.events) → old.events ++ more ≡ new.events → after ≡ log ++ more → AskedBySeats seats log → AskedBySeats seats after
+  asked-on old new log more after w ask goes all h =
+      let now = subst (AskedBySeats seats) (sym goes) (ask (asked-since old log w h)) in
+      subst (AskedBySeats seats) (sym all) (All-append (BySeat seats) log more h (All-right (BySeat seats) old.events more now))
 
 -- so many seats, by the ledger's parts
 pub asked-of : {V : Type 0} (parts seats more : ℕ) (events : List (Event V)) → seats + 1 ≡ parts → parts ≡ more + 1 → AskedBySeats seats events → AskedBySeats more events

@@ -1,4 +1,4 @@
-mod Rooms
+pub mod Rooms
 pub mod Asking
 pub mod Clock
 pub mod Counting

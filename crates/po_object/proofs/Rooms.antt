@@ -8,16 +8,6 @@ use Rattle.po_engine.proofs.TicketCounts.{none-held, one-more, one-less}
 use Rattle.po_core.specs.Tickets.{CoreView, AreIssued}
 use Rattle.po_object.specs.Reservations.{reserved, HasRoomFor}
 
--- a pass without a pending call has room reserved
-pub is-free : (o : Option ℕ) (bounded : Bool) → is_some o ≡ bounded → reserved bounded 1 ≡ option_map (λ n. 1) o
-is-free None bounded is = ap (λ b. reserved b 1) (sym is)
-is-free (Some n) bounded is = ap (λ b. reserved b 1) (sym is)
-
--- and one with a pending call has none
-pub is-used : (o : Option ℕ) (bounded : Bool) → is_some o ≡ bounded → reserved bounded 0 ≡ option_map (λ n. 0) o
-is-used None bounded is = ap (λ b. reserved b 0) (sym is)
-is-used (Some n) bounded is = ap (λ b. reserved b 0) (sym is)
-
 -- the number of places is counted, or not, as before
 pub stays-free : (old new : Option ℕ) → old ≡ option_map (λ n. n + 1) new → is_some new ≡ is_some old
 stays-free old None is = ap is_some (sym is)

@@ -5,6 +5,9 @@ use denote.Param.Send as Send
 use denote.Param.Send.{IsSync, IsSend, whole-keyless, sendable}
 use Rattle.std.specs.declared.sync.ledger.Ledger.{Ghosts}
 use Rattle.po_object.specs.declared.ledgers.CallLedger as CallLedger
+use Rattle.po_object.specs.declared.ledgers.Story as Story
+use Rattle.po_object.proofs.front.Front.TheSendSync as front
+use Rattle.po_object.proofs.front.Log.TheSendSync as log
 use Rattle.std.specs.contracts.sync.ledger.Book as Book
 use Rattle.std.proofs.sync.ledger.Book.TheSendSync as book
 use Rattle.std.specs.contracts.sync.ledger.Share as Share
@@ -50,11 +53,11 @@ reservations_sync F g =
       tt,
     )))
 
-pub locked_sync : (U C P F R Q V : RattleType) (g : Unit.Ghosts U.Denot V.Denot) (e : PartialEq.Ghosts V.Denot) (l : CallLedger.Ghosts C.Denot) (g' : Ghosts C.Denot) (g'' : Ghosts P.Denot) (g''' : Ghosts F.Denot) (k : Record.Ghosts R.Denot U.Denot V.Denot) (r : Receipts.Ghosts Q.Denot V.Denot) → IsSend U → IsSync U → IsSend R → IsSync R → IsSend Q → IsSync Q → IsSend V → IsSync V → IsSync (LockedCore.the_row U C P F R Q V g e l g' g'' g''' k r)
-locked_sync U C P F R Q V g e l g' g'' g''' k r n s m t o p w v =
-    Send.view_sync (Held.the_row U C P F R Q V g e l g' g'' g''' k r) _ _ _ _
-    (Send.recorded_sync (Held.the_field U C P F R Q V g e l g' g'' g''' k r).row _ _ (Held.the_type U C P F R Q V g e l g' g'' g''' k r).to_one
-    (Send.struct_sync (Declared.shape (Held.the_type U C P F R Q V g e l g' g'' g''' k r)) (
+pub locked_sync : (U C P F R Q V : RattleType) (g : Unit.Ghosts U.Denot V.Denot) (e : PartialEq.Ghosts V.Denot) (j : Story.Ghosts C.Denot U.Denot V.Denot) (l : CallLedger.Ghosts C.Denot V.Denot) (g' : Ghosts C.Denot) (g'' : Ghosts P.Denot) (g''' : Ghosts F.Denot) (k : Record.Ghosts R.Denot U.Denot V.Denot) (r : Receipts.Ghosts Q.Denot V.Denot) → IsSend U → IsSync U → IsSend R → IsSync R → IsSend Q → IsSync Q → IsSend V → IsSync V → IsSync (LockedCore.the_row U C P F R Q V g e j l g' g'' g''' k r)
+locked_sync U C P F R Q V g e j l g' g'' g''' k r n s m t o p w v =
+    Send.view_sync (Held.the_row U C P F R Q V g e j l g' g'' g''' k r) _ _ _ _
+    (Send.recorded_sync (Held.the_field U C P F R Q V g e j l g' g'' g''' k r).row _ _ (Held.the_type U C P F R Q V g e j l g' g'' g''' k r).to_one
+    (Send.struct_sync (Declared.shape (Held.the_type U C P F R Q V g e j l g' g'' g''' k r)) (
       search (sendable, core.the_sync),
       (
         search (sendable, book_sync),
@@ -70,7 +73,10 @@ locked_sync U C P F R Q V g e l g' g'' g''' k r n s m t o p w v =
                   search (sendable, share_sync),
                   (
                     search (sendable, latest.the_sync),
-                    tt,
+                    (
+                      search (sendable, log.the_sync),
+                      tt,
+                    ),
                   ),
                 ),
               ),
@@ -81,12 +87,12 @@ locked_sync U C P F R Q V g e l g' g'' g''' k r n s m t o p w v =
     )))
 
 -- an object that asks any steps which may be shared
-pub object_with_sync : (U C P F R Q S V : RattleType) (g : Ghosts C.Denot) (g' : Ghosts P.Denot) (g'' : Unit.Ghosts U.Denot V.Denot) (e : PartialEq.Ghosts V.Denot) (l : CallLedger.Ghosts C.Denot) (g''' : Ghosts F.Denot) (k : Record.Ghosts R.Denot U.Denot V.Denot) (r : Receipts.Ghosts Q.Denot V.Denot) → IsSend U → IsSync U → IsSend R → IsSync R → IsSend Q → IsSync Q → IsSend V → IsSync V → IsSync S → IsSync (Object.the_row U C P F R Q S V g g' g'' e l g''' k r)
-object_with_sync U C P F R Q S V g g' g'' e l g''' k r n s m t o p w v x =
-    Send.view_sync (Inside.the_row U C P F R Q S V g g' g'' e l g''' k r) _ _ _ _
-    (Send.recorded_sync (Inside.the_field U C P F R Q S V g g' g'' e l g''' k r).row _ _ (Inside.the_type U C P F R Q S V g g' g'' e l g''' k r).to_one
-    (Send.struct_sync (Declared.shape (Inside.the_type U C P F R Q S V g g' g'' e l g''' k r)) (
-      lock.the_field_sync (LockedCore.the_row U C P F R Q V g'' e l g g' g''' k r) (locked.the_send U C P F R Q V g'' e l g g' g''' k r n m w) (locked_sync U C P F R Q V g'' e l g g' g''' k r n s m t o p w v),
+pub object_with_sync : (U C P F R Q S V : RattleType) (g : Ghosts C.Denot) (g' : Ghosts P.Denot) (g'' : Unit.Ghosts U.Denot V.Denot) (e : PartialEq.Ghosts V.Denot) (j : Story.Ghosts C.Denot U.Denot V.Denot) (l : CallLedger.Ghosts C.Denot V.Denot) (g''' : Ghosts F.Denot) (k : Record.Ghosts R.Denot U.Denot V.Denot) (r : Receipts.Ghosts Q.Denot V.Denot) → IsSend U → IsSync U → IsSend R → IsSync R → IsSend Q → IsSync Q → IsSend V → IsSync V → IsSync S → IsSync (Object.the_row U C P F R Q S V g g' g'' e j l g''' k r)
+object_with_sync U C P F R Q S V g g' g'' e j l g''' k r n s m t o p w v x =
+    Send.view_sync (Inside.the_row U C P F R Q S V g g' g'' e j l g''' k r) _ _ _ _
+    (Send.recorded_sync (Inside.the_field U C P F R Q S V g g' g'' e j l g''' k r).row _ _ (Inside.the_type U C P F R Q S V g g' g'' e j l g''' k r).to_one
+    (Send.struct_sync (Declared.shape (Inside.the_type U C P F R Q S V g g' g'' e j l g''' k r)) (
+      lock.the_field_sync (LockedCore.the_row U C P F R Q V g'' e j l g g' g''' k r) (locked.the_send U C P F R Q V g'' e j l g g' g''' k r n m w) (locked_sync U C P F R Q V g'' e j l g g' g''' k r n s m t o p w v),
       (
         vec.the_sync Seat.the_row Global.the_row Heap.ghosts seat.the_sync global.the_sync,
         (
@@ -98,8 +104,11 @@ object_with_sync U C P F R Q S V g g' g'' e l g''' k r n s m t o p w v x =
               (
                 vec.the_sync _ Global.the_row Heap.ghosts (search sendable) global.the_sync,
                 (
-                  x,
-                  tt,
+                  search (sendable, front.the_sync),
+                  (
+                    x,
+                    tt,
+                  ),
                 ),
               ),
             ),
@@ -109,6 +118,6 @@ object_with_sync U C P F R Q S V g g' g'' e l g''' k r n s m t o p w v x =
     )))
 
 -- an object that asks no one
-pub object_sync : (U C P F R Q V : RattleType) (g : Ghosts C.Denot) (g' : Ghosts P.Denot) (g'' : Unit.Ghosts U.Denot V.Denot) (e : PartialEq.Ghosts V.Denot) (l : CallLedger.Ghosts C.Denot) (g''' : Ghosts F.Denot) (k : Record.Ghosts R.Denot U.Denot V.Denot) (r : Receipts.Ghosts Q.Denot V.Denot) → IsSend U → IsSync U → IsSend R → IsSync R → IsSend Q → IsSync Q → IsSend V → IsSync V → IsSync (Object.the_row U C P F R Q Unasked.the_row V g g' g'' e l g''' k r)
-object_sync U C P F R Q V g g' g'' e l g''' k r n s m t o p w v =
-    object_with_sync U C P F R Q Unasked.the_row V g g' g'' e l g''' k r n s m t o p w v unasked.the_sync
+pub object_sync : (U C P F R Q V : RattleType) (g : Ghosts C.Denot) (g' : Ghosts P.Denot) (g'' : Unit.Ghosts U.Denot V.Denot) (e : PartialEq.Ghosts V.Denot) (j : Story.Ghosts C.Denot U.Denot V.Denot) (l : CallLedger.Ghosts C.Denot V.Denot) (g''' : Ghosts F.Denot) (k : Record.Ghosts R.Denot U.Denot V.Denot) (r : Receipts.Ghosts Q.Denot V.Denot) → IsSend U → IsSync U → IsSend R → IsSync R → IsSend Q → IsSync Q → IsSend V → IsSync V → IsSync (Object.the_row U C P F R Q Unasked.the_row V g g' g'' e j l g''' k r)
+object_sync U C P F R Q V g g' g'' e j l g''' k r n s m t o p w v =
+    object_with_sync U C P F R Q Unasked.the_row V g g' g'' e j l g''' k r n s m t o p w v unasked.the_sync

@@ -1,19 +1,9 @@
--- What one test finds, another finds and counts too.
-use Rattle.std.proofs.Common.{◌≡◌, ◌+◌, ◌≤◌, List, [], ◌∷◌, refl, ap, sym, ◌∙◌, arith, cond, Bool, true, false, Some, is_some}
+-- What one test finds, another counts too.
+use Rattle.std.proofs.Common.{◌≡◌, ◌+◌, ◌≤◌, List, [], ◌∷◌, refl, ap, sym, ◌∙◌, arith, cond, Bool, true, false, Some}
 use Rattle.std.specs.List.{find, count_by}
 use Rattle.std.proofs.lemmas.List.Sums.{sum_by-cons}
 
 module _ {X : Type 0} (p q : X → Bool) where
-  found-here : (b c : Bool) (x y : X) (xs : List X) → q y ≡ c → cond b (Some y) (find p xs) ≡ Some x → q x ≡ true → (find p xs ≡ Some x → is_some (find q xs) ≡ true) → is_some (cond c (Some y) (find q xs)) ≡ true
-  found-here b true x y xs same h k l = refl
-  found-here true false x y xs same h k l = let one : y ≡ x = cc in let bad : false ≡ true = sym same ∙ (ap q one ∙ k) in cc
-  found-here false false x y xs same h k l = l h
-
-  -- what the one test finds, the other finds too, if it passes
-  pub found-too : (xs : List X) (x : X) → find p xs ≡ Some x → q x ≡ true → is_some (find q xs) ≡ true
-  found-too [] x h k = cc
-  found-too (y ∷ xs) x h k = found-here (p y) (q y) x y xs refl h k (λ l. found-too xs x l k)
-
   counted-here : (b c : Bool) (x y : X) (xs : List X) → q y ≡ c → cond b (Some y) (find p xs) ≡ Some x → q x ≡ true → (find p xs ≡ Some x → 1 ≤ count_by q xs) → 1 ≤ cond c 1 0 + count_by q xs
   counted-here b true x y xs same h k l = omega arith
   counted-here true false x y xs same h k l = let one : y ≡ x = cc in let bad : false ≡ true = sym same ∙ (ap q one ∙ k) in cc

@@ -1,6 +1,8 @@
 -- What a fault of an opening hands back (this project's own).
 use Rattle.std.specs.Prelude.{ℕ, ◌≡◌, ◌≢◌, List}
 use Rattle.std.specs.declared.sync.ledger.Blank.{Blank}
+use Rattle.po_log.specs.declared.log.Keeper.{Keeper}
+use Rattle.po_history.specs.declared.event.Event.{Event}
 use Rattle.po_core.specs.Tickets.{CoreView}
 use Rattle.po_core.specs.View.{next_place}
 use Rattle.po_receipts.specs.Passes.{PassView}
@@ -12,12 +14,12 @@ use Rattle.po_object.specs.declared.opening.Unopened.TheVariants.{NotFresh as Wa
 use Rattle.po_object.specs.declared.fault.CloseFault.{CloseFault}
 use Rattle.po_object.specs.declared.fault.CloseFault.TheVariants.{PassMissing}
 
--- The core and the blanks are handed back. The fault is NotFresh exactly where the history has an event.
-abbrev pub HandsBack : {U R V : Type 0} → CoreView U V → Blank → Blank → OpenFault U R V → Type 0
-HandsBack core calls procedures (NotFresh c a b) =
-    (c ≡ core) × (a ≡ calls) × (b ≡ procedures) × (next_place core.object ≢ core.object.setup.first_place)
-HandsBack core calls procedures (OutOfMemory c a b) =
-    (c ≡ core) × (a ≡ calls) × (b ≡ procedures) × (next_place core.object ≡ core.object.setup.first_place)
+-- The core, the blanks and the keeper of the log are handed back. The fault is NotFresh exactly where the history has an event.
+abbrev pub HandsBack : {U R V : Type 0} → CoreView U V → Blank → Blank → Keeper (Event V) → OpenFault U R V → Type 0
+HandsBack core calls procedures log (NotFresh c a b l) =
+    (c ≡ core) × (a ≡ calls) × (b ≡ procedures) × (l ≡ log) × (next_place core.object ≢ core.object.setup.first_place)
+HandsBack core calls procedures log (OutOfMemory c a b l) =
+    (c ≡ core) × (a ≡ calls) × (b ≡ procedures) × (l ≡ log) × (next_place core.object ≡ core.object.setup.first_place)
 
 -- It is for this that no object is opened over the core.
 abbrev pub IsWhy : {S V : Type 0} → CoreView S V → Unopened → Type 0

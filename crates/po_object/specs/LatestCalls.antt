@@ -2,7 +2,8 @@
 use Rattle.std.specs.Prelude.{ℕ, ◌≡◌, ◌<◌, ◌==◌, List, Option, Some, false, All, length}
 use Rattle.std.specs.List.{slice_index_or}
 use Rattle.po_engine.specs.Tickets.{number_at}
-use Rattle.po_core.specs.Tickets.{CoreView}
+use Rattle.po_calls.specs.declared.end.CallStatus.TheVariants.{Waiting}
+use Rattle.po_core.specs.Tickets.{CoreView, status_of_ticket}
 use Rattle.po_object.specs.declared.latest.Latest.{Latest}
 use Rattle.po_object.specs.declared.latest.Latest.TheVariants.{Never, Only, Several}
 
@@ -34,6 +35,12 @@ pub record KnowsLatest {S V : Type 0} (calls : List Latest) (core : CoreView S V
   pub issued : (seat : ℕ) → IsIssued core.object.state.next (latest_of calls seat)
   pub waiting : All (λ x. (seat : ℕ) → IsTrueOf (latest_of calls seat) seat x.number x.owner) core.object.state.waiting
   pub live : All (λ x. (seat : ℕ) → IsTicketOf core.tickets (latest_of calls seat) x.number) core.object.state.waiting
+
+-- By what is known of the seat a call of it may wait: the noted one does, or nothing is known.
+abbrev pub MayWait : {S V : Type 0} → CoreView S V → Latest → Type 0
+MayWait core Never = ⊥
+MayWait core (Only t) = status_of_ticket core t ≡ Waiting
+MayWait core Several = Unit {0}
 
 -- Of so many seats none has issued a call.
 abbrev pub NoneIssued : ℕ → List Latest → Type 0

@@ -4,6 +4,6 @@ pub mod Filing
 pub mod Holds
 pub mod LatestCalls
 pub mod Refused
-pub mod Replies
 pub mod Reservations
 pub mod Seats
+pub mod Stories

@@ -1,24 +1,28 @@
 //! How an object is closed, and what is left of it.
 
-ghost use Rattle.std.specs.Prelude.{◌≡◌, ◌↔◌, true, ◌+◌, ◌^◌, ◌<◌, ◌≤◌, IfOk, IfErr, IfSome, IfNone, OnOk, length, vec_len, slice_index, slice_set, sum_by};
+ghost use Rattle.std.specs.Prelude.{◌≡◌, ◌↔◌, true, All, ◌+◌, ◌^◌, ◌<◌, ◌≤◌, IfOk, IfErr, IfSome, IfNone, OnOk, length, vec_len, slice_index, slice_set, sum_by};
 ghost use Rattle.po_object.specs.Seats.{OneEach, IsMissing, AreBySeat, ArePlaced, AreCounts};
 ghost use Rattle.po_object.specs.Faults.{KeepsAll};
 ghost use Rattle.po_object.specs.Closing.{IsClosed};
-ghost use Rattle.po_receipts.specs.Answers.{HasClosingTotals, NonePending};
+ghost use Rattle.po_receipts.specs.Answers.{AnswersAreOwn, HasClosingTotals, HasNoOthers, NonePending};
+ghost use Rattle.po_receipts.specs.OneHistory.{IsWholeHistory, IsWholeLog};
+ghost use Rattle.po_receipts.specs.Told.{IsToldOf};
 
 use crate::fault::CloseFault;
-use crate::ledgers::{CallLedger, SeatParts};
+use crate::front::Log;
+use crate::ledgers::{CallLedger, SeatParts, Story};
 use crate::object::Object;
 use crate::steps::Steps;
 use crate::{LockedCore, Pass};
-use po_core::{Core, Record, Recorded, Unrecorded};
+use po_core::{Core, Event, Record, Recorded, Unrecorded};
 use po_history::Trace;
+use po_log::Seen;
 use po_receipts::{ClosedPass, Receipt, Receipts, none_pending};
 use po_unit::Unit;
 use std::marker::Model;
 use std::sync::ledger::{Ledger, Share};
 
-/// An object that was closed: nobody can call it any more. Contracts see it as its core and its passes.
+/// An object that was closed: nobody can call it any more. Contracts see it as its core, its passes and its whole history.
 #[derive(Drop)]
 pub struct Closed<
     U: Unit,
@@ -27,6 +31,7 @@ pub struct Closed<
 > {
     core: Core<U, R>,
     passes: Vec<ClosedPass<U::Value, Q>>,
+    log: Seen<Event<U::Value>>,
 }
 
 /// A closed object that took no memory for its calls.
@@ -37,9 +42,9 @@ impl<U: Unit, R: Record<U>, Q: Receipts<U::Value>> Model for Closed<U, R, Q> {
 
     ghost Value = { ClosedView U U.Value };
 
-    ghost view = { λ c. record { core = c.core; passes = c.passes.items } };
+    ghost view = { λ c. record { core = c.core; passes = c.passes.items; log = c.log.items } };
 
-    ghost invariant = { λ c. IsClosed (record { core = c.core; passes = c.passes.items }) };
+    ghost invariant = { λ c. IsClosed U.meaning (record { core = c.core; passes = c.passes.items; log = c.log.items }) };
 }
 
 impl<U: Unit, R: Record<U>, Q: Receipts<U::Value>> Closed<U, R, Q> {
@@ -65,17 +70,35 @@ impl<U: Unit, R: Record<U>, Q: Receipts<U::Value>> Closed<U, R, Q> {
     }
 
     /// What holds of every closed object: the pass of a seat stands at the seat's place; in the whole history as many calls
-    /// were issued, and as many procedures ran, as the passes counted; and since the last cut seats alone asked for them.
+    /// were issued, and as many procedures ran, as the passes counted; seats alone asked for them; and if no call is pending,
+    /// the receipts of each seat are those that the history gives it.
     pub fn closing_totals(&self)
-        ensures { IsClosed self.now }
+        ensures { IsClosed U.meaning self.now }
     {
         let _ = &self.core;
+    }
+
+    /// What every caller was answered is the history's answer to that caller's own call, each once and in the caller's order.
+    /// This history is one of serial protected actions of one thread (9.5.1), and has no other calls and procedures.
+    ///
+    /// It holds with a record in memory or none, and whatever was cut off.
+    pub fn every_answer(&self)
+        // `none_pending` tells: the calls of `Object` leave none behind.
+        requires { NonePending self.now.passes }
+        ensures own { AnswersAreOwn self.now.core.object.state.ended self.now.log self.now.passes }
+        ensures serial { IsWholeHistory U.meaning self.now.core.object.setup self.now.log }
+        ensures none_other { HasNoOthers self.now.log self.now.passes }
+        // It is what was cut off, in its order, and the events since.
+        ensures whole { IsWholeLog U.meaning self.now.core.object self.now.log }
+    {
+        self.core.headline();
+        self.closing_totals();
     }
 }
 
 impl<
     U: Unit,
-    C: CallLedger,
+    C: Story<U>,
     P: Ledger,
     F: Ledger,
     R: Record<U>,
@@ -109,6 +132,7 @@ impl<
             procedures,
             room,
             counts: _counts,
+            opening: _opening,
             steps: _steps,
         } = object;
         let closed = gather(locked.into_inner(), room, passes, &calls, &procedures);
@@ -118,7 +142,7 @@ impl<
 
 impl<
     U: Unit,
-    C: CallLedger,
+    C: Story<U>,
     P: Ledger,
     F: Ledger,
     R: Record<U>,
@@ -142,7 +166,7 @@ impl<
 }
 
 /// Counts the passes of each seat.
-fn count<V: Copy, C: Ledger, P: Ledger, F: Ledger, Q: Receipts<V>>(
+fn count<V: Copy, C: CallLedger<V>, P: Ledger, F: Ledger, Q: Receipts<V>>(
     counts: &mut Vec<usize>,
     passes: &Vec<Pass<V, C, P, F, Q>>,
 )
@@ -168,7 +192,7 @@ fn count_one(counts: &mut Vec<usize>, seat: u16)
 }
 
 /// Takes the core out, with the passes by rising seat.
-fn gather<U: Unit, C: CallLedger, P: Ledger, F: Ledger, R: Record<U>, Q: Receipts<U::Value>>(
+fn gather<U: Unit, C: Story<U>, P: Ledger, F: Ledger, R: Record<U>, Q: Receipts<U::Value>>(
     locked: LockedCore<U, C, P, F, R, Q>,
     room: Vec<ClosedPass<U::Value, Q>>,
     passes: Vec<Pass<U::Value, C, P, F, Q>>,
@@ -182,24 +206,28 @@ fn gather<U: Unit, C: CallLedger, P: Ledger, F: Ledger, R: Record<U>, Q: Receipt
     ensures by_seat { AreBySeat calls.now.seats passes.items result.passes }
     ensures totals { HasClosingTotals result.core result.passes }
 {
-    let (core, mut calls_book, mut procedures_book, mut made, mut ran) = locked.take_apart();
+    let (core, mut calls_book, mut procedures_book, mut made, mut ran, mut log) =
+        locked.take_apart();
+    core.headline();
     let _seats = procedures.seats;
-    let spent = collect(calls.seats, room, passes, &mut made, &mut ran);
+    let spent = collect(calls.seats, room, passes, &mut made, &mut ran, &mut log);
     calls_book.audit(&mut made);
     procedures_book.audit(&mut ran);
     Closed {
         core,
         passes: spent,
+        log: log.into_seen(),
     }
 }
 
-/// Puts each pass into the room of its seat, and its parts of the ledgers to these.
-fn collect<V: Copy, C: Ledger, P: Ledger, F: Ledger, Q: Receipts<V>>(
+/// Puts each pass into the room of its seat, and its parts of the ledgers to these. What the callers were told is of the log.
+fn collect<V: Copy, C: CallLedger<V>, P: Ledger, F: Ledger, Q: Receipts<V>>(
     seats: u16,
     room: Vec<ClosedPass<V, Q>>,
     passes: Vec<Pass<V, C, P, F, Q>>,
     made: &mut Share<C>,
     ran: &mut Share<P>,
+    log: &mut Log<V, C>,
 ) -> Vec<ClosedPass<V, Q>>
     requires room { vec_len room ≡ seats }
     requires parts { (made.old.parts ≡ 1) × (ran.old.parts ≡ 1) }
@@ -211,11 +239,13 @@ fn collect<V: Copy, C: Ledger, P: Ledger, F: Ledger, Q: Receipts<V>>(
     ensures calls { made.new.amount ≡ sum_by (λ pass. pass.calls) passes.items }
     ensures procedures { ran.new.amount ≡ sum_by (λ pass. pass.procedures) passes.items }
     ensures placed { ArePlaced seats passes.items result.items }
+    ensures told { All (IsToldOf C.end_of log.old) passes.items }
+    ensures same_log { log.new ≡ log.old }
 {
     let mut room = room;
     for pass in passes {
         let seat = pass.seat() as usize;
-        let spent = pass.spend(made, ran);
+        let spent = pass.spend(made, ran, log);
         if seat < room.len() {
             room[seat] = spent;
         }

@@ -1,25 +1,26 @@
 //! Why an object isn't opened, and why it isn't closed.
 
 use crate::Pass;
-use crate::ledgers::CallLedger;
+use crate::ledgers::Story;
 use crate::object::Object;
 use crate::steps::{Steps, Unasked};
-use po_core::{Core, Record, Recorded, Unrecorded};
+use po_core::{Core, Event, Record, Recorded, Unrecorded};
+use po_log::Keeper;
 use po_receipts::{Receipt, Receipts};
 use po_unit::Unit;
 use std::fmt;
 use std::sync::ledger::{Blank, Ledger};
 use thiserror::Error;
 
-/// Why no object is opened, with the core and the blanks of the ledgers, as they were.
+/// Why no object is opened, with the core, the blanks of the ledgers and the keeper of the log, as they were.
 #[derive(Drop, Error)]
 pub enum OpenFault<U: Unit, R: Record<U> = Recorded<U>> {
     /// 1: the core has, or had before a cut, an event.
     #[error("the core has events already: an object is opened over a new core")]
-    NotFresh(Core<U, R>, Blank, Blank),
+    NotFresh(Core<U, R>, Blank, Blank, Keeper<Event<<U as Unit>::Value>>),
     /// 2: memory was wanting.
     #[error("out of memory")]
-    OutOfMemory(Core<U, R>, Blank, Blank),
+    OutOfMemory(Core<U, R>, Blank, Blank, Keeper<Event<<U as Unit>::Value>>),
 }
 
 impl<U: Unit, R: Record<U>> fmt::Debug for OpenFault<U, R> {
@@ -31,11 +32,11 @@ impl<U: Unit, R: Record<U>> fmt::Debug for OpenFault<U, R> {
     }
 }
 
-/// Why no object that takes no memory is opened, with the core and the blanks of the ledgers, as they were.
+/// Why no object that takes no memory is opened, with all that it was to be opened with, as it was.
 #[derive(Drop, Error)]
 #[error("{fault}")]
 pub struct BoundedOpenFault<U: Unit, R: Record<U> = Unrecorded<U>> {
-    /// Why not, with the core and the blanks of the ledgers of calls and procedures.
+    /// Why not, with the core, the blanks of the ledgers of calls and procedures, and the keeper of the log.
     pub fault: OpenFault<U, R>,
     /// The blank of the ledger of free passes.
     pub free: Blank,
@@ -51,7 +52,7 @@ impl<U: Unit, R: Record<U>> fmt::Debug for BoundedOpenFault<U, R> {
 #[derive(Drop, Error)]
 pub enum CloseFault<
     U: Unit,
-    C: CallLedger,
+    C: Story<U>,
     P: Ledger,
     F: Ledger = C,
     R: Record<U> = Recorded<U>,
@@ -72,7 +73,7 @@ pub enum CloseFault<
 
 impl<
     U: Unit,
-    C: CallLedger,
+    C: Story<U>,
     P: Ledger,
     F: Ledger,
     R: Record<U>,

@@ -6,7 +6,7 @@ ghost use Rattle.po_engine.specs.WaitingCalls.{is_of};
 ghost use Rattle.po_engine.specs.Tickets.{is_live};
 ghost use Rattle.po_core.specs.View.{IsInOnePlace};
 ghost use Rattle.po_core.specs.Tickets.{status_of_ticket};
-ghost use Rattle.po_object.specs.LatestCalls.{latest_of, KnowsLatest, NoneIssued};
+ghost use Rattle.po_object.specs.LatestCalls.{latest_of, KnowsLatest, MayWait, NoneIssued};
 
 use po_core::{CallStatus, Core, Record, Ticket};
 use po_unit::Unit;
@@ -82,7 +82,8 @@ impl LatestCalls {
     /// Whether it is known that no call of the seat waits.
     pub(crate) fn is_idle<U: Unit, R: Record<U>>(&self, core: &Core<U, R>, seat: u16) -> bool
         requires { KnowsLatest self.now core.now }
-        ensures { result ≡ true → find (is_of seat) core.now.object.state.waiting ≡ None }
+        ensures none { result ≡ true → find (is_of seat) core.now.object.state.waiting ≡ None }
+        ensures some { result ≡ false → MayWait core.now (latest_of self.now seat) }
     {
         match self.of_seat(seat) {
             Latest::Never => true,

@@ -1,19 +1,41 @@
-//! The two ledgers of an object: of its accepted calls, and of its procedures.
+//! The two ledgers of an object: of its accepted calls, and of its procedures. The first also says which object it is.
 
-ghost use Rattle.std.specs.Prelude.{◌≡◌, ◌+◌, List, []};
+ghost use Rattle.std.specs.Prelude.{◌≡◌, ◌+◌, ℕ, List, [], Option, None};
 ghost use Rattle.po_unit.specs.declared.decl.Decl.{Decl};
+ghost use Rattle.po_calls.specs.declared.end.End.{End};
+ghost use Rattle.po_history.specs.declared.event.Event.{Event};
+ghost use Rattle.po_core.specs.Setup.{Setup};
 
+use po_unit::Unit;
 use std::marker::{Brand, PhantomData};
 use std::sync::ledger::Ledger;
 
-/// A ledger of accepted calls, which names the declarations of the entries that they are made on: so a call can say of its
-/// entry what only the core behind the lock knows.
-pub trait CallLedger: Ledger {
+/// A ledger of accepted calls, which names what only the core behind the lock knows: the declarations of the entries that
+/// they are made on, the log of the object's history, and how a call has ended by so much of that history.
+pub trait CallLedger<V>: Ledger {
     ghost shape: { List Decl };
+
+    ghost log: { ℕ };
+
+    ghost end_of: { List (Event V) → ℕ → Option (End V) };
 }
 
-impl CallLedger for Brand {
+impl<V> CallLedger<V> for Brand {
     ghost shape = { [] };
+
+    ghost log = { 0 };
+
+    ghost end_of = { λ log number. None };
+}
+
+/// A ledger of accepted calls that says what its object was made with, so that an answer can speak of the object's whole
+/// history. Nothing is said where it doesn't.
+pub trait Story<U: Unit>: CallLedger<<U as Unit>::Value> {
+    ghost setup: { Option (Setup U) };
+}
+
+impl<U: Unit> Story<U> for Brand {
+    ghost setup = { None };
 }
 
 /// That a ledger is cut into a part for each seat, and one more, which the object keeps.

@@ -1,6 +1,6 @@
 //! What lies behind an object's lock, with the pass by which callers come to it.
 
-ghost use Rattle.std.specs.Prelude.{ℕ, ◌≡◌, ◌≤◌, ◌+◌, ◌⊎◌, ◌∷◌, ◌++◌, [], None, Some, find, is_some, length, unwrap_or, List, IfOk, IfErr, IfSome, IfNone, IsSome, OnOk, OnErr, OnSome, MatchResult};
+ghost use Rattle.std.specs.Prelude.{ℕ, ◌≡◌, ◌<◌, ◌≤◌, ◌+◌, ◌⊎◌, ◌∷◌, ◌++◌, [], None, Some, find, is_some, length, unwrap_or, List, IfOk, IfErr, IfSome, IfNone, IsSome, OnOk, OnErr, OnSome, MatchResult};
 ghost use Rattle.po_engine.specs.Tickets.{number_at, SetsTicket};
 ghost use Rattle.po_engine.specs.WaitingCalls.{is_of};
 ghost use Rattle.po_engine.specs.Finding.{IsFound};
@@ -12,17 +12,22 @@ ghost use Rattle.po_core.specs.Cutting.{cut, cut_off, Leads, KeepsArrivals, Keep
 ghost use Rattle.po_core.specs.Commands.{issue_of, reply_of};
 ghost use Rattle.po_core.specs.ProtectedAction.{IsProtectedAction, IsAbortOf, after_action, after_abort, abort_answer};
 ghost use Rattle.po_core.specs.Commands.{entry_of};
-ghost use Rattle.po_core.specs.Refusals.{MayRefuse, issue_refusal, run_refusal, tick_refusal, finalized_refusal, cut_refusal};
+ghost use Rattle.po_core.specs.Refusals.{MayRefuse, issue_refusal, run_refusal, tick_refusal, finalized_refusal, cut_refusal, if_unindexed};
+ghost use Rattle.po_unit.specs.Numbering.{flat_number};
+ghost use Rattle.po_engine.specs.ObjectState.{counts_in};
 ghost use Rattle.po_core.specs.declared.refusal.Refusal.{Refusal};
 ghost use Rattle.po_receipts.specs.Passes.{PassView};
 ghost use Rattle.po_receipts.specs.Answers.{AskedBySeats};
+ghost use Rattle.po_receipts.specs.OneHistory.{IsWholeLog, Stands, HasEnded, IsTicked, IsReadAt, IsCountAt, IsAborted, IsCutOff, end_in};
 ghost use Rattle.po_object.specs.Filing.{IsFinished, asking, running};
 ghost use Rattle.po_object.specs.Holds.{IsCounted};
-ghost use Rattle.po_object.specs.Refused.{IsOutOfMemory};
+ghost use Rattle.po_object.specs.Stories.{IsStory};
+ghost use Rattle.po_object.specs.Refused.{IsOutOfMemory, IsFunctionRefusal};
 ghost use Rattle.po_object.specs.LatestCalls.{NoneIssued};
 
+use crate::front::{Front, Log, go_on};
 use crate::latest::LatestCalls;
-use crate::ledgers::CallLedger;
+use crate::ledgers::Story;
 use crate::pass::Pass;
 use crate::reservation::Reservations;
 use po_core::{
@@ -32,6 +37,7 @@ use po_history::Trace;
 use po_receipts::{Asked, Receipt, Receipts};
 use po_unit::{EntryRef, Unit};
 use std::marker::{Model, PhantomData};
+use std::snapshot::Snapshot;
 use std::sync::ledger::{Book, Ledger, Share};
 
 /// The core of an object, with the books of its ledgers. Contracts see it as its core, so the headline holds of it.
@@ -39,11 +45,11 @@ use std::sync::ledger::{Book, Ledger, Share};
 /// A hold of the lock is one command of the core, or a look at it. In its whole history the core has issued as many calls as
 /// the passes have in their tallies, and run as many procedures; seats alone asked for them. Where the number of calls is
 /// fixed, there is memory for one call more of each free pass. By what is known of each seat's latest call, its waiting one
-/// is found at flat cost.
+/// is found at flat cost. The log is its whole history, from the opening on.
 #[derive(Drop)]
 pub struct LockedCore<
     U: Unit,
-    C: CallLedger,
+    C: Story<U>,
     P: Ledger,
     F: Ledger = C,
     R: Record<U> = Recorded<U>,
@@ -57,6 +63,7 @@ pub struct LockedCore<
     last_calls: Share<C>,
     last_procedures: Share<P>,
     latest: LatestCalls,
+    log: Log<<U as Unit>::Value, C>,
 }
 
 /// `LockedCore`, for callers that know it by this name.
@@ -72,14 +79,15 @@ pub type BoundedLockedCore<U, C, P, F> = LockedCore<
     Trace<Receipt<<U as Unit>::Value>>,
 >;
 
-impl<U: Unit, C: CallLedger, P: Ledger, F: Ledger, R: Record<U>, Q: Receipts<U::Value>> Model
+impl<U: Unit, C: Story<U>, P: Ledger, F: Ledger, R: Record<U>, Q: Receipts<U::Value>> Model
     for LockedCore<U, C, P, F, R, Q> {
-    ghost use Rattle.std.specs.Prelude.{◌≡◌, ◌+◌, is_some, length};
+    ghost use Rattle.std.specs.Prelude.{◌≡◌, ◌+◌, is_some, length, Some};
     ghost use Rattle.po_core.specs.Tickets.{CoreView};
     ghost use Rattle.po_receipts.specs.Answers.{AskedBySeats};
     ghost use Rattle.po_object.specs.Holds.{IsCounted};
     ghost use Rattle.po_object.specs.LatestCalls.{KnowsLatest};
     ghost use Rattle.po_object.specs.Reservations.{HasRoomFor};
+    ghost use Rattle.po_receipts.specs.OneHistory.{IsWholeLog, end_in};
 
     ghost Value = { CoreView U U.Value };
 
@@ -94,11 +102,14 @@ impl<U: Unit, C: CallLedger, P: Ledger, F: Ledger, R: Record<U>, Q: Receipts<U::
       bounded : (is_some h.reservations ≡ Q.is_bounded) × (Q.is_bounded ≡ R.is_bounded);
       room : HasRoomFor h.core h.reservations;
       seats : length h.latest + 1 ≡ C.parts;
-      asked : AskedBySeats (length h.latest) h.core.object.events;
+      asked : AskedBySeats (length h.latest) h.log;
+      made : C.setup ≡ Some h.core.object.setup;
+      ends : C.end_of ≡ end_in U.meaning h.core.object.setup;
+      log : IsWholeLog U.meaning h.core.object h.log;
     } };
 }
 
-impl<U: Unit + Drop, C: CallLedger, P: Ledger, F: Ledger, Q: Receipts<U::Value>> LockedCore<
+impl<U: Unit + Drop, C: Story<U>, P: Ledger, F: Ledger, Q: Receipts<U::Value>> LockedCore<
     U,
     C,
     P,
@@ -109,7 +120,7 @@ impl<U: Unit + Drop, C: CallLedger, P: Ledger, F: Ledger, Q: Receipts<U::Value>>
     /// Cuts the history, as `Core::cut` does.
     ///
     /// Refused as `NumbersSpent` and `OutOfMemory`, also on a finalized object.
-    pub fn cut(&mut self) -> Result<Volume<U::Value>, Refusal>
+    pub fn cut(&mut self, front: &mut Front<U::Value, C>) -> Result<Volume<U::Value>, Refusal>
         ensures volume { IfOk result (λ volume. volume ≡ cut_off self.old.object) }
         ensures after { OnOk result (self.new ≡ record self.old { object = cut U.meaning self.old.object }) }
         ensures leads { IfOk result (λ volume. Leads U.meaning self.old.object.setup volume.events
@@ -118,19 +129,23 @@ impl<U: Unit + Drop, C: CallLedger, P: Ledger, F: Ledger, Q: Receipts<U::Value>>
         ensures procedures { OnOk result (procedures_run self.new.object ≡ procedures_run self.old.object) }
         ensures joins { IfOk result (λ volume. (volumes : List (VolumeView U.Value)) →
             AreVolumes U.meaning self.old.object volumes → AreVolumes U.meaning self.new.object (volumes ++ volume ∷ [])) }
-        // Seats alone asked for what is in the volume.
+        // It is the last part of the history of the object.
+        ensures cut_off { IfOk result (λ volume. IsFound (λ setup. IsCutOff U.meaning setup volume front.old front.new) C.setup) }
+        // Seats alone asked for what is in it.
         ensures asked { IfOk result (λ volume. (seats : ℕ) → C.parts ≡ seats + 1 → AskedBySeats seats volume.events) }
         ensures allowed { OnOk result (cut_refusal self.old.object ≡ None) }
         ensures refused { IfErr result (λ r.
             r ≡ unwrap_or (cut_refusal self.old.object) Refusal.OutOfMemory) }
-        ensures unchanged { OnErr result (self.new ≡ self.old) }
+        ensures unchanged { OnErr result ((self.new ≡ self.old) × (front.new ≡ front.old)) }
     {
+        self.core.headline();
         let volume = self.core.cut()?;
+        self.log.show_to(front);
         Ok(volume)
     }
 }
 
-impl<U: Unit, C: CallLedger, P: Ledger, F: Ledger, R: Record<U>, Q: Receipts<U::Value>> LockedCore<
+impl<U: Unit, C: Story<U>, P: Ledger, F: Ledger, R: Record<U>, Q: Receipts<U::Value>> LockedCore<
     U,
     C,
     P,
@@ -146,9 +161,12 @@ impl<U: Unit, C: CallLedger, P: Ledger, F: Ledger, R: Record<U>, Q: Receipts<U::
         last_calls: Share<C>,
         last_procedures: Share<P>,
         latest: LatestCalls,
+        log: Log<U::Value, C>,
     ) -> LockedCore<U, C, P, F, R, Q>
         requires fresh { next_place core.object ≡ core.object.setup.first_place }
         requires shape { core.object.setup.shape ≡ C.shape }
+        requires story { IsStory U.meaning core.object.setup C.setup C.end_of }
+        requires log { log ≡ [] }
         requires totals { (calls.total ≡ 0) × (procedures.total ≡ 0) }
         requires parts { (last_calls.parts ≡ 1) × (last_procedures.parts ≡ 1) }
         requires amounts { (last_calls.amount ≡ 0) × (last_procedures.amount ≡ 0) }
@@ -170,6 +188,7 @@ impl<U: Unit, C: CallLedger, P: Ledger, F: Ledger, R: Record<U>, Q: Receipts<U::
             last_calls,
             last_procedures,
             latest,
+            log,
         }
     }
 
@@ -210,7 +229,10 @@ impl<U: Unit, C: CallLedger, P: Ledger, F: Ledger, R: Record<U>, Q: Receipts<U::
           entry = entry_of C.shape entry;
           value = value;
           deadline = deadline;
-        })) }
+        }) pass.new.seen) }
+        // The call stands in the history of the object, behind all that was seen before.
+        ensures issued { IfOk result (λ ticket. IsFound (λ setup. Stands U.meaning setup
+            (Event.Issue ticket.number pass.old.seat (entry_of C.shape entry) value deadline) pass.old.seen pass.new.seen) C.setup) }
         // The ledger of calls names the declarations of the core's entries.
         ensures shape { self.old.object.setup.shape ≡ C.shape }
         ensures allowed { OnOk result (issue_refusal self.old.object entry ≡ None) }
@@ -222,8 +244,11 @@ impl<U: Unit, C: CallLedger, P: Ledger, F: Ledger, R: Record<U>, Q: Receipts<U::
         self.core.headline();
         self.reservations.audit(&mut pass.reservation);
         let idle = self.latest.is_idle(&self.core, pass.seat);
+        let before = Snapshot::of(&self.core);
         let ticket = self.core.issue(pass.seat, entry, value, deadline)?;
         let _next = self.core.next();
+        self.core.headline();
+        go_on(&mut self.log, &mut pass.front, &before, &self.core);
         self.calls.audit(&mut pass.made);
         self.calls.add(&mut pass.made, 1);
         self.reservations.take(&mut pass.reservation);
@@ -247,12 +272,16 @@ impl<U: Unit, C: CallLedger, P: Ledger, F: Ledger, R: Record<U>, Q: Receipts<U::
         ensures taken { OnSome result (IfSome pass.old.pending (λ asked.
             SetsTicket self.old.tickets self.new.tickets asked.ticket.key None)) }
         ensures filed { IfSome result (λ end. IsFinished pass.old end pass.new) }
+        // The history of the object says that it has ended so.
+        ensures ended { IfSome result (λ end. IfSome pass.old.pending (λ asked. IsFound (λ setup.
+            HasEnded U.meaning setup asked.ticket.number end pass.old.seen pass.new.seen) C.setup)) }
         ensures left { IfNone result ((self.new ≡ self.old) × (pass.new ≡ pass.old)) }
     {
         let asked = pass.pending?;
         self.core.headline();
         let end = self.core.collect(asked.ticket)?;
         self.reservations.give(&mut pass.reservation);
+        self.log.show_to(&mut pass.front);
         pass.pending = None;
         pass.receipts.file(Receipt::Called {
             number: asked.ticket.number,
@@ -281,14 +310,20 @@ impl<U: Unit, C: CallLedger, P: Ledger, F: Ledger, R: Record<U>, Q: Receipts<U::
         ensures volumes { OnOk result (KeepsVolumes U.meaning self.old.object self.new.object) }
         ensures action { IfOk result (λ reply.
             IsProtectedAction U.meaning self.old.object self.new.object (Event.Ran pass.old.seat op value reply)) }
-        ensures filed { IfOk result (λ reply. pass.new ≡ running pass.old op value reply) }
+        ensures filed { IfOk result (λ reply. pass.new ≡ running pass.old op value reply pass.new.seen) }
+        // The procedure stands in the history of the object, behind all that was seen before.
+        ensures ran { IfOk result (λ reply. IsFound (λ setup. Stands U.meaning setup
+            (Event.Ran pass.old.seat op value reply) pass.old.seen pass.new.seen) C.setup) }
         ensures allowed { OnOk result (run_refusal U.meaning self.old.object op ≡ None) }
         ensures refused { IfErr result (λ r. IsOutOfMemory R.is_bounded r ⊎ (run_refusal U.meaning self.old.object op ≡ Some r)) }
         ensures unchanged { OnErr result ((self.new ≡ self.old) × (pass.new ≡ pass.old)) }
     {
         self.core.headline();
         pass.receipts.make_room()?;
+        let before = Snapshot::of(&self.core);
         let reply = self.core.run(pass.seat, op, value)?;
+        self.core.headline();
+        go_on(&mut self.log, &mut pass.front, &before, &self.core);
         self.procedures.audit(&mut pass.ran);
         self.procedures.add(&mut pass.ran, 1);
         pass.procedures += 1;
@@ -299,7 +334,7 @@ impl<U: Unit, C: CallLedger, P: Ledger, F: Ledger, R: Record<U>, Q: Receipts<U::
     /// Raises the clock to t, if it is lower, and answers the clock, as `Core::tick` does.
     ///
     /// Refused as `Finalized`; where the number of calls is fixed `NumbersSpent`, and else `OutOfMemory`.
-    pub fn tick(&mut self, t: u64) -> Result<u64, Refusal>
+    pub fn tick(&mut self, front: &mut Front<U::Value, C>, t: u64) -> Result<u64, Refusal>
         ensures after { OnOk result (self.new ≡ record self.old {
           object = after_action U.meaning self.old.object (Event.Tick t);
         }) }
@@ -312,17 +347,22 @@ impl<U: Unit, C: CallLedger, P: Ledger, F: Ledger, R: Record<U>, Q: Receipts<U::
         ensures refused { IfErr result (MayRefuse self.old.capacity (tick_refusal self.old)) }
         // The number of calls is fixed exactly where the record is that of a bounded core.
         ensures kind { is_some self.old.capacity ≡ R.is_bounded }
-        ensures unchanged { OnErr result (self.new ≡ self.old) }
+        // The tick stands in the history of the object, behind all that was seen before.
+        ensures ticked { IfOk result (λ clock. IsFound (λ setup. IsTicked U.meaning setup t clock front.old front.new) C.setup) }
+        ensures unchanged { OnErr result ((self.new ≡ self.old) × (front.new ≡ front.old)) }
     {
         self.core.recall_kind();
+        let before = Snapshot::of(&self.core);
         let clock = self.core.tick(t)?;
+        self.core.headline();
+        go_on(&mut self.log, front, &before, &self.core);
         Ok(clock)
     }
 
     /// Finalizes the object (9.4), as `Core::finalize` does. No memory is taken.
     ///
     /// Refused as `Finalized`.
-    pub fn finalize(&mut self) -> Result<(), Refusal>
+    pub fn finalize(&mut self, front: &mut Front<U::Value, C>) -> Result<(), Refusal>
         ensures after { OnOk result (self.new ≡ record self.old {
           object = after_action U.meaning self.old.object Event.Final;
         }) }
@@ -333,16 +373,25 @@ impl<U: Unit, C: CallLedger, P: Ledger, F: Ledger, R: Record<U>, Q: Receipts<U::
         ensures refused { MatchResult result
             (λ _. finalized_refusal self.old.object ≡ None)
             (λ r. finalized_refusal self.old.object ≡ Some r) }
-        ensures unchanged { OnErr result (self.new ≡ self.old) }
+        // The end stands in the history of the object, behind all that was seen before.
+        ensures finalized { OnOk result (IsFound (λ setup. Stands U.meaning setup Event.Final front.old front.new) C.setup) }
+        ensures unchanged { OnErr result ((self.new ≡ self.old) × (front.new ≡ front.old)) }
     {
+        let before = Snapshot::of(&self.core);
         self.core.finalize()?;
+        self.core.headline();
+        go_on(&mut self.log, front, &before, &self.core);
         Ok(())
     }
 
     /// Attempts to cancel the seat's earliest queued call (9.5.3, 9.5.4), as `Core::cancel` does. No memory is taken.
     ///
     /// Refused as `NoCall`, where no call of the seat is queued.
-    pub fn abort_seat(&mut self, seat: u16) -> Result<Aborted, Refusal>
+    pub fn abort_seat(
+        &mut self,
+        front: &mut Front<U::Value, C>,
+        seat: u16,
+    ) -> Result<Aborted, Refusal>
         ensures found { IfOk result (λ aborted. IsFound (λ x.
             (aborted ≡ abort_answer self.old.object x.number)
             × (self.new ≡ record self.old { object = after_abort U.meaning self.old.object x.number })
@@ -350,23 +399,71 @@ impl<U: Unit, C: CallLedger, P: Ledger, F: Ledger, R: Record<U>, Q: Receipts<U::
             (find (is_of seat) self.old.object.state.waiting)) }
         ensures volumes { OnOk result (KeepsVolumes U.meaning self.old.object self.new.object) }
         ensures refused { IfErr result (λ r. (r ≡ Refusal.NoCall) × (find (is_of seat) self.old.object.state.waiting ≡ None)) }
-        ensures unchanged { OnErr result (self.new ≡ self.old) }
+        // It came to this at a moment of the history of the object, behind all that was seen before.
+        ensures aborted { IfOk result (λ aborted. IsFound (λ setup. IsAborted U.meaning setup seat aborted front.old front.new) C.setup) }
+        ensures unchanged { OnErr result ((self.new ≡ self.old) × (front.new ≡ front.old)) }
     {
         self.core.headline();
         let Some(ticket) = self.latest.waiting_of(&self.core, seat) else {
             return Err(Refusal::NoCall);
         };
+        let before = Snapshot::of(&self.core);
         let aborted = self.core.cancel(ticket)?;
+        self.core.headline();
+        go_on(&mut self.log, front, &before, &self.core);
         Ok(aborted)
     }
 
-    /// The core, and the parts of the ledgers that no pass holds.
-    pub(crate) fn take_apart(self) -> (Core<U, R>, Book<C>, Book<P>, Share<C>, Share<P>)
+    /// What a function gives (9.5.1), as `Core::read` says, and the history of the object up to now.
+    ///
+    /// Refused as `NoSuchOperation` and `Finalized`.
+    pub fn read(
+        &self,
+        op: u16,
+        value: U::Value,
+    ) -> Result<(Result<U::Value, u32>, Front<U::Value, C>), Refusal>
+        // It gives this where that history ends.
+        ensures read { IfOk result (λ r. IsFound (λ setup. IsReadAt U.meaning setup op value r.0 [] r.1) C.setup) }
+        ensures refused { IfErr result IsFunctionRefusal }
+    {
+        self.core.headline();
+        let reply = read_now(&self.core, op, value)?;
+        Ok((reply, self.log.show()))
+    }
+
+    /// How many calls are queued on an entry (9.9), as `Core::count` says, and the history of the object up to now.
+    ///
+    /// Refused as `NoSuchEntry` and `BadIndex`.
+    pub fn count(&self, entry: EntryRef) -> Result<(u64, Front<U::Value, C>), Refusal>
+        // So many are queued where that history ends.
+        ensures count { IfOk result (λ r. IsFound (λ setup. IsCountAt U.meaning setup (entry_of C.shape entry) r.0 [] r.1) C.setup) }
+        ensures refused { MatchResult result
+            (λ _. if_unindexed (flat_number C.shape entry) None ≡ None)
+            (λ r. if_unindexed (flat_number C.shape entry) None ≡ Some r) }
+    {
+        self.core.headline();
+        let count = self.core.count(entry)?;
+        Ok((count, self.log.show()))
+    }
+
+    /// The core, the parts of the ledgers that no pass holds, and the log.
+    pub(crate) fn take_apart(
+        self,
+    ) -> (
+        Core<U, R>,
+        Book<C>,
+        Book<P>,
+        Share<C>,
+        Share<P>,
+        Log<U::Value, C>,
+    )
         ensures core { result.0 ≡ self }
         ensures totals { IsCounted result.0.object result.1.total result.2.total }
         ensures parts { (result.3.parts ≡ 1) × (result.4.parts ≡ 1) }
         ensures amounts { (result.3.amount ≡ 0) × (result.4.amount ≡ 0) }
-        ensures asked { (seats : ℕ) → C.parts ≡ seats + 1 → AskedBySeats seats result.0.object.events }
+        ensures log { IsWholeLog U.meaning result.0.object result.5 }
+        ensures ends { C.end_of ≡ end_in U.meaning result.0.object.setup }
+        ensures asked { (seats : ℕ) → C.parts ≡ seats + 1 → AskedBySeats seats result.5 }
     {
         let LockedCore {
             core,
@@ -377,9 +474,24 @@ impl<U: Unit, C: CallLedger, P: Ledger, F: Ledger, R: Record<U>, Q: Receipts<U::
             last_calls,
             last_procedures,
             latest: _latest,
+            log,
         } = self;
-        (core, calls, procedures, last_calls, last_procedures)
+        (core, calls, procedures, last_calls, last_procedures, log)
     }
+}
+
+/// What a function gives now, if the unit has it.
+fn read_now<U: Unit, R: Record<U>>(
+    core: &Core<U, R>,
+    op: u16,
+    value: U::Value,
+) -> Result<Result<U::Value, u32>, Refusal>
+    ensures reply { IfOk result (λ reply. reply ≡
+        U.meaning.function core.now.object.state.unit op value (counts_in U.meaning core.now.object.state)) }
+    ensures has { OnOk result (op < U.meaning.functions core.now.object.state.unit) }
+    ensures refused { IfErr result IsFunctionRefusal }
+{
+    core.read(op, value)
 }
 
 /// The flat number of the entry that an accepted call names.

@@ -1,17 +1,20 @@
 //! An object that threads share: its core behind a lock, and where the callers of its seats wait.
 
-ghost use Rattle.std.specs.Prelude.{◌≡◌, ◌+◌, ◌≤◌, None, Some, IfOk, IfErr, IfSome, OnOk, OnErr, IsSome};
+ghost use Rattle.std.specs.Prelude.{◌≡◌, ◌+◌, ◌≤◌, List, [], None, Some, IfOk, IfErr, IfSome, OnOk, OnErr, IsSome};
 ghost use Rattle.po_unit.specs.Numbering.{flat_number};
 ghost use Rattle.po_calls.specs.declared.call.Deadline.TheVariants.{Never, At};
+ghost use Rattle.po_history.specs.declared.event.Event.{Event};
+ghost use Rattle.po_engine.specs.Finding.{IsFound};
 ghost use Rattle.po_core.specs.Commands.{entry_of};
 ghost use Rattle.po_core.specs.Refusals.{entry_refusal, if_unindexed};
 ghost use Rattle.po_core.specs.declared.refusal.Refusal.{Refusal};
 ghost use Rattle.po_receipts.specs.Answers.{AskedBySeats};
+ghost use Rattle.po_receipts.specs.OneHistory.{Stands, HasEnded, IsAnswered, IsTicked, IsReadAt, IsCountAt, IsAborted, IsCutOff};
 ghost use Rattle.po_object.specs.Filing.{IsFinished, IsCalled, running};
-ghost use Rattle.po_object.specs.Replies.{IsFunctionReply, IsProcedureReply, IsTickReply, IsFinalReply, IsAbortReply, IsCountReply};
 ghost use Rattle.po_object.specs.Refused.{IsCallRefusal, IsProcedureRefusal, IsFunctionRefusal, IsTickRefusal, IsCutRefusal};
 
-use crate::ledgers::{CallLedger, SeatParts};
+use crate::front::Front;
+use crate::ledgers::{SeatParts, Story};
 use crate::seat::{Seat, Sleepers};
 use crate::steps::{Step, Steps, Taken, Unasked};
 use crate::{LockedCore, Pass};
@@ -31,7 +34,7 @@ use std::sync::{RwLock, RwLockReadGuard, RwLockWriteGuard, Wait};
 #[derive(Drop)]
 pub struct Object<
     U: Unit,
-    C: CallLedger,
+    C: Story<U>,
     P: Ledger,
     F: Ledger = C,
     R: Record<U> = Recorded<U>,
@@ -44,6 +47,7 @@ pub struct Object<
     pub(crate) procedures: SeatParts<P>,
     pub(crate) room: Vec<ClosedPass<U::Value, Q>>,
     pub(crate) counts: Vec<usize>,
+    pub(crate) opening: Front<<U as Unit>::Value, C>,
     pub(crate) steps: S,
 }
 
@@ -60,14 +64,14 @@ pub type BoundedObject<U, C, P, F> = Object<
 
 impl<
     U: Unit,
-    C: CallLedger,
+    C: Story<U>,
     P: Ledger,
     F: Ledger,
     R: Record<U>,
     Q: Receipts<U::Value>,
     S: Steps,
 > Model for Object<U, C, P, F, R, Q, S> {
-    ghost use Rattle.std.specs.Prelude.{◌≡◌, ℕ, vec_len};
+    ghost use Rattle.std.specs.Prelude.{◌≡◌, ℕ, [], vec_len};
 
     ghost Value = { ℕ };
 
@@ -78,10 +82,11 @@ impl<
       procedures : o.procedures.seats ≡ vec_len o.seats;
       room : vec_len o.room ≡ vec_len o.seats;
       counts : vec_len o.counts ≡ vec_len o.seats;
+      opening : o.opening ≡ [];
     } };
 }
 
-impl<U: Unit + Drop, C: CallLedger, P: Ledger, F: Ledger, Q: Receipts<U::Value>, S: Steps> Object<
+impl<U: Unit + Drop, C: Story<U>, P: Ledger, F: Ledger, Q: Receipts<U::Value>, S: Steps> Object<
     U,
     C,
     P,
@@ -94,20 +99,38 @@ impl<U: Unit + Drop, C: CallLedger, P: Ledger, F: Ledger, Q: Receipts<U::Value>,
     ///
     /// Refused as `NumbersSpent` and `OutOfMemory`, also on a finalized object.
     pub fn cut<W: Wait>(&self, rt: &W) -> Result<Volume<U::Value>, Refusal>
+        ensures cut_off { IfOk result (λ volume. (log : List (Event U.Value))
+            × IsFound (λ setup. IsCutOff U.meaning setup volume [] log) C.setup) }
         // Seats of this object alone asked for the calls and procedures that are in the volume.
         ensures asked { IfOk result (λ volume. AskedBySeats self.now volume.events) }
         ensures refused { IfErr result IsCutRefusal }
     {
+        let mut front = self.front();
+        self.cut_after(rt, &mut front)
+    }
+
+    /// As `cut`, behind all that the front has seen. What it then sees is the history up to this cut.
+    ///
+    /// Refused as `cut` is.
+    pub fn cut_after<W: Wait>(
+        &self,
+        rt: &W,
+        front: &mut Front<U::Value, C>,
+    ) -> Result<Volume<U::Value>, Refusal>
+        ensures cut_off { IfOk result (λ volume. IsFound (λ setup. IsCutOff U.meaning setup volume front.old front.new) C.setup) }
+        ensures asked { IfOk result (λ volume. AskedBySeats self.now volume.events) }
+        ensures refused { IfErr result IsCutRefusal }
+        ensures unchanged { OnErr result (front.new ≡ front.old) }
+    {
         self.recall_parts();
         let mut taken = self.change(rt);
-        let volume = taken.locked.cut()?;
-        Ok(volume)
+        taken.locked.cut(front)
     }
 }
 
 impl<
     U: Unit,
-    C: CallLedger,
+    C: Story<U>,
     P: Ledger,
     F: Ledger,
     R: Record<U>,
@@ -119,6 +142,13 @@ impl<
         ensures { result ≡ self.now }
     {
         self.calls.seats
+    }
+
+    /// A view of the history from which nothing was seen yet: for a thread that has no seat.
+    pub fn front(&self) -> Front<U::Value, C>
+        ensures { result ≡ [] }
+    {
+        self.opening.again()
     }
 
     /// Calls an entry (9.5.3), and waits for the end of the call.
@@ -133,6 +163,8 @@ impl<
     ) -> Result<End<U::Value>, Refusal>
         requires { pass.old.pending ≡ None }
         ensures called { IfOk result (λ end. IsCalled pass.old (entry_of C.shape entry) value Never end pass.new) }
+        ensures answered { IfOk result (λ end. IsFound (λ setup. IsAnswered U.meaning setup
+            pass.old.seat (entry_of C.shape entry) value Never end pass.old.seen pass.new.seen) C.setup) }
         ensures allowed { OnOk result (entry_refusal C.shape entry None ≡ None) }
         ensures refused { IfErr result (IsCallRefusal R.is_bounded C.shape entry) }
         ensures unchanged { OnErr result (pass.new ≡ pass.old) }
@@ -152,6 +184,8 @@ impl<
     ) -> Result<End<U::Value>, Refusal>
         requires { pass.old.pending ≡ None }
         ensures called { IfOk result (λ end. IsCalled pass.old (entry_of C.shape entry) value (At 0) end pass.new) }
+        ensures answered { IfOk result (λ end. IsFound (λ setup. IsAnswered U.meaning setup
+            pass.old.seat (entry_of C.shape entry) value (At 0) end pass.old.seen pass.new.seen) C.setup) }
         ensures allowed { OnOk result (entry_refusal C.shape entry None ≡ None) }
         ensures refused { IfErr result (IsCallRefusal R.is_bounded C.shape entry) }
         ensures unchanged { OnErr result (pass.new ≡ pass.old) }
@@ -173,6 +207,8 @@ impl<
     ) -> Result<End<U::Value>, Refusal>
         requires { pass.old.pending ≡ None }
         ensures called { IfOk result (λ end. IsCalled pass.old (entry_of C.shape entry) value (At deadline) end pass.new) }
+        ensures answered { IfOk result (λ end. IsFound (λ setup. IsAnswered U.meaning setup
+            pass.old.seat (entry_of C.shape entry) value (At deadline) end pass.old.seen pass.new.seen) C.setup) }
         ensures allowed { OnOk result (entry_refusal C.shape entry None ≡ None) }
         ensures refused { IfErr result (IsCallRefusal R.is_bounded C.shape entry) }
         ensures unchanged { OnErr result (pass.new ≡ pass.old) }
@@ -191,8 +227,9 @@ impl<
         value: U::Value,
     ) -> Result<Result<U::Value, u32>, Refusal>
         requires { pass.old.pending ≡ None }
-        ensures reply { IfOk result (λ reply. IsProcedureReply U.meaning op value reply) }
-        ensures ran { IfOk result (λ reply. pass.new ≡ running pass.old op value reply) }
+        ensures filed { IfOk result (λ reply. pass.new ≡ running pass.old op value reply pass.new.seen) }
+        ensures ran { IfOk result (λ reply. IsFound (λ setup. Stands U.meaning setup
+            (Event.Ran pass.old.seat op value reply) pass.old.seen pass.new.seen) C.setup) }
         ensures refused { IfErr result (IsProcedureRefusal R.is_bounded) }
         ensures unchanged { OnErr result (pass.new ≡ pass.old) }
     {
@@ -213,10 +250,27 @@ impl<
         op: u16,
         value: U::Value,
     ) -> Result<Result<U::Value, u32>, Refusal>
-        ensures reply { IfOk result (λ reply. IsFunctionReply U.meaning op value reply) }
+        ensures read { IfOk result (λ reply. (log : List (Event U.Value))
+            × IsFound (λ setup. IsReadAt U.meaning setup op value reply [] log) C.setup) }
         ensures refused { IfErr result IsFunctionRefusal }
     {
-        self.look(rt).locked.core().read(op, value)
+        let (reply, _front) = self.function_seen(rt, op, value)?;
+        Ok(reply)
+    }
+
+    /// As `function`, with the history up to the moment at which the function gives this.
+    ///
+    /// Refused as `Core::read` is.
+    pub fn function_seen<W: Wait>(
+        &self,
+        rt: &W,
+        op: u16,
+        value: U::Value,
+    ) -> Result<(Result<U::Value, u32>, Front<U::Value, C>), Refusal>
+        ensures read { IfOk result (λ r. IsFound (λ setup. IsReadAt U.meaning setup op value r.0 [] r.1) C.setup) }
+        ensures refused { IfErr result IsFunctionRefusal }
+    {
+        self.look(rt).locked.read(op, value)
     }
 
     /// Raises the clock to t, if it is lower, and answers the clock.
@@ -224,11 +278,30 @@ impl<
     /// Refused as `Core::tick` is.
     pub fn tick<W: Wait>(&self, rt: &W, t: u64) -> Result<u64, Refusal>
         ensures raised { IfOk result (λ clock. t ≤ clock) }
-        ensures reply { IfOk result (λ clock. IsTickReply U.meaning t clock) }
+        ensures ticked { IfOk result (λ clock. (log : List (Event U.Value))
+            × IsFound (λ setup. IsTicked U.meaning setup t clock [] log) C.setup) }
         ensures refused { IfErr result (IsTickRefusal R.is_bounded) }
     {
+        let mut front = self.front();
+        self.tick_after(rt, &mut front, t)
+    }
+
+    /// As `tick`, behind all that the front has seen. What it then sees is the history up to this tick.
+    ///
+    /// Refused as `Core::tick` is.
+    pub fn tick_after<W: Wait>(
+        &self,
+        rt: &W,
+        front: &mut Front<U::Value, C>,
+        t: u64,
+    ) -> Result<u64, Refusal>
+        ensures raised { IfOk result (λ clock. t ≤ clock) }
+        ensures ticked { IfOk result (λ clock. IsFound (λ setup. IsTicked U.meaning setup t clock front.old front.new) C.setup) }
+        ensures refused { IfErr result (IsTickRefusal R.is_bounded) }
+        ensures unchanged { OnErr result (front.new ≡ front.old) }
+    {
         let mut taken = self.change(rt);
-        let clock = taken.locked.tick(t)?;
+        let clock = taken.locked.tick(front, t)?;
         let sleepers = self.tell(&taken.locked, None);
         drop(taken);
         self.wake(&sleepers);
@@ -239,11 +312,28 @@ impl<
     ///
     /// Refused as `Core::finalize` is.
     pub fn finalize<W: Wait>(&self, rt: &W) -> Result<(), Refusal>
-        ensures reply { OnOk result (IsFinalReply U.meaning) }
+        ensures finalized { OnOk result ((log : List (Event U.Value))
+            × IsFound (λ setup. Stands U.meaning setup Event.Final [] log) C.setup) }
         ensures refused { IfErr result (λ r. r ≡ Refusal.Finalized) }
     {
+        let mut front = self.front();
+        self.finalize_after(rt, &mut front)
+    }
+
+    /// As `finalize`, behind all that the front has seen. What it then sees is the history up to this end.
+    ///
+    /// Refused as `Core::finalize` is.
+    pub fn finalize_after<W: Wait>(
+        &self,
+        rt: &W,
+        front: &mut Front<U::Value, C>,
+    ) -> Result<(), Refusal>
+        ensures finalized { OnOk result (IsFound (λ setup. Stands U.meaning setup Event.Final front.old front.new) C.setup) }
+        ensures refused { IfErr result (λ r. r ≡ Refusal.Finalized) }
+        ensures unchanged { OnErr result (front.new ≡ front.old) }
+    {
         let mut taken = self.change(rt);
-        taken.locked.finalize()?;
+        taken.locked.finalize(front)?;
         let sleepers = self.tell(&taken.locked, None);
         drop(taken);
         self.wake(&sleepers);
@@ -254,11 +344,29 @@ impl<
     ///
     /// Refused as `NoCall`, where no call of the seat is queued.
     pub fn abort_seat<W: Wait>(&self, rt: &W, seat: u16) -> Result<Aborted, Refusal>
-        ensures reply { IfOk result (λ aborted. IsAbortReply U.meaning seat aborted) }
+        ensures aborted { IfOk result (λ aborted. (log : List (Event U.Value))
+            × IsFound (λ setup. IsAborted U.meaning setup seat aborted [] log) C.setup) }
         ensures refused { IfErr result (λ r. r ≡ Refusal.NoCall) }
     {
+        let mut front = self.front();
+        self.abort_seat_after(rt, &mut front, seat)
+    }
+
+    /// As `abort_seat`, behind all that the front has seen. What it then sees is the history up to this attempt.
+    ///
+    /// Refused as `NoCall`, where no call of the seat is queued.
+    pub fn abort_seat_after<W: Wait>(
+        &self,
+        rt: &W,
+        front: &mut Front<U::Value, C>,
+        seat: u16,
+    ) -> Result<Aborted, Refusal>
+        ensures aborted { IfOk result (λ aborted. IsFound (λ setup. IsAborted U.meaning setup seat aborted front.old front.new) C.setup) }
+        ensures refused { IfErr result (λ r. r ≡ Refusal.NoCall) }
+        ensures unchanged { OnErr result (front.new ≡ front.old) }
+    {
         let mut taken = self.change(rt);
-        let aborted = taken.locked.abort_seat(seat)?;
+        let aborted = taken.locked.abort_seat(front, seat)?;
         let sleepers = self.tell(&taken.locked, None);
         drop(taken);
         self.wake(&sleepers);
@@ -270,12 +378,31 @@ impl<
     ///
     /// Refused as `Core::count` is.
     pub fn try_count(&self, entry: EntryRef) -> Result<Option<u64>, Refusal>
-        ensures reply { IfOk result (λ count. IfSome count (λ n. IsCountReply U.meaning (entry_of C.shape entry) n)) }
+        ensures count { IfOk result (λ count. IfSome count (λ n. (log : List (Event U.Value))
+            × IsFound (λ setup. IsCountAt U.meaning setup (entry_of C.shape entry) n [] log) C.setup)) }
+        ensures allowed { IfOk result (λ count. IsSome count → if_unindexed (flat_number C.shape entry) None ≡ None) }
+        ensures refused { IfErr result (λ r. if_unindexed (flat_number C.shape entry) None ≡ Some r) }
+    {
+        match self.try_count_seen(entry)? {
+            Some((count, _front)) => Ok(Some(count)),
+            None => Ok(None),
+        }
+    }
+
+    /// As `try_count`, with the history up to the moment at which so many calls are queued.
+    ///
+    /// Refused as `Core::count` is.
+    pub fn try_count_seen(
+        &self,
+        entry: EntryRef,
+    ) -> Result<Option<(u64, Front<U::Value, C>)>, Refusal>
+        ensures count { IfOk result (λ count. IfSome count (λ r. IsFound (λ setup.
+            IsCountAt U.meaning setup (entry_of C.shape entry) r.0 [] r.1) C.setup)) }
         ensures allowed { IfOk result (λ count. IsSome count → if_unindexed (flat_number C.shape entry) None ≡ None) }
         ensures refused { IfErr result (λ r. if_unindexed (flat_number C.shape entry) None ≡ Some r) }
     {
         match self.try_look() {
-            Some(taken) => Ok(Some(taken.locked.core().count(entry)?)),
+            Some(taken) => Ok(Some(taken.locked.count(entry)?)),
             None => Ok(None),
         }
     }
@@ -333,6 +460,8 @@ impl<
     ) -> Result<End<U::Value>, Refusal>
         requires { pass.old.pending ≡ None }
         ensures called { IfOk result (λ end. IsCalled pass.old (entry_of C.shape entry) value deadline end pass.new) }
+        ensures answered { IfOk result (λ end. IsFound (λ setup. IsAnswered U.meaning setup
+            pass.old.seat (entry_of C.shape entry) value deadline end pass.old.seen pass.new.seen) C.setup) }
         ensures allowed { OnOk result (entry_refusal C.shape entry None ≡ None) }
         ensures refused { IfErr result (IsCallRefusal R.is_bounded C.shape entry) }
         ensures unchanged { OnErr result (pass.new ≡ pass.old) }
@@ -354,7 +483,9 @@ impl<
     /// Waits for the end of the pending call. Nothing is locked in the meantime.
     fn wait<W: Wait>(&self, rt: &W, pass: &mut Pass<U::Value, C, P, F, Q>) -> End<U::Value>
         requires { IsSome pass.old.pending }
-        ensures { IsFinished pass.old result pass.new }
+        ensures finished { IsFinished pass.old result pass.new }
+        ensures ended { IfSome pass.old.pending (λ asked. IsFound (λ setup. HasEnded U.meaning setup
+            asked.ticket.number result pass.old.seen pass.new.seen) C.setup) }
     {
         for _ in rt.forever() {
             if !self.look_for_end(pass.seat()) {

@@ -2,21 +2,24 @@
 
 ghost use Rattle.std.specs.Prelude.{◌≡◌, ◌≢◌, ◌+◌, ◌≤◌, [], true, false, IfOk, IfErr, IfSome, OnOk, MatchResult, is_some, option_map, vec_len, vec_capacity};
 ghost use Rattle.po_core.specs.View.{next_place};
+ghost use Rattle.po_object.specs.Stories.{IsStory};
 ghost use Rattle.po_object.specs.Seats.{AreFresh};
 ghost use Rattle.po_object.specs.Faults.{HandsBack, IsWhy};
 ghost use Rattle.po_object.specs.LatestCalls.{NoneIssued};
 ghost use Rattle.po_object.specs.Reservations.{reserved};
 
 use crate::fault::{BoundedOpenFault, OpenFault};
+use crate::front::{Front, Log};
 use crate::latest::LatestCalls;
-use crate::ledgers::{CallLedger, SeatParts};
+use crate::ledgers::{CallLedger, SeatParts, Story};
 use crate::object::Object;
 use crate::reservation::{Reservations, Unreserved};
 use crate::seat::Seat;
 use crate::steps::{Steps, Unasked};
 use crate::{LockedCore, Pass};
 use crossbeam_utils::sync::Parker;
-use po_core::{Core, Record};
+use po_core::{Core, Event, Record};
+use po_log::Keeper;
 use po_receipts::{ClosedPass, Receipts};
 use po_unit::Unit;
 use std::alloc::{AllocError, Global};
@@ -24,7 +27,7 @@ use std::marker::PhantomData;
 use std::sync::RwLock;
 use std::sync::ledger::{Blank, Ledger, Share};
 
-impl<U: Unit, C: CallLedger, P: Ledger, F: Ledger, R: Record<U>, Q: Receipts<U::Value>> Object<
+impl<U: Unit, C: Story<U>, P: Ledger, F: Ledger, R: Record<U>, Q: Receipts<U::Value>> Object<
     U,
     C,
     P,
@@ -34,34 +37,37 @@ impl<U: Unit, C: CallLedger, P: Ledger, F: Ledger, R: Record<U>, Q: Receipts<U::
 > {
     /// Opens an object over a core that has no event, with so many seats, and hands out a pass for each.
     ///
-    /// A fault hands the core and the blanks back: 1 where the core has, or had before a cut, an event, and 2.
+    /// The log is a new one, which the ledger of calls names. A fault hands the core, the blanks and the log back: 1 where the core has, or had before a cut, an event, and 2.
     pub fn open(
         alloc: Global,
         core: Core<U, R>,
         seats: u16,
         calls: Blank,
         procedures: Blank,
+        log: Keeper<Event<U::Value>>,
     ) -> Result<(Object<U, C, P, F, R, Q>, Vec<Pass<U::Value, C, P, F, Q>>), OpenFault<U, R>>
         // Each ledger has a part for each seat, and one for the object.
         requires calls { (calls.name ≡ C.name) × (calls.parts ≡ C.parts) × (calls.parts ≡ seats + 1) }
         requires procedures { (procedures.name ≡ P.name) × (procedures.parts ≡ P.parts) × (procedures.parts ≡ seats + 1) }
         requires shape { core.object.setup.shape ≡ C.shape }
+        requires story { IsStory U.meaning core.object.setup C.setup C.end_of }
+        requires log { (log.name ≡ C.log) × (log.items ≡ []) }
         // Memory is taken for each call.
         requires unbounded { (Q.is_bounded ≡ false) × (R.is_bounded ≡ false) }
         ensures seats { IfOk result (λ r. r.0 ≡ seats) }
         ensures fresh { IfOk result (λ r. AreFresh seats r.1.items) }
         ensures core { OnOk result (next_place core.object ≡ core.object.setup.first_place) }
-        ensures fault { IfErr result (λ fault. HandsBack core calls procedures fault) }
+        ensures fault { IfErr result (λ fault. HandsBack core calls procedures log fault) }
     {
         Object::<U, C, P, F, R, Q, Unasked>::open_with(
-            alloc, core, seats, calls, procedures, Unasked,
+            alloc, core, seats, calls, procedures, log, Unasked,
         )
     }
 
     /// Opens an object over a core that has no event and takes no memory, with so many seats, and hands out a pass for each.
     /// No call of the object takes memory later.
     ///
-    /// A fault hands the core and the blanks back: 1 where the core has an event, and 2.
+    /// The log is a new one, which the ledger of calls names. A fault hands the core, the blanks and the log back: 1 where the core has an event, and 2.
     pub fn open_bounded(
         alloc: Global,
         core: Core<U, R>,
@@ -69,29 +75,32 @@ impl<U: Unit, C: CallLedger, P: Ledger, F: Ledger, R: Record<U>, Q: Receipts<U::
         calls: Blank,
         procedures: Blank,
         free: Blank,
+        log: Keeper<Event<U::Value>>,
     ) -> Result<(Object<U, C, P, F, R, Q>, Vec<Pass<U::Value, C, P, F, Q>>), BoundedOpenFault<U, R>>
         // Each ledger has a part for each seat, and one for the object.
         requires calls { (calls.name ≡ C.name) × (calls.parts ≡ C.parts) × (calls.parts ≡ seats + 1) }
         requires procedures { (procedures.name ≡ P.name) × (procedures.parts ≡ P.parts) × (procedures.parts ≡ seats + 1) }
         requires free { (free.name ≡ F.name) × (free.parts ≡ F.parts) × (free.parts ≡ seats + 1) }
         requires shape { core.object.setup.shape ≡ C.shape }
+        requires story { IsStory U.meaning core.object.setup C.setup C.end_of }
+        requires log { (log.name ≡ C.log) × (log.items ≡ []) }
         // All memory was taken before, and there is some for a call of each seat.
         requires bounded { (Q.is_bounded ≡ true) × (R.is_bounded ≡ true) }
         requires room { IfSome core.capacity (λ most. seats ≤ most) }
         ensures seats { IfOk result (λ r. r.0 ≡ seats) }
         ensures fresh { IfOk result (λ r. AreFresh seats r.1.items) }
         ensures core { OnOk result (next_place core.object ≡ core.object.setup.first_place) }
-        ensures fault { IfErr result (λ fault. HandsBack core calls procedures fault.fault × (fault.free ≡ free)) }
+        ensures fault { IfErr result (λ fault. HandsBack core calls procedures log fault.fault × (fault.free ≡ free)) }
     {
         Object::<U, C, P, F, R, Q, Unasked>::open_bounded_with(
-            alloc, core, seats, calls, procedures, free, Unasked,
+            alloc, core, seats, calls, procedures, free, log, Unasked,
         )
     }
 }
 
 impl<
     U: Unit,
-    C: CallLedger,
+    C: Story<U>,
     P: Ledger,
     F: Ledger,
     R: Record<U>,
@@ -105,26 +114,31 @@ impl<
         seats: u16,
         calls: Blank,
         procedures: Blank,
+        log: Keeper<Event<U::Value>>,
         steps: S,
     ) -> Result<(Object<U, C, P, F, R, Q, S>, Vec<Pass<U::Value, C, P, F, Q>>), OpenFault<U, R>>
         // Each ledger has a part for each seat, and one for the object.
         requires calls { (calls.name ≡ C.name) × (calls.parts ≡ C.parts) × (calls.parts ≡ seats + 1) }
         requires procedures { (procedures.name ≡ P.name) × (procedures.parts ≡ P.parts) × (procedures.parts ≡ seats + 1) }
         requires shape { core.object.setup.shape ≡ C.shape }
+        requires story { IsStory U.meaning core.object.setup C.setup C.end_of }
+        requires log { (log.name ≡ C.log) × (log.items ≡ []) }
         // Memory is taken for each call.
         requires unbounded { (Q.is_bounded ≡ false) × (R.is_bounded ≡ false) }
         ensures seats { IfOk result (λ r. r.0 ≡ seats) }
         ensures fresh { IfOk result (λ r. AreFresh seats r.1.items) }
         ensures core { OnOk result (next_place core.object ≡ core.object.setup.first_place) }
-        ensures fault { IfErr result (λ fault. HandsBack core calls procedures fault) }
+        ensures fault { IfErr result (λ fault. HandsBack core calls procedures log fault) }
     {
         core.recall_kind();
         match Prepared::make(alloc, &core, seats) {
             Ok(places) => {
                 let free = Reservations::without();
-                Ok(open_over(alloc, core, seats, calls, procedures, free, places, steps))
+                Ok(open_over(
+                    alloc, core, seats, calls, procedures, free, log, places, steps,
+                ))
             }
-            Err(why) => Err(why.with(core, calls, procedures)),
+            Err(why) => Err(why.with(core, calls, procedures, log)),
         }
     }
 
@@ -136,6 +150,7 @@ impl<
         calls: Blank,
         procedures: Blank,
         free: Blank,
+        log: Keeper<Event<U::Value>>,
         steps: S,
     ) -> Result<
         (Object<U, C, P, F, R, Q, S>, Vec<Pass<U::Value, C, P, F, Q>>),
@@ -146,21 +161,25 @@ impl<
         requires procedures { (procedures.name ≡ P.name) × (procedures.parts ≡ P.parts) × (procedures.parts ≡ seats + 1) }
         requires free { (free.name ≡ F.name) × (free.parts ≡ F.parts) × (free.parts ≡ seats + 1) }
         requires shape { core.object.setup.shape ≡ C.shape }
+        requires story { IsStory U.meaning core.object.setup C.setup C.end_of }
+        requires log { (log.name ≡ C.log) × (log.items ≡ []) }
         // All memory was taken before, and there is some for a call of each seat.
         requires bounded { (Q.is_bounded ≡ true) × (R.is_bounded ≡ true) }
         requires room { IfSome core.capacity (λ most. seats ≤ most) }
         ensures seats { IfOk result (λ r. r.0 ≡ seats) }
         ensures fresh { IfOk result (λ r. AreFresh seats r.1.items) }
         ensures core { OnOk result (next_place core.object ≡ core.object.setup.first_place) }
-        ensures fault { IfErr result (λ fault. HandsBack core calls procedures fault.fault × (fault.free ≡ free)) }
+        ensures fault { IfErr result (λ fault. HandsBack core calls procedures log fault.fault × (fault.free ≡ free)) }
     {
         match Prepared::make(alloc, &core, seats) {
             Ok(places) => {
                 let free = Reservations::open(free);
-                Ok(open_over(alloc, core, seats, calls, procedures, free, places, steps))
+                Ok(open_over(
+                    alloc, core, seats, calls, procedures, free, log, places, steps,
+                ))
             }
             Err(why) => Err(BoundedOpenFault {
-                fault: why.with(core, calls, procedures),
+                fault: why.with(core, calls, procedures, log),
                 free,
             }),
         }
@@ -183,19 +202,20 @@ impl Unopened {
         core: Core<U, R>,
         calls: Blank,
         procedures: Blank,
+        log: Keeper<Event<U::Value>>,
     ) -> OpenFault<U, R>
         requires { IsWhy core self }
-        ensures { HandsBack core calls procedures result }
+        ensures { HandsBack core calls procedures log result }
     {
         match self {
-            Unopened::NotFresh => OpenFault::NotFresh(core, calls, procedures),
-            Unopened::OutOfMemory => OpenFault::OutOfMemory(core, calls, procedures),
+            Unopened::NotFresh => OpenFault::NotFresh(core, calls, procedures, log),
+            Unopened::OutOfMemory => OpenFault::OutOfMemory(core, calls, procedures, log),
         }
     }
 }
 
 /// What an opening takes memory for.
-struct Prepared<V: Copy, C: Ledger, P: Ledger, F: Ledger, Q: Receipts<V>> {
+struct Prepared<V: Copy, C: CallLedger<V>, P: Ledger, F: Ledger, Q: Receipts<V>> {
     /// What the callers sleep on, those of the highest seats first.
     parkers: Vec<Parker>,
     /// The object's ends.
@@ -210,7 +230,7 @@ struct Prepared<V: Copy, C: Ledger, P: Ledger, F: Ledger, Q: Receipts<V>> {
     latest: LatestCalls,
 }
 
-impl<V: Copy, C: Ledger, P: Ledger, F: Ledger, Q: Receipts<V>> Prepared<V, C, P, F, Q> {
+impl<V: Copy, C: CallLedger<V>, P: Ledger, F: Ledger, Q: Receipts<V>> Prepared<V, C, P, F, Q> {
     /// Takes all memory that an object with so many seats over this core needs, if the core has no event.
     fn make<U: Unit, R: Record<U>>(
         alloc: Global,
@@ -237,7 +257,7 @@ impl<V: Copy, C: Ledger, P: Ledger, F: Ledger, Q: Receipts<V>> Prepared<V, C, P,
 }
 
 /// Takes all memory that an object with so many seats needs.
-fn prepare<V: Copy, C: Ledger, P: Ledger, F: Ledger, Q: Receipts<V>>(
+fn prepare<V: Copy, C: CallLedger<V>, P: Ledger, F: Ledger, Q: Receipts<V>>(
     alloc: Global,
     seats: u16,
 ) -> Result<Prepared<V, C, P, F, Q>, AllocError>
@@ -253,12 +273,13 @@ fn prepare<V: Copy, C: Ledger, P: Ledger, F: Ledger, Q: Receipts<V>>(
     let mut room = Vec::new(alloc);
     let mut counts = Vec::new(alloc);
     let mut passes = Vec::new(alloc);
+    let mut nothing = Keeper::open();
     passes.reserve(seats as usize)?;
     for i in 0..seats {
         let parker = Parker::new(alloc)?;
         places.push(Seat::new(parker.unparker().clone()?))?;
         parkers.push(parker)?;
-        room.push(ClosedPass::new(0, 0, 0, None, Q::none(alloc)))?;
+        room.push(ClosedPass::new(0, 0, 0, None, Q::none(alloc), nothing.show()))?;
         counts.push(0)?;
     }
     parkers.reverse();
@@ -275,7 +296,7 @@ fn prepare<V: Copy, C: Ledger, P: Ledger, F: Ledger, Q: Receipts<V>>(
 /// Opens the object, for which all memory is there.
 fn open_over<
     U: Unit,
-    C: CallLedger,
+    C: Story<U>,
     P: Ledger,
     F: Ledger,
     R: Record<U>,
@@ -288,6 +309,7 @@ fn open_over<
     calls: Blank,
     procedures: Blank,
     free: (Reservations<F>, Unreserved<F>),
+    log: Keeper<Event<U::Value>>,
     places: Prepared<U::Value, C, P, F, Q>,
     steps: S,
 ) -> (Object<U, C, P, F, R, Q, S>, Vec<Pass<U::Value, C, P, F, Q>>)
@@ -295,6 +317,8 @@ fn open_over<
     requires calls { (calls.name ≡ C.name) × (calls.parts ≡ C.parts) × (calls.parts ≡ seats + 1) }
     requires procedures { (procedures.name ≡ P.name) × (procedures.parts ≡ P.parts) × (procedures.parts ≡ seats + 1) }
     requires shape { core.object.setup.shape ≡ C.shape }
+    requires story { IsStory U.meaning core.object.setup C.setup C.end_of }
+    requires log { (log.name ≡ C.log) × (log.items ≡ []) }
     requires bounded { Q.is_bounded ≡ R.is_bounded }
     requires free { (free.0 ≡ reserved Q.is_bounded 0) × (free.1 ≡ reserved Q.is_bounded (seats + 1)) }
     requires capacity { IfSome core.capacity (λ most. seats ≤ most) }
@@ -317,11 +341,14 @@ fn open_over<
     let (calls, mut last_calls) = calls.open::<C>();
     let (procedures, mut last_procedures) = procedures.open::<P>();
     let (mut reservations, mut unreserved) = free;
+    let log = Log::open(log);
+    let front = log.show();
     let passes = hand_out(
         alloc,
         seats,
         parkers,
         passes,
+        &front,
         &mut last_calls,
         &mut last_procedures,
         &mut reservations,
@@ -335,9 +362,10 @@ fn open_over<
         last_calls,
         last_procedures,
         latest,
+        log,
     );
     (
-        object_over(locked, seats, places, room, counts, steps),
+        object_over(locked, seats, places, room, counts, front, steps),
         passes,
     )
 }
@@ -345,7 +373,7 @@ fn open_over<
 /// An object with this value behind its lock, these seats, and the room that its closing needs.
 fn object_over<
     U: Unit,
-    C: CallLedger,
+    C: Story<U>,
     P: Ledger,
     F: Ledger,
     R: Record<U>,
@@ -357,12 +385,14 @@ fn object_over<
     places: Vec<Seat>,
     room: Vec<ClosedPass<U::Value, Q>>,
     counts: Vec<usize>,
+    opening: Front<U::Value, C>,
     steps: S,
 ) -> Object<U, C, P, F, R, Q, S>
     requires calls { C.parts ≡ seats + 1 }
     requires procedures { P.parts ≡ seats + 1 }
     requires places { vec_len places ≡ seats }
     requires room { (vec_len room ≡ seats) × (vec_len counts ≡ seats) }
+    requires opening { opening ≡ [] }
     ensures { result ≡ seats }
 {
     Object {
@@ -378,16 +408,18 @@ fn object_over<
         },
         room,
         counts,
+        opening,
         steps,
     }
 }
 
 /// Makes a pass for each seat, with a part of each ledger. Each is free.
-fn hand_out<V: Copy, C: Ledger, P: Ledger, F: Ledger, Q: Receipts<V>>(
+fn hand_out<V: Copy, C: CallLedger<V>, P: Ledger, F: Ledger, Q: Receipts<V>>(
     alloc: Global,
     seats: u16,
     parkers: Vec<Parker>,
     room: Vec<Pass<V, C, P, F, Q>>,
+    front: &Front<V, C>,
     last_calls: &mut Share<C>,
     last_procedures: &mut Share<P>,
     reservations: &mut Reservations<F>,
@@ -399,6 +431,7 @@ fn hand_out<V: Copy, C: Ledger, P: Ledger, F: Ledger, Q: Receipts<V>>(
     requires amounts { (last_calls.old.amount ≡ 0) × (last_procedures.old.amount ≡ 0) }
     requires free { (reservations.old ≡ reserved Q.is_bounded 0) × (unreserved.old ≡ reserved Q.is_bounded (seats + 1)) }
     requires seats { C.parts ≡ seats + 1 }
+    requires front { front.now ≡ [] }
     ensures passes { AreFresh seats result.items }
     ensures parts { (last_calls.new.parts ≡ 1) × (last_procedures.new.parts ≡ 1) }
     ensures amounts { (last_calls.new.amount ≡ 0) × (last_procedures.new.amount ≡ 0) }
@@ -413,7 +446,7 @@ fn hand_out<V: Copy, C: Ledger, P: Ledger, F: Ledger, Q: Receipts<V>>(
         let made = last_calls.split_off(1, 0);
         let ran = last_procedures.split_off(1, 0);
         let own = reservations.reserve(unreserved);
-        passes.push_reserved(Pass::new(seat, made, ran, own, parker, alloc));
+        passes.push_reserved(Pass::new(seat, made, ran, own, parker, front.again(), alloc));
     }
     passes
 }

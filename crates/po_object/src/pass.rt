@@ -1,9 +1,12 @@
 //! What a caller carries.
 
-ghost use Rattle.std.specs.Prelude.{◌≡◌, ◌<◌, ◌≤◌, ◌+◌, ◌↔◌, true, IsSome};
+ghost use Rattle.std.specs.Prelude.{◌≡◌, ◌<◌, ◌≤◌, ◌+◌, ◌↔◌, true, IsSome, []};
 ghost use Rattle.po_receipts.specs.Passes.{PassView, IsTallied, fresh};
+ghost use Rattle.po_receipts.specs.Told.{IsTold, IsToldOf};
 ghost use Rattle.po_object.specs.Reservations.{reserved};
 
+use crate::front::{Front, Log};
+use crate::ledgers::CallLedger;
 use crate::reservation::Reservation;
 use crate::steps::Steps;
 use crossbeam_utils::sync::Parker;
@@ -15,9 +18,16 @@ use std::sync::Wait;
 use std::sync::ledger::{Ledger, Share};
 
 /// The right to call an object from one seat: the opening of the object hands out one for each. It files a receipt of each
-/// call and each procedure that was accepted, in memory or for proofs alone, and can't be copied.
+/// call and each procedure that was accepted, in memory or for proofs alone, and can't be copied. It has seen the history up to
+/// its last answer.
 #[derive(Drop)]
-pub struct Pass<V: Copy, C: Ledger, P: Ledger, F: Ledger = C, Q: Receipts<V> = Vec<Receipt<V>>> {
+pub struct Pass<
+    V: Copy,
+    C: CallLedger<V>,
+    P: Ledger,
+    F: Ledger = C,
+    Q: Receipts<V> = Vec<Receipt<V>>,
+> {
     pub(crate) seat: u16,
     pub(crate) calls: u64,
     pub(crate) procedures: u64,
@@ -27,15 +37,18 @@ pub struct Pass<V: Copy, C: Ledger, P: Ledger, F: Ledger = C, Q: Receipts<V> = V
     pub(crate) pending: Option<Asked<V>>,
     pub(crate) receipts: Q,
     pub(crate) parker: Parker,
+    pub(crate) front: Front<V, C>,
 }
 
 /// A pass whose receipts are known to proofs alone.
 pub type BoundedPass<V, C, P, F> = Pass<V, C, P, F, Trace<Receipt<V>>>;
 
-impl<V: Copy, C: Ledger, P: Ledger, F: Ledger, Q: Receipts<V>> Model for Pass<V, C, P, F, Q> {
+impl<V: Copy, C: CallLedger<V>, P: Ledger, F: Ledger, Q: Receipts<V>> Model
+    for Pass<V, C, P, F, Q> {
     ghost use Rattle.std.specs.Prelude.{◌≡◌, ◌<◌, ◌+◌, IsSome};
     ghost use Rattle.po_object.specs.Reservations.{reserved_for};
     ghost use Rattle.po_receipts.specs.Passes.{PassView, IsTallied};
+    ghost use Rattle.po_receipts.specs.Told.{IsTold};
 
     ghost Value = { PassView V };
 
@@ -45,6 +58,7 @@ impl<V: Copy, C: Ledger, P: Ledger, F: Ledger, Q: Receipts<V>> Model for Pass<V,
       procedures = p.procedures;
       pending = p.pending;
       receipts = Q.items p.receipts;
+      seen = p.front;
     } };
 
     ghost invariant = { λ p. record {
@@ -54,6 +68,15 @@ impl<V: Copy, C: Ledger, P: Ledger, F: Ledger, Q: Receipts<V>> Model for Pass<V,
         procedures = p.procedures;
         pending = p.pending;
         receipts = Q.items p.receipts;
+        seen = p.front;
+      });
+      told : IsTold C.end_of (record {
+        seat = p.seat;
+        calls = p.calls;
+        procedures = p.procedures;
+        pending = p.pending;
+        receipts = Q.items p.receipts;
+        seen = p.front;
       });
       parts : (p.made.parts ≡ 1) × (p.ran.parts ≡ 1);
       amounts : (p.made.amount ≡ p.calls) × (p.ran.amount ≡ p.procedures);
@@ -63,13 +86,14 @@ impl<V: Copy, C: Ledger, P: Ledger, F: Ledger, Q: Receipts<V>> Model for Pass<V,
     } };
 }
 
-impl<V: Copy, C: Ledger, P: Ledger, F: Ledger, Q: Receipts<V>> Pass<V, C, P, F, Q> {
+impl<V: Copy, C: CallLedger<V>, P: Ledger, F: Ledger, Q: Receipts<V>> Pass<V, C, P, F, Q> {
     pub(crate) fn new(
         seat: u16,
         made: Share<C>,
         ran: Share<P>,
         reservation: Reservation<F>,
         parker: Parker,
+        front: Front<V, C>,
         alloc: Global,
     ) -> Pass<V, C, P, F, Q>
         requires parts { (made.parts ≡ 1) × (ran.parts ≡ 1) }
@@ -77,6 +101,7 @@ impl<V: Copy, C: Ledger, P: Ledger, F: Ledger, Q: Receipts<V>> Pass<V, C, P, F, 
         requires reservation { reservation ≡ reserved Q.is_bounded 1 }
         // The ledger has a part for each seat, and one more.
         requires seat { seat + 1 < C.parts }
+        requires front { front ≡ [] }
         ensures { result ≡ fresh seat }
     {
         Pass {
@@ -89,6 +114,7 @@ impl<V: Copy, C: Ledger, P: Ledger, F: Ledger, Q: Receipts<V>> Pass<V, C, P, F, 
             pending: None,
             receipts: Q::none(alloc),
             parker,
+            front,
         }
     }
 
@@ -120,9 +146,18 @@ impl<V: Copy, C: Ledger, P: Ledger, F: Ledger, Q: Receipts<V>> Pass<V, C, P, F, 
         self.pending.is_some()
     }
 
+    /// How far its caller has seen the history of the object, for another one to have who has no seat.
+    pub fn front(&self) -> Front<V, C>
+        ensures { result ≡ self.now.seen }
+    {
+        self.front.again()
+    }
+
     /// There are as many receipts of calls as calls, but for one that is pending, and as many of procedures as procedures.
+    /// In what its caller has seen of the history each receipt says what happened.
     pub fn recall_invariant(&self)
-        ensures { IsTallied self.now }
+        ensures tallied { IsTallied self.now }
+        ensures told { IsTold C.end_of self.now }
     {
         let _ = &self.receipts;
     }
@@ -134,9 +169,16 @@ impl<V: Copy, C: Ledger, P: Ledger, F: Ledger, Q: Receipts<V>> Pass<V, C, P, F, 
         self.pending
     }
 
-    /// Puts the pass's parts of the ledgers to these, and keeps the rest.
-    pub(crate) fn spend(self, made: &mut Share<C>, ran: &mut Share<P>) -> ClosedPass<V, Q>
+    /// Puts the pass's parts of the ledgers to these, and keeps the rest. What its caller was told is of the log.
+    pub(crate) fn spend(
+        self,
+        made: &mut Share<C>,
+        ran: &mut Share<P>,
+        log: &mut Log<V, C>,
+    ) -> ClosedPass<V, Q>
         ensures same { result ≡ self }
+        ensures told { IsToldOf C.end_of log.old self }
+        ensures same_log { log.new ≡ log.old }
         ensures calls { (made.new.parts ≡ made.old.parts + 1) × (made.new.amount ≡ made.old.amount + self.calls) }
         ensures procedures { (ran.new.parts ≡ ran.old.parts + 1) × (ran.new.amount ≡ ran.old.amount + self.procedures) }
         ensures apart { (made.new.parts ≤ C.parts) × (ran.new.parts ≤ P.parts) }
@@ -151,10 +193,13 @@ impl<V: Copy, C: Ledger, P: Ledger, F: Ledger, Q: Receipts<V>> Pass<V, C, P, F, 
             pending,
             receipts,
             parker: _parker,
+            front,
         } = self;
+        log.recall(&front);
         made.merge(own_made);
         ran.merge(own_ran);
-        ClosedPass::new(seat, calls, procedures, pending, receipts)
+        let seen = front.into_seen();
+        ClosedPass::new(seat, calls, procedures, pending, receipts, seen)
     }
 
     /// Sleeps until the seat is told, or for no reason.
@@ -165,7 +210,7 @@ impl<V: Copy, C: Ledger, P: Ledger, F: Ledger, Q: Receipts<V>> Pass<V, C, P, F, 
     }
 }
 
-impl<V: Copy, C: Ledger, P: Ledger, F: Ledger> Pass<V, C, P, F, Vec<Receipt<V>>> {
+impl<V: Copy, C: CallLedger<V>, P: Ledger, F: Ledger> Pass<V, C, P, F, Vec<Receipt<V>>> {
     /// The receipts, in the order in which they were filed.
     pub fn receipts(&self) -> &[Receipt<V>]
         ensures { result.now ≡ self.now.receipts }

@@ -1,5 +1,9 @@
+pub mod Closing
 pub mod Exactness
 pub mod Marking
 pub mod NoOthers
+pub mod OneHistory
 pub mod OwnAnswers
 pub mod Rounds
+pub mod Stays
+pub mod Told

@@ -34,16 +34,16 @@ use Rattle.po_receipts.specs.Answers.{asker_of, AskedBySeats, HasNoOthers, NoneP
 use Rattle.po_receipts.proofs.OwnAnswers.{as_many}
 
 -- what a test counts
-abbrev one_if : Bool → ℕ
+abbrev pub one_if : Bool → ℕ
 one_if b = cond b 1 0
 
 -- whether it is one of the first seats
-abbrev is_below : ℕ → Option ℕ → Bool
+abbrev pub is_below : ℕ → Option ℕ → Bool
 is_below limit None = false
 is_below limit (Some seat) = nat_lt seat limit
 
 -- whether it is this seat
-abbrev is_seat : ℕ → Option ℕ → Bool
+abbrev pub is_seat : ℕ → Option ℕ → Bool
 is_seat seat None = false
 is_seat seat (Some other) = other == seat
 
@@ -78,11 +78,11 @@ below_is limit (Some seat) h = let under : seat < limit = h in grind (arith, nat
 
 module _ {V : Type 0} where
   -- whether the event is a call or a procedure of one of the first seats
-  abbrev asked_below : ℕ → Event V → Bool
+  abbrev pub asked_below : ℕ → Event V → Bool
   asked_below limit event = is_below limit (asker_of event)
 
   -- whether the event is a call or a procedure
-  abbrev is_asked : Event V → Bool
+  abbrev pub is_asked : Event V → Bool
   is_asked event = is_some (asker_of event)
 
   asked_is : (seat : ℕ) (event : Event V) → is_asked_by seat event ≡ is_seat seat (asker_of event)
@@ -102,7 +102,7 @@ module _ {V : Type 0} where
       seat_more limit (asker_of event) ∙ ap (λ b. one_if (asked_below limit event) + one_if b) (sym (asked_is limit event))
 
   -- there are as many of the first seats and one more as of the two
-  count_more : (limit : ℕ) (events : List (Event V))
+  pub count_more : (limit : ℕ) (events : List (Event V))
       → count_by (asked_below (limit + 1)) events ≡ count_by (asked_below limit) events + count_by (is_asked_by limit) events
   count_more limit [] = refl
   count_more limit (event ∷ events) =
@@ -114,7 +114,7 @@ module _ {V : Type 0} where
       omega (arith, a, b, d, here, rest)
 
   -- none of no seats
-  count_none : (events : List (Event V)) → count_by (asked_below 0) events ≡ 0
+  pub count_none : (events : List (Event V)) → count_by (asked_below 0) events ≡ 0
   count_none [] = refl
   count_none (event ∷ events) =
       let a = sum_by-cons (λ x. one_if (asked_below 0 x)) event events in
@@ -146,7 +146,7 @@ module _ {V : Type 0} where
       (all_below limit events (omega (arith, same, a, b, here, rest)))
 
   -- where each is of one of the first seats, they are as many as all
-  below_all : (limit : ℕ) (events : List (Event V)) → AskedBySeats limit events → count_by (asked_below limit) events ≡ count_by is_asked events
+  pub below_all : (limit : ℕ) (events : List (Event V)) → AskedBySeats limit events → count_by (asked_below limit) events ≡ count_by is_asked events
   below_all limit [] h = refl
   below_all limit (event ∷ events) h =
       let P = λ (x : Event V). IfSome (asker_of x) (λ seat. seat < limit) in
@@ -192,11 +192,11 @@ module _ {V : Type 0} where
       omega (arith, a, b, here, rest)
 
   -- how many receipts a pass has
-  abbrev receipts_in : PassView V → ℕ
+  abbrev pub receipts_in : PassView V → ℕ
   receipts_in pass = length pass.receipts
 
   -- how many calls of a pass have no receipt yet
-  abbrev waits_in : PassView V → ℕ
+  abbrev pub waits_in : PassView V → ℕ
   waits_in pass = unfiled pass.pending
 
   -- the tallies of a pass are its receipts, and the call that has none yet
@@ -221,7 +221,7 @@ module _ {V : Type 0} where
       omega (arith, a, b, d, e, here, rest)
 
   -- where no pass has a call pending, none waits for its receipt
-  none_waits : (passes : List (PassView V)) → NonePending passes → sum_by waits_in passes ≡ 0
+  pub none_waits : (passes : List (PassView V)) → NonePending passes → sum_by waits_in passes ≡ 0
   none_waits [] none = refl
   none_waits (pass ∷ passes) none =
       let a = sum_by-cons waits_in pass passes in
@@ -315,7 +315,7 @@ module _ {S V : Type 0} (m : Meaning S V) (core : CoreView S V) (passes : List (
       omega (arith, ran, based, procedures)
 
   -- so it has as many of both as there are receipts, and calls that have none yet
-  total_of : AreVolumes m core.object volumes → Headline m core.object → All IsTallied passes → HasClosingTotals core passes
+  pub total_of : AreVolumes m core.object volumes → Headline m core.object → All IsTallied passes → HasClosingTotals core passes
       → count_by is_asked (history_of core volumes) ≡ sum_by receipts_in passes + sum_by waits_in passes
   total_of are headline tallied totals =
       let kinds = count_kinds (history_of core volumes) in

@@ -1,5 +1,7 @@
 pub mod Agreement
 pub mod Answers
 pub mod Marks
+pub mod OneHistory
 pub mod Passes
 pub mod Receipts
+pub mod Told

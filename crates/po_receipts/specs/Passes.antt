@@ -1,21 +1,23 @@
 -- What a pass shows: the calls and procedures of one seat, and the receipts that were filed of them (this project's own).
 use Rattle.std.specs.Prelude.{ℕ, ◌≡◌, ◌+◌, Bool, true, false, List, [], Option, None, Some, count_by}
+use Rattle.po_history.specs.declared.event.Event.{Event}
 use Rattle.po_receipts.specs.declared.asked.Asked.{Asked}
 use Rattle.po_receipts.specs.declared.receipt.Receipt.{Receipt}
 use Rattle.po_receipts.specs.declared.receipt.Receipt.TheVariants.{Called, Ran}
 
--- A pass: its seat, how many calls and procedures were accepted from it, the call that has no receipt yet, and the receipts
--- in the order in which they were filed.
+-- A pass: its seat, how many calls and procedures were accepted from it, the call that has no receipt yet, the receipts
+-- in the order in which they were filed, and how the history of its object begins, as far as its caller has seen it.
 pub record PassView (V : Type 0) : Type 0 where
   pub seat : ℕ
   pub calls : ℕ
   pub procedures : ℕ
   pub pending : Option (Asked V)
   pub receipts : List (Receipt V)
+  pub seen : List (Event V)
 
 -- a pass of this seat that hasn't been used
 abbrev pub fresh : {V : Type 0} → ℕ → PassView V
-fresh seat = record { seat = seat; calls = 0; procedures = 0; pending = None; receipts = [] }
+fresh seat = record { seat = seat; calls = 0; procedures = 0; pending = None; receipts = []; seen = [] }
 
 module _ {V : Type 0} where
   -- whether it is the receipt of a call

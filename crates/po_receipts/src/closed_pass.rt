@@ -6,16 +6,19 @@ ghost use Rattle.po_receipts.specs.Passes.{PassView, IsTallied};
 use crate::asked::Asked;
 use crate::receipt::Receipt;
 use crate::receipts::Receipts;
+use po_core::Event;
+use po_log::Seen;
 use std::marker::Model;
 
 /// A pass with which nobody can call any more. Contracts see it as they saw the pass.
-#[derive(Debug, Drop)]
+#[derive(Drop)]
 pub struct ClosedPass<V: Copy, Q: Receipts<V> = Vec<Receipt<V>>> {
     seat: u16,
     calls: u64,
     procedures: u64,
     pending: Option<Asked<V>>,
     receipts: Q,
+    seen: Seen<Event<V>>,
 }
 
 impl<V: Copy, Q: Receipts<V>> Model for ClosedPass<V, Q> {
@@ -29,6 +32,7 @@ impl<V: Copy, Q: Receipts<V>> Model for ClosedPass<V, Q> {
       procedures = s.procedures;
       pending = s.pending;
       receipts = Q.items s.receipts;
+      seen = s.seen.items;
     } };
 
     ghost invariant = { λ s. IsTallied (record {
@@ -37,21 +41,23 @@ impl<V: Copy, Q: Receipts<V>> Model for ClosedPass<V, Q> {
       procedures = s.procedures;
       pending = s.pending;
       receipts = Q.items s.receipts;
+      seen = s.seen.items;
     }) };
 }
 
 impl<V: Copy, Q: Receipts<V>> ClosedPass<V, Q> {
-    /// The pass of this seat, with so many accepted calls and procedures, the call that has no receipt yet, and the
-    /// receipts of all others.
+    /// The pass of this seat, with so many accepted calls and procedures, the call that has no receipt yet, the receipts
+    /// of all others, and what its caller has seen of the history.
     pub fn new(
         seat: u16,
         calls: u64,
         procedures: u64,
         pending: Option<Asked<V>>,
         receipts: Q,
+        seen: Seen<Event<V>>,
     ) -> ClosedPass<V, Q>
-        requires { IsTallied (record { seat = seat; calls = calls; procedures = procedures; pending = pending; receipts = Q.items receipts }) }
-        ensures { result ≡ record { seat = seat; calls = calls; procedures = procedures; pending = pending; receipts = Q.items receipts } }
+        requires { IsTallied (record { seat = seat; calls = calls; procedures = procedures; pending = pending; receipts = Q.items receipts; seen = seen.items }) }
+        ensures { result ≡ record { seat = seat; calls = calls; procedures = procedures; pending = pending; receipts = Q.items receipts; seen = seen.items } }
     {
         ClosedPass {
             seat,
@@ -59,6 +65,7 @@ impl<V: Copy, Q: Receipts<V>> ClosedPass<V, Q> {
             procedures,
             pending,
             receipts,
+            seen,
         }
     }
 

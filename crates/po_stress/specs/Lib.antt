@@ -4,5 +4,6 @@ pub mod Ends
 pub mod Pieces
 pub mod Reports
 pub mod Runs
+pub mod Starts
 pub mod Totals
 pub mod Units

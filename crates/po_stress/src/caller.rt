@@ -7,7 +7,7 @@ ghost use Rattle.po_stress.specs.Ends.{AreEndsOf, all_of};
 use crate::ends::Ends;
 use crate::loaded::Loaded;
 use po_core::{Record, Refusal};
-use po_object::{CallLedger, Object, Pass, Receipts};
+use po_object::{CallLedger, Object, Pass, Receipts, Story};
 use po_unit::{EntryRef, Unit};
 use std::marker::Model;
 use std::sync::Wait;
@@ -15,12 +15,12 @@ use std::sync::ledger::Ledger;
 
 /// A caller of an object, which counts how its calls end. Contracts see it as its pass, with which no call is pending.
 #[derive(Drop)]
-pub(crate) struct Caller<C: Ledger, P: Ledger, F: Ledger, Q: Receipts<u64>> {
+pub(crate) struct Caller<C: CallLedger<u64>, P: Ledger, F: Ledger, Q: Receipts<u64>> {
     pass: Pass<u64, C, P, F, Q>,
     ends: Ends,
 }
 
-impl<C: Ledger, P: Ledger, F: Ledger, Q: Receipts<u64>> Model for Caller<C, P, F, Q> {
+impl<C: CallLedger<u64>, P: Ledger, F: Ledger, Q: Receipts<u64>> Model for Caller<C, P, F, Q> {
     ghost use Rattle.std.specs.Prelude.{◌≡◌, ℕ, None};
     ghost use Rattle.po_receipts.specs.Passes.{PassView};
     ghost use Rattle.po_stress.specs.Ends.{AreEndsOf};
@@ -35,7 +35,7 @@ impl<C: Ledger, P: Ledger, F: Ledger, Q: Receipts<u64>> Model for Caller<C, P, F
     } };
 }
 
-impl<C: Ledger, P: Ledger, F: Ledger, Q: Receipts<u64>> Caller<C, P, F, Q> {
+impl<C: CallLedger<u64>, P: Ledger, F: Ledger, Q: Receipts<u64>> Caller<C, P, F, Q> {
     /// The caller with this pass, which hasn't been used.
     pub(crate) fn new(pass: Pass<u64, C, P, F, Q>) -> Caller<C, P, F, Q>
         requires free { pass.pending ≡ None }
@@ -58,7 +58,7 @@ impl<C: Ledger, P: Ledger, F: Ledger, Q: Receipts<u64>> Caller<C, P, F, Q> {
 }
 
 /// A pass has fewer than 2^64 receipts of calls. It does nothing when it runs.
-fn recall_room<C: Ledger, P: Ledger, F: Ledger, Q: Receipts<u64>>(pass: &Pass<u64, C, P, F, Q>)
+fn recall_room<C: CallLedger<u64>, P: Ledger, F: Ledger, Q: Receipts<u64>>(pass: &Pass<u64, C, P, F, Q>)
     ensures { count_by is_call pass.now.receipts < 2 ^ 64 }
 {
     pass.recall_invariant();
@@ -67,7 +67,7 @@ fn recall_room<C: Ledger, P: Ledger, F: Ledger, Q: Receipts<u64>>(pass: &Pass<u6
 
 impl<
     U: Unit<Value = u64>,
-    C: CallLedger + 'static,
+    C: Story<U> + Send + 'static,
     P: Ledger + 'static,
     F: Ledger + 'static,
     R: Record<U>,

@@ -1,9 +1,11 @@
 //! What runs over the two kinds of objects differ in: how the object is opened, and what is said of it once it is closed.
 
-ghost use Rattle.std.specs.Prelude.{◌≡◌, ◌≤◌, ◌+◌, true, false, All, IfOk, IfErr, IfSome, length};
+ghost use Rattle.std.specs.Prelude.{◌≡◌, ◌≤◌, ◌+◌, true, false, [], Some, All, IfOk, IfErr, IfSome, length};
 ghost use Rattle.std.specs.Arc.{arc_value};
 ghost use Rattle.po_object.specs.Seats.{AreFresh};
+ghost use Rattle.po_object.specs.Stories.{IsStory};
 ghost use Rattle.po_stress.specs.Ends.{AreEndsOfAll, all_of, calls_of};
+ghost use Rattle.po_stress.specs.Starts.{started};
 ghost use Rattle.po_stress.specs.Runs.{IsRun};
 ghost use Rattle.po_stress.specs.BoundedRuns.{IsBoundedRun};
 
@@ -14,9 +16,9 @@ use crate::progress::Progress;
 use crate::report::Report;
 use crate::run::run_over;
 use crate::totals::Totals;
-use po_core::{BoundedCore, Core, Order, Record, Start};
+use po_core::{BoundedCore, Core, Event, Order, Record, Start};
 use po_object::{
-    BoundedClosed, BoundedObject, CallLedger, Closed, Object, OpenFault, Pass, Receipts,
+    BoundedClosed, BoundedObject, Closed, Keeper, Object, OpenFault, Pass, Receipts, Story,
 };
 use po_unit::{Shape, Unit};
 use std::alloc::{AllocError, Global};
@@ -39,7 +41,7 @@ fn let_go<U: Unit<Value = u64> + Drop, R: Record<U> + Drop>(_fault: OpenFault<U,
 /// The object, in a place that threads can share, with its passes.
 fn share<
     U: Unit<Value = u64> + Drop,
-    C: CallLedger,
+    C: Story<U>,
     P: Ledger,
     F: Ledger,
     R: Record<U> + Drop,
@@ -59,7 +61,7 @@ fn share<
 /// Opens an object over the core that threads can share, with a fresh pass for each of its seats.
 fn open_shared<
     U: Unit<Value = u64> + Drop,
-    C: CallLedger,
+    C: Story<U>,
     P: Ledger,
     F: Ledger,
     R: Record<U> + Drop,
@@ -70,15 +72,18 @@ fn open_shared<
     threads: u16,
     calls: Blank,
     procedures: Blank,
+    log: Keeper<Event<u64>>,
 ) -> Result<(Arc<Object<U, C, P, F, R, Q>>, Vec<Pass<u64, C, P, F, Q>>), AllocError>
     requires shape { core.object.setup.shape ≡ C.shape }
+    requires story { IsStory U.meaning core.object.setup C.setup C.end_of }
+    requires log { (log.name ≡ C.log) × (log.items ≡ []) }
     requires calls { (calls.name ≡ C.name) × (calls.parts ≡ C.parts) × (calls.parts ≡ threads + 1) }
     requires procedures { (procedures.name ≡ P.name) × (procedures.parts ≡ P.parts) × (procedures.parts ≡ threads + 1) }
     requires unbounded { (Q.is_bounded ≡ false) × (R.is_bounded ≡ false) }
     ensures seats { IfOk result (λ r. arc_value r.0 ≡ threads) }
     ensures fresh { IfOk result (λ r. AreFresh threads r.1.items) }
 {
-    match Object::<U, C, P, F, R, Q>::open(alloc, core, threads, calls, procedures) {
+    match Object::<U, C, P, F, R, Q>::open(alloc, core, threads, calls, procedures, log) {
         Ok((object, passes)) => {
             let shared = share(alloc, object, passes)?;
             Ok(shared)
@@ -91,7 +96,7 @@ fn open_shared<
 /// seats.
 fn open_shared_bounded<
     U: Unit<Value = u64> + Drop,
-    C: CallLedger,
+    C: Story<U>,
     P: Ledger,
     F: Ledger,
     R: Record<U> + Drop,
@@ -103,8 +108,11 @@ fn open_shared_bounded<
     calls: Blank,
     procedures: Blank,
     free: Blank,
+    log: Keeper<Event<u64>>,
 ) -> Result<(Arc<Object<U, C, P, F, R, Q>>, Vec<Pass<u64, C, P, F, Q>>), AllocError>
     requires shape { core.object.setup.shape ≡ C.shape }
+    requires story { IsStory U.meaning core.object.setup C.setup C.end_of }
+    requires log { (log.name ≡ C.log) × (log.items ≡ []) }
     requires most { IfSome core.capacity (λ most. threads ≤ most) }
     requires calls { (calls.name ≡ C.name) × (calls.parts ≡ C.parts) × (calls.parts ≡ threads + 1) }
     requires procedures { (procedures.name ≡ P.name) × (procedures.parts ≡ P.parts) × (procedures.parts ≡ threads + 1) }
@@ -113,7 +121,9 @@ fn open_shared_bounded<
     ensures seats { IfOk result (λ r. arc_value r.0 ≡ threads) }
     ensures fresh { IfOk result (λ r. AreFresh threads r.1.items) }
 {
-    match Object::<U, C, P, F, R, Q>::open_bounded(alloc, core, threads, calls, procedures, free) {
+    match Object::<U, C, P, F, R, Q>::open_bounded(
+        alloc, core, threads, calls, procedures, free, log,
+    ) {
         Ok((object, passes)) => {
             let shared = share(alloc, object, passes)?;
             Ok(shared)
@@ -125,7 +135,7 @@ fn open_shared_bounded<
 /// Opens an object over the core, has threads call it, closes it, and reports.
 pub(crate) fn run<
     U: Unit<Value = u64> + Send + Sync + Drop + 'static,
-    C: CallLedger + Send + Sync + 'static,
+    C: Story<U> + Send + Sync + 'static,
     P: Ledger + Send + Sync + 'static,
     W: Threads + Wait + AllocGlobal + Copy + Send + 'static,
 >(
@@ -137,15 +147,18 @@ pub(crate) fn run<
     threads: u16,
     calls: Blank,
     procedures: Blank,
+    log: Keeper<Event<u64>>,
 ) -> Result<Report, StressFault>
     requires shape { shape ≡ C.shape }
+    requires story { IsStory U.meaning (started unit shape) C.setup C.end_of }
+    requires log { (log.name ≡ C.log) × (log.items ≡ []) }
     requires calls { (calls.name ≡ C.name) × (calls.parts ≡ C.parts) × (calls.parts ≡ threads + 1) }
     requires procedures { (procedures.name ≡ P.name) × (procedures.parts ≡ P.parts) × (procedures.parts ≡ threads + 1) }
     ensures report { IfOk result (IsRun U.meaning threads job.calls) }
     ensures fault { IfErr result (λ fault. fault ≡ StressFault.OutOfMemory) }
 {
     let core = Core::start(rt.alloc(), unit, shape, Order::Textual, START).map_err(|_| AllocError)?;
-    let (object, passes) = open_shared(rt.alloc(), core, threads, calls, procedures)?;
+    let (object, passes) = open_shared(rt.alloc(), core, threads, calls, procedures, log)?;
     let object: Arc<Object<U, C, P>> = object;
     let (closed, _ends) = run_over(rt, object, passes, progress, job, threads)?;
     Ok(report_on(&closed, job.calls))
@@ -154,7 +167,7 @@ pub(crate) fn run<
 /// Opens an object with fixed memory over the core, has threads call it, closes it, and adds up.
 pub(crate) fn run_bounded<
     U: Unit<Value = u64> + Send + Sync + Drop + 'static,
-    C: CallLedger + Send + Sync + 'static,
+    C: Story<U> + Send + Sync + 'static,
     P: Ledger + Send + Sync + 'static,
     F: Ledger + Send + Sync + 'static,
     W: Threads + Wait + AllocGlobal + Copy + Send + 'static,
@@ -168,8 +181,11 @@ pub(crate) fn run_bounded<
     calls: Blank,
     procedures: Blank,
     free: Blank,
+    log: Keeper<Event<u64>>,
 ) -> Result<Totals, StressFault>
     requires shape { shape ≡ C.shape }
+    requires story { IsStory U.meaning (started unit shape) C.setup C.end_of }
+    requires log { (log.name ≡ C.log) × (log.items ≡ []) }
     requires calls { (calls.name ≡ C.name) × (calls.parts ≡ C.parts) × (calls.parts ≡ threads + 1) }
     requires procedures { (procedures.name ≡ P.name) × (procedures.parts ≡ P.parts) × (procedures.parts ≡ threads + 1) }
     requires free { (free.name ≡ F.name) × (free.parts ≡ F.parts) × (free.parts ≡ threads + 1) }
@@ -185,7 +201,15 @@ pub(crate) fn run_bounded<
         START,
         most,
     ).map_err(|_| AllocError)?;
-    let (object, passes) = open_shared_bounded(rt.alloc(), core, threads, calls, procedures, free)?;
+    let (object, passes) = open_shared_bounded(
+        rt.alloc(),
+        core,
+        threads,
+        calls,
+        procedures,
+        free,
+        log,
+    )?;
     let object: Arc<BoundedObject<U, C, P, F>> = object;
     let (closed, ends) = run_over(rt, object, passes, progress, job, threads)?;
     Ok(totals_of(&closed, ends, job.calls))

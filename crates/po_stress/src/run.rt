@@ -12,7 +12,7 @@ use crate::job::Job;
 use crate::progress::Progress;
 use crate::threads::load;
 use po_core::Record;
-use po_object::{CallLedger, Closed, Object, Pass, Receipts};
+use po_object::{CallLedger, Closed, Object, Pass, Receipts, Story};
 use po_unit::Unit;
 use std::alloc::{AllocError, Global};
 use std::sync::ledger::Ledger;
@@ -20,7 +20,7 @@ use std::sync::{Arc, Wait};
 use std::thread::Threads;
 
 /// A caller for each pass.
-fn seat_all<C: CallLedger, P: Ledger, F: Ledger, Q: Receipts<u64>>(
+fn seat_all<C: CallLedger<u64>, P: Ledger, F: Ledger, Q: Receipts<u64>>(
     alloc: Global,
     mut passes: Vec<Pass<u64, C, P, F, Q>>,
 ) -> Result<Vec<Caller<C, P, F, Q>>, AllocError>
@@ -36,7 +36,7 @@ fn seat_all<C: CallLedger, P: Ledger, F: Ledger, Q: Receipts<u64>>(
 /// The passes of all callers, and how their calls ended: so many of each caller, or there is no answer.
 ///
 /// A pass that counted fewer calls was refused one, for want of memory or after another thread had met with it.
-fn leave_all<C: CallLedger, P: Ledger, F: Ledger, Q: Receipts<u64>>(
+fn leave_all<C: CallLedger<u64>, P: Ledger, F: Ledger, Q: Receipts<u64>>(
     alloc: Global,
     mut callers: Vec<Caller<C, P, F, Q>>,
     calls: u32,
@@ -63,7 +63,7 @@ fn leave_all<C: CallLedger, P: Ledger, F: Ledger, Q: Receipts<u64>>(
 /// Has a thread for each caller make all its calls, and waits for their ends. The callers are where they were.
 fn call_from<
     U: Unit<Value = u64> + Send + Sync + Drop + 'static,
-    C: CallLedger + Send + Sync + 'static,
+    C: Story<U> + Send + Sync + 'static,
     P: Ledger + Send + Sync + 'static,
     F: Ledger + Send + Sync + 'static,
     R: Record<U> + Send + Sync + Drop + 'static,
@@ -90,7 +90,7 @@ fn call_from<
 /// Has a thread for each pass make all its calls, and gives the passes back, and how the calls ended.
 fn call_from_all<
     U: Unit<Value = u64> + Send + Sync + Drop + 'static,
-    C: CallLedger + Send + Sync + 'static,
+    C: Story<U> + Send + Sync + 'static,
     P: Ledger + Send + Sync + 'static,
     F: Ledger + Send + Sync + 'static,
     R: Record<U> + Send + Sync + Drop + 'static,
@@ -118,7 +118,7 @@ fn call_from_all<
 /// Closes the object. All threads have ended, so nobody else has the object, and each seat's pass is here.
 fn close<
     U: Unit<Value = u64> + Drop,
-    C: CallLedger,
+    C: Story<U>,
     P: Ledger,
     F: Ledger,
     R: Record<U> + Drop,
@@ -143,7 +143,7 @@ fn close<
 /// Has threads call the object, from each of its passes, and closes it: with how the calls ended, so many of each pass.
 pub(crate) fn run_over<
     U: Unit<Value = u64> + Send + Sync + Drop + 'static,
-    C: CallLedger + Send + Sync + 'static,
+    C: Story<U> + Send + Sync + 'static,
     P: Ledger + Send + Sync + 'static,
     F: Ledger + Send + Sync + 'static,
     R: Record<U> + Send + Sync + Drop + 'static,

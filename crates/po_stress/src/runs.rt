@@ -17,6 +17,7 @@ use crate::report::Report;
 use crate::totals::Totals;
 use crate::unit::StressUnit;
 use po_classic_units::{Allocator, Buffer, Meeting, ScriptUnit};
+use po_object::Keeper;
 use po_unit::Unit;
 use std::alloc::AllocError;
 use std::marker::Brand;
@@ -50,7 +51,17 @@ fn run_recorded<
     let shape = unit.shape(rt.alloc()).map_err(|_| AllocError)?;
     let parts = u64::from(threads) + 1;
     let (calls, procedures) = (Blank::new(parts), Blank::new(parts));
-    run::<U, Brand, Brand, W>(rt, unit, shape, progress, job, threads, calls, procedures)
+    run::<U, Brand, Brand, W>(
+        rt,
+        unit,
+        shape,
+        progress,
+        job,
+        threads,
+        calls,
+        procedures,
+        Keeper::open(),
+    )
 }
 
 /// A run over an object of this unit with fixed memory: for one call of each thread.
@@ -65,7 +76,16 @@ fn run_fixed<
     let parts = u64::from(threads) + 1;
     let (calls, procedures, free) = (Blank::new(parts), Blank::new(parts), Blank::new(parts));
     run_bounded::<U, Brand, Brand, Brand, W>(
-        rt, unit, shape, progress, job, threads, calls, procedures, free,
+        rt,
+        unit,
+        shape,
+        progress,
+        job,
+        threads,
+        calls,
+        procedures,
+        free,
+        Keeper::open(),
     )
 }
 

@@ -2,13 +2,14 @@
 //! found none has changed neither its pass nor the object, and both do their work when they are asked again; what takes no
 //! memory answers the same, whatever was refused.
 
-ghost use Rattle.std.specs.Prelude.{◌≡◌};
+ghost use Rattle.std.specs.Prelude.{◌≡◌, [], Some};
+ghost use Rattle.po_object.specs.Stories.{IsStory};
 
 use crate::cores::make_again;
 use crate::refusals::Refusals;
 use po_classic_units::Allocator;
-use po_core::{Core, End, Order, Refusal, Volume};
-use po_object::{CallLedger, Closed, Object, OpenFault, Pass, reconcile};
+use po_core::{Core, End, Event, Order, Refusal, Volume};
+use po_object::{Closed, Keeper, Object, OpenFault, Pass, Story, reconcile};
 use po_unit::{EntryRef, Unit};
 use std::alloc::Global;
 use std::io::{self, Print};
@@ -62,7 +63,7 @@ struct Snapshot {
 }
 
 /// What is seen of the pass and of the object.
-fn see<U: Unit<Value = u64> + Drop, C: CallLedger, P: Ledger, R: Wait>(
+fn see<U: Unit<Value = u64> + Drop, C: Story<U>, P: Ledger, R: Wait>(
     rt: &R,
     object: &Object<U, C, P>,
     pass: &Pass<u64, C, P>,
@@ -78,7 +79,7 @@ fn see<U: Unit<Value = u64> + Drop, C: CallLedger, P: Ledger, R: Wait>(
 }
 
 /// Asks the object.
-fn answer_of<U: Unit<Value = u64> + Drop, C: CallLedger, P: Ledger, R: Wait>(
+fn answer_of<U: Unit<Value = u64> + Drop, C: Story<U>, P: Ledger, R: Wait>(
     rt: &R,
     object: &Object<U, C, P>,
     pass: &mut Pass<u64, C, P>,
@@ -97,7 +98,7 @@ fn answer_of<U: Unit<Value = u64> + Drop, C: CallLedger, P: Ledger, R: Wait>(
 }
 
 /// Asks the object, once more where memory was wanting, prints the answer, and counts how often memory was wanting.
-fn print_answer<U: Unit<Value = u64> + Drop, C: CallLedger, P: Ledger, R: Print + Wait>(
+fn print_answer<U: Unit<Value = u64> + Drop, C: Story<U>, P: Ledger, R: Print + Wait>(
     rt: &R,
     object: &Object<U, C, P>,
     pass: &mut Pass<u64, C, P>,
@@ -116,7 +117,7 @@ fn print_answer<U: Unit<Value = u64> + Drop, C: CallLedger, P: Ledger, R: Print 
 }
 
 /// Asks for all of these, and counts how often memory was wanting.
-fn print_all<U: Unit<Value = u64> + Drop, C: CallLedger, P: Ledger, R: Print + Wait>(
+fn print_all<U: Unit<Value = u64> + Drop, C: Story<U>, P: Ledger, R: Print + Wait>(
     rt: &R,
     object: &Object<U, C, P>,
     pass: &mut Pass<u64, C, P>,
@@ -130,7 +131,7 @@ fn print_all<U: Unit<Value = u64> + Drop, C: CallLedger, P: Ledger, R: Print + W
 }
 
 /// Cuts the history, once more where memory was wanting, and counts how often memory was wanting.
-fn cut<U: Unit<Value = u64> + Drop, C: CallLedger, P: Ledger, R: Wait>(
+fn cut<U: Unit<Value = u64> + Drop, C: Story<U>, P: Ledger, R: Wait>(
     rt: &R,
     object: &Object<U, C, P>,
     pass: &Pass<u64, C, P>,
@@ -147,7 +148,7 @@ fn cut<U: Unit<Value = u64> + Drop, C: CallLedger, P: Ledger, R: Wait>(
 }
 
 /// Prints what takes no memory, and finalizes the object.
-fn print_the_rest<U: Unit<Value = u64> + Drop, C: CallLedger, P: Ledger, R: Print + Wait>(
+fn print_the_rest<U: Unit<Value = u64> + Drop, C: Story<U>, P: Ledger, R: Print + Wait>(
     rt: &R,
     object: &Object<U, C, P>,
 ) -> io::Result<()> {
@@ -158,7 +159,7 @@ fn print_the_rest<U: Unit<Value = u64> + Drop, C: CallLedger, P: Ledger, R: Prin
 }
 
 /// Asks for all of these, and cuts the history.
-fn ask_and_cut<U: Unit<Value = u64> + Drop, C: CallLedger, P: Ledger, R: Print + Wait>(
+fn ask_and_cut<U: Unit<Value = u64> + Drop, C: Story<U>, P: Ledger, R: Print + Wait>(
     rt: &R,
     object: &Object<U, C, P>,
     pass: &mut Pass<u64, C, P>,
@@ -170,7 +171,7 @@ fn ask_and_cut<U: Unit<Value = u64> + Drop, C: CallLedger, P: Ledger, R: Print +
 }
 
 /// Uses the object, whose history is cut twice, and gives the two volumes.
-fn use_object<U: Unit<Value = u64> + Drop, C: CallLedger, P: Ledger, R: Print + Wait>(
+fn use_object<U: Unit<Value = u64> + Drop, C: Story<U>, P: Ledger, R: Print + Wait>(
     rt: &R,
     object: &Object<U, C, P>,
     pass: &mut Pass<u64, C, P>,
@@ -189,7 +190,7 @@ fn use_object<U: Unit<Value = u64> + Drop, C: CallLedger, P: Ledger, R: Print + 
 }
 
 /// The same with the first of the passes, if there is one.
-fn use_first<U: Unit<Value = u64> + Drop, C: CallLedger, P: Ledger, R: Print + Wait>(
+fn use_first<U: Unit<Value = u64> + Drop, C: Story<U>, P: Ledger, R: Print + Wait>(
     rt: &R,
     object: &Object<U, C, P>,
     passes: &mut Vec<Pass<u64, C, P>>,
@@ -212,22 +213,25 @@ fn issued_none<U: Unit>(core: &Core<U>) -> bool {
 }
 
 /// Opens an object with one seat, once more with what is handed back where memory was wanting.
-fn open<C: CallLedger, P: Ledger>(
+fn open<C: Story<Allocator>, P: Ledger>(
     alloc: Global,
     core: Core<Allocator>,
     calls: Blank,
     procedures: Blank,
+    log: Keeper<Event<u64>>,
     refusals: &mut Refusals,
 ) -> Option<(Object<Allocator, C, P>, Vec<Pass<u64, C, P>>)>
     requires shape { core.object.setup.shape ≡ C.shape }
+    requires story { IsStory U.meaning core.object.setup C.setup C.end_of }
+    requires log { (log.name ≡ C.log) × (log.items ≡ []) }
     requires calls { (calls.name ≡ C.name) × (calls.parts ≡ C.parts) × (calls.parts ≡ 2) }
     requires procedures { (procedures.name ≡ P.name) × (procedures.parts ≡ P.parts) × (procedures.parts ≡ 2) }
 {
-    match Object::open(alloc, core, 1, calls, procedures) {
+    match Object::open(alloc, core, 1, calls, procedures, log) {
         Ok(opened) => Some(opened),
-        Err(OpenFault::OutOfMemory(core, calls, procedures)) => {
+        Err(OpenFault::OutOfMemory(core, calls, procedures, log)) => {
             refusals.note(is_new(&core));
-            Object::open(alloc, core, 1, calls, procedures).ok()
+            Object::open(alloc, core, 1, calls, procedures, log).ok()
         }
         Err(_) => None,
     }
@@ -273,18 +277,21 @@ fn print_end<U: Unit<Value = u64>, R: Print>(
 }
 
 /// Opens, uses and closes an object over the core, and counts how often memory was wanting.
-fn try_object<C: CallLedger, P: Ledger, R: Print + Wait + AllocGlobal>(
+fn try_object<C: Story<Allocator>, P: Ledger, R: Print + Wait + AllocGlobal>(
     rt: &R,
     core: Core<Allocator>,
     calls: Blank,
     procedures: Blank,
+    log: Keeper<Event<u64>>,
     refusals: &mut Refusals,
 ) -> io::Result<()>
     requires shape { core.object.setup.shape ≡ C.shape }
+    requires story { IsStory U.meaning core.object.setup C.setup C.end_of }
+    requires log { (log.name ≡ C.log) × (log.items ≡ []) }
     requires calls { (calls.name ≡ C.name) × (calls.parts ≡ C.parts) × (calls.parts ≡ 2) }
     requires procedures { (procedures.name ≡ P.name) × (procedures.parts ≡ P.parts) × (procedures.parts ≡ 2) }
 {
-    let opened = open::<C, P>(rt.alloc(), core, calls, procedures, refusals);
+    let opened = open::<C, P>(rt.alloc(), core, calls, procedures, log, refusals);
     let Some((object, mut passes)) = opened else {
         return println!(rt; "not opened");
     };
@@ -302,5 +309,5 @@ pub(crate) fn run<R: Print + Wait + AllocGlobal>(
         return println!(rt; "refused twice");
     };
     let (calls, procedures) = (Blank::new(2), Blank::new(2));
-    try_object::<Brand, Brand, R>(rt, core, calls, procedures, refusals)
+    try_object::<Brand, Brand, R>(rt, core, calls, procedures, Keeper::open(), refusals)
 }

@@ -1,12 +1,14 @@
 //! How the tests open an object over a buffer and close it.
 
-ghost use Rattle.std.specs.Prelude.{◌≡◌, ◌+◌};
+ghost use Rattle.std.specs.Prelude.{◌≡◌, ◌+◌, [], Some};
+ghost use Rattle.po_classic_units.specs.Buffer.{buffer_meaning};
+ghost use Rattle.po_object.specs.Stories.{IsStory};
 
 use crate::asks::same;
 use crate::scenes::{Scene, look, play};
 use po_classic_units::Buffer;
-use po_core::{Core, Volume};
-use po_object::{CallLedger, CloseFault, Closed, Object, OpenFault, Pass};
+use po_core::{Core, Event, Volume};
+use po_object::{CloseFault, Closed, Keeper, Object, OpenFault, Pass, Story};
 use std::marker::Brand;
 use std::process::Abort;
 use std::sync::Wait;
@@ -24,7 +26,7 @@ pub struct Shelf {
 }
 
 /// Closes the object without the pass of seat 0, which is refused, and then with it.
-fn close_twice<C: CallLedger, P: Ledger, R: Abort>(
+fn close_twice<C: Story<Buffer>, P: Ledger, R: Abort>(
     rt: &R,
     object: Object<Buffer, C, P>,
     mut passes: Vec<Pass<u64, C, P>>,
@@ -51,19 +53,22 @@ fn name_of(fault: OpenFault<Buffer>) -> &'static str {
 }
 
 /// Opens an object, plays the scene, and closes it: where it has two seats, first without the pass of one of them.
-fn open_and_close<C: CallLedger, P: Ledger, R: Abort + Wait + AllocGlobal>(
+fn open_and_close<C: Story<Buffer>, P: Ledger, R: Abort + Wait + AllocGlobal>(
     rt: &R,
     core: Core<Buffer>,
     seats: u16,
     calls: Blank,
     procedures: Blank,
+    log: Keeper<Event<u64>>,
     scene: Scene,
 ) -> Result<Shelf, &'static str>
     requires calls { (calls.name ≡ C.name) × (calls.parts ≡ C.parts) × (calls.parts ≡ seats + 1) }
     requires procedures { (procedures.name ≡ P.name) × (procedures.parts ≡ P.parts) × (procedures.parts ≡ seats + 1) }
     requires shape { core.object.setup.shape ≡ C.shape }
+    requires story { IsStory buffer_meaning core.object.setup C.setup C.end_of }
+    requires log { (log.name ≡ C.log) × (log.items ≡ []) }
 {
-    let opened = Object::<Buffer, C, P>::open(rt.alloc(), core, seats, calls, procedures);
+    let opened = Object::<Buffer, C, P>::open(rt.alloc(), core, seats, calls, procedures, log);
     let (object, mut passes) = opened.map_err(name_of)?;
     let mut volumes = Vec::new(rt.alloc());
     play(rt, &object, &mut passes, scene, &mut volumes);
@@ -87,7 +92,7 @@ pub fn perform<R: Abort + Wait + AllocGlobal>(
 ) -> Result<Shelf, &'static str> {
     let parts = u64::from(seats) + 1;
     let (calls, procedures) = (Blank::new(parts), Blank::new(parts));
-    open_and_close::<Brand, Brand, R>(rt, core, seats, calls, procedures, scene)
+    open_and_close::<Brand, Brand, R>(rt, core, seats, calls, procedures, Keeper::open(), scene)
 }
 
 /// Plays the scene, and looks at what is left.

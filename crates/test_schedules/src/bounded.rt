@@ -1,6 +1,8 @@
 //! Objects with fixed memory.
 
-ghost use Rattle.std.specs.Prelude.{◌≡◌, ◌≤◌, ◌+◌, IfSome, true};
+ghost use Rattle.std.specs.Prelude.{◌≡◌, ◌≤◌, ◌+◌, IfSome, true, [], Some};
+ghost use Rattle.test_schedules.specs.Station.{station_meaning};
+ghost use Rattle.po_object.specs.Stories.{IsStory};
 
 use crate::explorer::Explorer;
 use crate::gate::Gate;
@@ -8,10 +10,10 @@ use crate::objects::{Shelf, beginning, play_and_close};
 use crate::plays::Kept;
 use crate::scene::Scene;
 use crate::station::Station;
-use po_core::{BoundedCore, Core, Order, Unrecorded, Volume};
+use po_core::{BoundedCore, Core, Event, Order, Unrecorded, Volume};
 use po_history::Trace;
 use po_object::steps::Steps;
-use po_object::{CallLedger, Object, Receipt, Receipts};
+use po_object::{Keeper, Object, Receipt, Receipts, Story};
 use std::alloc::AllocError;
 use std::marker::Brand;
 use std::sync::ledger::{Blank, Ledger};
@@ -21,7 +23,7 @@ use std::time::Clock;
 
 impl Kept for Unrecorded<Station> {
     /// The history is known to proofs alone.
-    fn cut<C: CallLedger, P: Ledger, F: Ledger, Q: Receipts<u64>, S: Steps, W: Wait>(
+    fn cut<C: Story<Station>, P: Ledger, F: Ledger, Q: Receipts<u64>, S: Steps, W: Wait>(
         _rt: &W,
         _object: &Object<Station, C, P, F, Unrecorded<Station>, Q, S>,
     ) -> Option<Volume<u64>> {
@@ -31,7 +33,7 @@ impl Kept for Unrecorded<Station> {
 
 /// Opens an object, plays the scene, and closes the object.
 fn open_and_close<
-    C: CallLedger + Send + Sync + 'static,
+    C: Story<Station> + Send + Sync + 'static,
     P: Ledger + Send + Sync + 'static,
     F: Ledger + Send + Sync + 'static,
     R: Kept + Send + Sync + 'static,
@@ -45,9 +47,12 @@ fn open_and_close<
     calls: Blank,
     procedures: Blank,
     free: Blank,
+    log: Keeper<Event<u64>>,
     scene: Scene,
 ) -> Result<Option<Shelf<R, Q>>, AllocError>
     requires shape { core.object.setup.shape ≡ C.shape }
+    requires story { IsStory station_meaning core.object.setup C.setup C.end_of }
+    requires log { (log.name ≡ C.log) × (log.items ≡ []) }
     requires calls { (calls.name ≡ C.name) × (calls.parts ≡ C.parts) × (calls.parts ≡ seats + 1) }
     requires procedures { (procedures.name ≡ P.name) × (procedures.parts ≡ P.parts) × (procedures.parts ≡ seats + 1) }
     requires free { (free.name ≡ F.name) × (free.parts ≡ F.parts) × (free.parts ≡ seats + 1) }
@@ -65,6 +70,7 @@ fn open_and_close<
         calls,
         procedures,
         free,
+        log,
         gate,
     );
     let Ok((object, passes)) = opened else {
@@ -95,7 +101,15 @@ pub(crate) fn agrees<W: Threads + Wait + Clock + AllocGlobal + Copy + Drop + Sen
     let parts = u64::from(seats) + 1;
     let (calls, procedures, free) = (Blank::new(parts), Blank::new(parts), Blank::new(parts));
     let shelf = open_and_close::<Brand, Brand, Brand, Unrecorded<Station>, Trace<Receipt<u64>>, W>(
-        rt, explorer, core, seats, calls, procedures, free, scene,
+        rt,
+        explorer,
+        core,
+        seats,
+        calls,
+        procedures,
+        free,
+        Keeper::open(),
+        scene,
     )?;
     Ok(shelf.is_some_and(|shelf| shelf.closed.none_pending()))
 }

@@ -7,7 +7,7 @@ use crate::plays::Kept;
 use crate::scene::Scene;
 use crate::station::Station;
 use po_core::{Record, Start, Volume};
-use po_object::{CallLedger, Closed, Object, Pass, Receipts};
+use po_object::{Closed, Object, Pass, Receipts, Story};
 use std::alloc::AllocError;
 use std::sync::ledger::Ledger;
 use std::sync::{Arc, Wait};
@@ -32,7 +32,7 @@ pub(crate) fn beginning(scene: Scene) -> Start {
 
 /// Plays the scene with the object, and closes it, if all threads come to an end.
 pub(crate) fn play_and_close<
-    C: CallLedger + Send + Sync + 'static,
+    C: Story<Station> + Send + Sync + 'static,
     P: Ledger + Send + Sync + 'static,
     F: Ledger + Send + Sync + 'static,
     R: Kept + Send + Sync + 'static,

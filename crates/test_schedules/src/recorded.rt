@@ -1,6 +1,8 @@
 //! Objects that keep their history.
 
-ghost use Rattle.std.specs.Prelude.{◌≡◌, ◌+◌, false};
+ghost use Rattle.std.specs.Prelude.{◌≡◌, ◌+◌, false, [], Some};
+ghost use Rattle.test_schedules.specs.Station.{station_meaning};
+ghost use Rattle.po_object.specs.Stories.{IsStory};
 
 use crate::explorer::Explorer;
 use crate::gate::Gate;
@@ -8,9 +10,9 @@ use crate::objects::{Shelf, beginning, play_and_close};
 use crate::plays::Kept;
 use crate::scene::Scene;
 use crate::station::Station;
-use po_core::{Core, Order, Recorded, Volume};
+use po_core::{Core, Event, Order, Recorded, Volume};
 use po_object::steps::Steps;
-use po_object::{CallLedger, Object, Receipt, Receipts, reconcile};
+use po_object::{Keeper, Object, Receipt, Receipts, Story, reconcile};
 use std::alloc::AllocError;
 use std::marker::Brand;
 use std::sync::ledger::{Blank, Ledger};
@@ -19,7 +21,7 @@ use std::thread::Threads;
 use std::time::Clock;
 
 impl Kept for Recorded<Station> {
-    fn cut<C: CallLedger, P: Ledger, F: Ledger, Q: Receipts<u64>, S: Steps, W: Wait>(
+    fn cut<C: Story<Station>, P: Ledger, F: Ledger, Q: Receipts<u64>, S: Steps, W: Wait>(
         rt: &W,
         object: &Object<Station, C, P, F, Recorded<Station>, Q, S>,
     ) -> Option<Volume<u64>> {
@@ -29,7 +31,7 @@ impl Kept for Recorded<Station> {
 
 /// Opens an object, plays the scene, and closes the object.
 fn open_and_close<
-    C: CallLedger + Send + Sync + 'static,
+    C: Story<Station> + Send + Sync + 'static,
     P: Ledger + Send + Sync + 'static,
     F: Ledger + Send + Sync + 'static,
     R: Kept + Send + Sync + 'static,
@@ -42,9 +44,12 @@ fn open_and_close<
     seats: u16,
     calls: Blank,
     procedures: Blank,
+    log: Keeper<Event<u64>>,
     scene: Scene,
 ) -> Result<Option<Shelf<R, Q>>, AllocError>
     requires shape { core.object.setup.shape ≡ C.shape }
+    requires story { IsStory station_meaning core.object.setup C.setup C.end_of }
+    requires log { (log.name ≡ C.log) × (log.items ≡ []) }
     requires calls { (calls.name ≡ C.name) × (calls.parts ≡ C.parts) × (calls.parts ≡ seats + 1) }
     requires procedures { (procedures.name ≡ P.name) × (procedures.parts ≡ P.parts) × (procedures.parts ≡ seats + 1) }
     requires unbounded { (Q.is_bounded ≡ false) × (R.is_bounded ≡ false) }
@@ -59,6 +64,7 @@ fn open_and_close<
         seats,
         calls,
         procedures,
+        log,
         gate,
     );
     let Ok((object, passes)) = opened else {
@@ -88,7 +94,14 @@ pub(crate) fn agrees<W: Threads + Wait + Clock + AllocGlobal + Copy + Drop + Sen
     let parts = u64::from(seats) + 1;
     let (calls, procedures) = (Blank::new(parts), Blank::new(parts));
     let shelf = open_and_close::<Brand, Brand, Brand, Recorded<Station>, Vec<Receipt<u64>>, W>(
-        rt, explorer, core, seats, calls, procedures, scene,
+        rt,
+        explorer,
+        core,
+        seats,
+        calls,
+        procedures,
+        Keeper::open(),
+        scene,
     )?;
     Ok(match shelf {
         Some(Shelf { closed, volumes }) => {

@@ -1,12 +1,13 @@
 //! Objects with fixed memory: what they show, and how a scene is played on one.
 
-ghost use Rattle.std.specs.Prelude.{◌≡◌, ◌≤◌, ◌+◌, IfSome, true};
+ghost use Rattle.std.specs.Prelude.{◌≡◌, ◌≤◌, ◌+◌, IfSome, true, [], Some};
+ghost use Rattle.po_object.specs.Stories.{IsStory};
 
 use crate::objects::{Kept, Shelf, Shown, play_and_close};
 use crate::scenes::{Made, NOT_CLOSED, START, Scene};
-use po_core::{BoundedCore, Core, Order, Refusal, Unrecorded, Volume};
+use po_core::{BoundedCore, Core, Event, Order, Refusal, Unrecorded, Volume};
 use po_history::Trace;
-use po_object::{CallLedger, Object, Pass, Receipt, Receipts};
+use po_object::{CallLedger, Keeper, Object, Pass, Receipt, Receipts, Story};
 use po_unit::Unit;
 use std::alloc::AllocError;
 use std::io::{self, Print};
@@ -18,7 +19,7 @@ use std::time::{Clock, CpuClock};
 
 impl<U: Unit<Value = u64>> Kept<U> for Unrecorded<U> {
     /// The history is known to proofs alone.
-    fn cut_history<C: CallLedger, L: Ledger, F: Ledger, Q: Receipts<u64>, W: Wait>(
+    fn cut_history<C: Story<U>, L: Ledger, F: Ledger, Q: Receipts<u64>, W: Wait>(
         _rt: &W,
         _object: &Object<U, C, L, F, Unrecorded<U>, Q>,
     ) -> Result<Option<Volume<u64>>, Refusal> {
@@ -27,7 +28,7 @@ impl<U: Unit<Value = u64>> Kept<U> for Unrecorded<U> {
 }
 
 impl Shown for Trace<Receipt<u64>> {
-    fn print_pass<C: Ledger, L: Ledger, F: Ledger, W: Print>(
+    fn print_pass<C: CallLedger<u64>, L: Ledger, F: Ledger, W: Print>(
         rt: &W,
         name: &str,
         pass: &Pass<u64, C, L, F, Trace<Receipt<u64>>>,
@@ -43,7 +44,7 @@ impl Shown for Trace<Receipt<u64>> {
 /// Opens an object, plays the scene, and closes the object.
 fn open_and_close<
     U: Unit<Value = u64> + Send + Sync + Drop + 'static,
-    C: CallLedger + Send + Sync + 'static,
+    C: Story<U> + Send + Sync + 'static,
     L: Ledger + Send + Sync + 'static,
     F: Ledger + Send + Sync + 'static,
     R: Kept<U> + Send + Sync + 'static,
@@ -56,9 +57,12 @@ fn open_and_close<
     calls: Blank,
     procedures: Blank,
     free: Blank,
+    log: Keeper<Event<u64>>,
     scene: Scene,
 ) -> io::Result<Option<Shelf<U, R, Q>>>
     requires shape { core.object.setup.shape ≡ C.shape }
+    requires story { IsStory U.meaning core.object.setup C.setup C.end_of }
+    requires log { (log.name ≡ C.log) × (log.items ≡ []) }
     requires most { IfSome core.capacity (λ most. seats ≤ most) }
     requires calls { (calls.name ≡ C.name) × (calls.parts ≡ C.parts) × (calls.parts ≡ seats + 1) }
     requires procedures { (procedures.name ≡ L.name) × (procedures.parts ≡ L.parts) × (procedures.parts ≡ seats + 1) }
@@ -67,7 +71,7 @@ fn open_and_close<
 {
     let alloc = rt.alloc();
     let opened = Object::<U, C, L, F, R, Q>::open_bounded(
-        alloc, core, seats, calls, procedures, free,
+        alloc, core, seats, calls, procedures, free, log,
     );
     let Ok((object, passes)) = opened else {
         return Ok(None);
@@ -98,7 +102,14 @@ fn perform<
     let parts = u64::from(seats) + 1;
     let (calls, procedures, free) = (Blank::new(parts), Blank::new(parts), Blank::new(parts));
     open_and_close::<U, Brand, Brand, Brand, Unrecorded<U>, Trace<Receipt<u64>>, W>(
-        rt, core, seats, calls, procedures, free, scene,
+        rt,
+        core,
+        seats,
+        calls,
+        procedures,
+        free,
+        Keeper::open(),
+        scene,
     )
 }
 

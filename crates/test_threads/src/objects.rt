@@ -4,7 +4,7 @@ use crate::scenes::{Scene, play};
 use crate::shared::Shared;
 use crate::stage::Stage;
 use po_core::{Aborted, End, Record, Refusal, Volume};
-use po_object::{CallLedger, Closed, Object, Pass, Receipts};
+use po_object::{CallLedger, Closed, Object, Pass, Receipts, Story};
 use po_unit::{EntryRef, Unit};
 use std::io::{self, Print};
 use std::sync::Wait;
@@ -15,7 +15,7 @@ use std::time::{Clock, CpuClock};
 /// What an object keeps of what has happened, which is cut where that is its history.
 pub(crate) trait Kept<U: Unit<Value = u64>>: Record<U> + Drop {
     /// Cuts the history, where the object keeps one.
-    fn cut_history<C: CallLedger, L: Ledger, F: Ledger, Q: Receipts<u64>, W: Wait>(
+    fn cut_history<C: Story<U>, L: Ledger, F: Ledger, Q: Receipts<u64>, W: Wait>(
         rt: &W,
         object: &Object<U, C, L, F, Self, Q>,
     ) -> Result<Option<Volume<u64>>, Refusal>;
@@ -24,14 +24,14 @@ pub(crate) trait Kept<U: Unit<Value = u64>>: Record<U> + Drop {
 /// The receipts of a pass, which are printed where they are in memory.
 pub(crate) trait Shown: Receipts<u64> {
     /// Prints what the pass keeps of its calls.
-    fn print_pass<C: Ledger, L: Ledger, F: Ledger, W: Print>(
+    fn print_pass<C: CallLedger<u64>, L: Ledger, F: Ledger, W: Print>(
         rt: &W,
         name: &str,
         pass: &Pass<u64, C, L, F, Self>,
     ) -> io::Result<()>;
 }
 
-impl<U: Unit<Value = u64>, C: CallLedger, L: Ledger, F: Ledger, R: Kept<U>, Q: Shown> Shared<
+impl<U: Unit<Value = u64>, C: Story<U>, L: Ledger, F: Ledger, R: Kept<U>, Q: Shown> Shared<
     Pass<u64, C, L, F, Q>,
 > for Object<U, C, L, F, R, Q> {
     fn enter<W: Wait>(
@@ -104,7 +104,7 @@ pub(crate) struct Shelf<U: Unit<Value = u64> + Drop, R: Record<U>, Q: Receipts<u
 /// Closes the object with all passes that are here, or gives none where one is missing or a thread still has the object.
 fn close<
     U: Unit<Value = u64> + Drop,
-    C: CallLedger,
+    C: Story<U>,
     L: Ledger,
     F: Ledger,
     R: Record<U> + Drop,
@@ -121,7 +121,7 @@ fn close<
 /// Plays the scene with the object, and closes it.
 pub(crate) fn play_and_close<
     U: Unit<Value = u64> + Send + Sync + Drop + 'static,
-    C: CallLedger + Send + Sync + 'static,
+    C: Story<U> + Send + Sync + 'static,
     L: Ledger + Send + Sync + 'static,
     F: Ledger + Send + Sync + 'static,
     R: Kept<U> + Send + Sync + 'static,

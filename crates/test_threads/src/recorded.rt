@@ -1,12 +1,13 @@
 //! Objects that keep their history: what they show, and how a scene is played on one.
 
-ghost use Rattle.std.specs.Prelude.{◌≡◌, ◌+◌, false};
+ghost use Rattle.std.specs.Prelude.{◌≡◌, ◌+◌, false, [], Some};
+ghost use Rattle.po_object.specs.Stories.{IsStory};
 
 use crate::cuts;
 use crate::objects::{Kept, Shelf, Shown, play_and_close};
 use crate::scenes::{Made, NOT_CLOSED, START, Scene};
-use po_core::{Core, Order, Recorded, Refusal, Volume};
-use po_object::{CallLedger, Object, Pass, Receipt, Receipts, reconcile};
+use po_core::{Core, Event, Order, Recorded, Refusal, Volume};
+use po_object::{CallLedger, Keeper, Object, Pass, Receipt, Receipts, Story, reconcile};
 use po_unit::Unit;
 use std::alloc::AllocError;
 use std::io::{self, Print};
@@ -17,7 +18,7 @@ use std::thread::Threads;
 use std::time::{Clock, CpuClock};
 
 impl<U: Unit<Value = u64> + Drop> Kept<U> for Recorded<U> {
-    fn cut_history<C: CallLedger, L: Ledger, F: Ledger, Q: Receipts<u64>, W: Wait>(
+    fn cut_history<C: Story<U>, L: Ledger, F: Ledger, Q: Receipts<u64>, W: Wait>(
         rt: &W,
         object: &Object<U, C, L, F, Recorded<U>, Q>,
     ) -> Result<Option<Volume<u64>>, Refusal> {
@@ -27,7 +28,7 @@ impl<U: Unit<Value = u64> + Drop> Kept<U> for Recorded<U> {
 }
 
 impl Shown for Vec<Receipt<u64>> {
-    fn print_pass<C: Ledger, L: Ledger, F: Ledger, W: Print>(
+    fn print_pass<C: CallLedger<u64>, L: Ledger, F: Ledger, W: Print>(
         rt: &W,
         name: &str,
         pass: &Pass<u64, C, L, F, Vec<Receipt<u64>>>,
@@ -39,7 +40,7 @@ impl Shown for Vec<Receipt<u64>> {
 /// Opens an object, plays the scene, and closes the object.
 fn open_and_close<
     U: Unit<Value = u64> + Send + Sync + Drop + 'static,
-    C: CallLedger + Send + Sync + 'static,
+    C: Story<U> + Send + Sync + 'static,
     L: Ledger + Send + Sync + 'static,
     F: Ledger + Send + Sync + 'static,
     R: Kept<U> + Send + Sync + 'static,
@@ -51,14 +52,17 @@ fn open_and_close<
     seats: u16,
     calls: Blank,
     procedures: Blank,
+    log: Keeper<Event<u64>>,
     scene: Scene,
 ) -> io::Result<Option<Shelf<U, R, Q>>>
     requires shape { core.object.setup.shape ≡ C.shape }
+    requires story { IsStory U.meaning core.object.setup C.setup C.end_of }
+    requires log { (log.name ≡ C.log) × (log.items ≡ []) }
     requires calls { (calls.name ≡ C.name) × (calls.parts ≡ C.parts) × (calls.parts ≡ seats + 1) }
     requires procedures { (procedures.name ≡ L.name) × (procedures.parts ≡ L.parts) × (procedures.parts ≡ seats + 1) }
     requires unbounded { (Q.is_bounded ≡ false) × (R.is_bounded ≡ false) }
 {
-    let opened = Object::<U, C, L, F, R, Q>::open(rt.alloc(), core, seats, calls, procedures);
+    let opened = Object::<U, C, L, F, R, Q>::open(rt.alloc(), core, seats, calls, procedures, log);
     let Ok((object, passes)) = opened else {
         return Ok(None);
     };
@@ -80,7 +84,13 @@ pub(crate) fn perform<
     let parts = u64::from(seats) + 1;
     let (calls, procedures) = (Blank::new(parts), Blank::new(parts));
     open_and_close::<U, Brand, Brand, Brand, Recorded<U>, Vec<Receipt<u64>>, W>(
-        rt, core, seats, calls, procedures, scene,
+        rt,
+        core,
+        seats,
+        calls,
+        procedures,
+        Keeper::open(),
+        scene,
     )
 }
 

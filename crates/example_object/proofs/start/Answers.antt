@@ -35,14 +35,14 @@ spawn-requires-send-F g c κs within =
     let C = Param.param 0 g.row.C in let P = Param.param 1 g.row.P in let F = Param.param 2 g.row.F in
     let R = Param.param 3 g.row.R in let Q = Param.param 4 g.row.Q in let U = Buffer.the_row in let V = Field.u64-field.row in
     let t = c.type_bounds in
-    let row = Object.the_row U C P F R Q Unasked.the_row V g.C.Ledger g.P.Ledger BufferUnit.ghosts U64.ghosts g.C.CallLedger g.F.Ledger g.R.Record g.Q.Receipts in
-    let o = object.the_send U C P F R Q Unasked.the_row V g.C.Ledger g.P.Ledger BufferUnit.ghosts U64.ghosts g.C.CallLedger g.F.Ledger g.R.Record g.Q.Receipts buffer.the_send t.send-R t.send-Q unasked.the_send (Send.plain_send _ _ _ _ _) in
-    let y = object_sync U C P F R Q V g.C.Ledger g.P.Ledger BufferUnit.ghosts U64.ghosts g.C.CallLedger g.F.Ledger g.R.Record g.Q.Receipts buffer.the_send buffer.the_sync t.send-R t.sync-R t.send-Q t.sync-Q (Send.plain_send _ _ _ _ _) (Send.plain_sync _ _ _ _ _) in
+    let row = Object.the_row U C P F R Q Unasked.the_row V g.C.Ledger g.P.Ledger BufferUnit.ghosts U64.ghosts g.C.Story g.C.CallLedger g.F.Ledger g.R.Record g.Q.Receipts in
+    let o = object.the_send U C P F R Q Unasked.the_row V g.C.Ledger g.P.Ledger BufferUnit.ghosts U64.ghosts g.C.Story g.C.CallLedger g.F.Ledger g.R.Record g.Q.Receipts buffer.the_send t.send-R t.send-Q unasked.the_send (Send.plain_send _ _ _ _ _) in
+    let y = object_sync U C P F R Q V g.C.Ledger g.P.Ledger BufferUnit.ghosts U64.ghosts g.C.Story g.C.CallLedger g.F.Ledger g.R.Record g.Q.Receipts buffer.the_send buffer.the_sync t.send-R t.sync-R t.send-Q t.sync-Q (Send.plain_send _ _ _ _ _) (Send.plain_sync _ _ _ _ _) in
     let a = arc.the_send row Global.the_row Heap.ghosts o global.the_send y global.the_sync frees.the_frees in
-    let p = pass.the_send V C P F Q g.C.Ledger g.P.Ledger g.F.Ledger g.Q.Receipts (Send.plain_send _ _ _ _ _) t.send-Q in
+    let p = pass.the_send V C P F Q g.C.CallLedger g.C.Ledger g.P.Ledger g.F.Ledger g.Q.Receipts (Send.plain_send _ _ _ _ _) t.send-Q in
     let s = t.send-W in
     let ν : List ℕ = 101 ∷ 120 ∷ 97 ∷ 109 ∷ 112 ∷ 108 ∷ 101 ∷ 95 ∷ 111 ∷ 98 ∷ 106 ∷ 101 ∷ 99 ∷ 116 ∷ 58 ∷ 58 ∷ 102 ∷ 110 ∷ 58 ∷ 58 ∷ 115 ∷ 116 ∷ 97 ∷ 114 ∷ 116 ∷ 58 ∷ 58 ∷ 106 ∷ 111 ∷ 98 ∷ 43 ∷ 83 ∷ 101 ∷ 108 ∷ 102 ∷ [] in
-    let Ts : List RattleType = Param.copied 5 g.row.W ∷ Arc.the_row row Global.the_row Heap.ghosts ∷ Pass.the_row V C P F Q g.C.Ledger g.P.Ledger g.F.Ledger g.Q.Receipts ∷ EntryRef.the_row ∷ Field.u64-field.row ∷ [] in
+    let Ts : List RattleType = Param.copied 5 g.row.W ∷ Arc.the_row row Global.the_row Heap.ghosts ∷ Pass.the_row V C P F Q g.C.CallLedger g.C.Ledger g.P.Ledger g.F.Ledger g.Q.Receipts ∷ EntryRef.the_row ∷ Field.u64-field.row ∷ [] in
     Send.param_send 1 _ (Send.arg_send _ Exit.no _
     (Send.recorded_send (Tuple.field_at ν Ts).row _ _ (Tuple.type_at ν Ts).to_one (Send.struct_send (Declared.shape (Tuple.type_at ν Ts))
     (s, (a, (p, (entry.the_send, (Send.plain_send _ _ _ _ _, tt))))))))

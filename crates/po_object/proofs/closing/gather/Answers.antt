@@ -1,5 +1,9 @@
-use Rattle.std.proofs.Common.{arith, ◌≡◌, sym, ◌+◌, ◌≤◌, ◌∙◌, rules, length}
+use Rattle.std.proofs.Common.{arith, ◌≡◌, subst, sym, ◌+◌, ◌≤◌, ◌∙◌, rules, length}
 use Rattle.std.proofs.lemmas.Grind.{common_steps}
+use Rattle.std.specs.List.{All}
+use Rattle.po_receipts.specs.Answers.{AskedBySeats}
+use Rattle.po_receipts.specs.OneHistory.{IsWholeLog}
+use Rattle.po_receipts.specs.Told.{IsToldOf}
 use Rattle.po_object.proofs.Totals.{closing-totals, is-closed}
 use Rattle.po_object.proofs.Seating.{one_each-length, placed-by_seat}
 use Rattle.po_object.proofs.closing.gather.Goals as goal
@@ -56,4 +60,8 @@ invariant_of-result g c =
     let ran = sym (c.audit-2.ensures.whole (omega (arith, some, p1, w2, eq))) ∙ k.procedures in
     let totals = closing-totals c.take_apart-core.result.0 c.args.calls.now.seats _ _ c.args.passes.items c.collect-spent.result.items some len c.requires.one_each k.placed c.take_apart-core.ensures.totals made ran in
     let most : c.args.calls.now.seats ≤ 65_535 = search (rules, common_steps) in
-    is-closed c.take_apart-core.result.0 c.args.calls.now.seats c.args.passes.items c.collect-spent.result.items most len c.requires.one_each k.placed totals (c.take_apart-core.ensures.asked c.args.calls.now.seats w)
+    let t = c.take_apart-core.ensures in
+    let whole = subst (IsWholeLog g.U.Unit.meaning c.take_apart-core.result.0.object) (sym k.same_log) t.log in
+    let asked = subst (AskedBySeats c.args.calls.now.seats) (sym k.same_log) (t.asked c.args.calls.now.seats w) in
+    let told = subst (λ log. All (IsToldOf g.C.CallLedger.end_of log) c.args.passes.items) (sym k.same_log) k.told in
+    rw c.into_seen.ensures (is-closed g.U.Unit.meaning c.take_apart-core.result.0 c.args.calls.now.seats g.C.CallLedger.end_of _ c.args.passes.items c.collect-spent.result.items most len c.requires.one_each k.placed totals whole asked c.headline.ensures.headline t.ends told)

@@ -1,3 +1,6 @@
+use Rattle.std.specs.Prelude.{Some}
+use Rattle.po_object.specs.Stories.{ends_by}
+use Rattle.po_stress.specs.Starts.{started}
 use Rattle.po_stress.proofs.runs.run_recorded.Given as goal
 
 abbrev pub ghosts-run-C-Ledger : goal.ghosts-run-C-Ledger
@@ -7,4 +10,7 @@ abbrev pub ghosts-run-P-Ledger : goal.ghosts-run-P-Ledger
 ghosts-run-P-Ledger g a = record { name = a.procedures.name; parts = a.procedures.parts }
 
 abbrev pub ghosts-run-C-CallLedger : goal.ghosts-run-C-CallLedger
-ghosts-run-C-CallLedger g a = record { shape = a.shape }
+ghosts-run-C-CallLedger g a = record { shape = a.shape; log = a.log.name; end_of = ends_by g.U.Unit.meaning (started a.unit a.shape) }
+
+abbrev pub ghosts-run-C-Story : goal.ghosts-run-C-Story
+ghosts-run-C-Story g a = record { setup = Some (started a.unit a.shape) }

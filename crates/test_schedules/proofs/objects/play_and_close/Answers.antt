@@ -19,4 +19,4 @@ play-requires-sync-O g c κs within =
     let R = Param.param 3 g.row.R in let Q = Param.param 4 g.row.Q in let W = Param.copied 5 g.row.W in let V = Field.u64-field.row in
     let t = c.type_bounds in
     Send.param_sync 1 _ (Send.arg_sync _ Exit.no _
-    (object_with_sync Station.the_row C P F R Q (Gate.the_row W) V g.C.Ledger g.P.Ledger StationUnit.ghosts U64.ghosts g.C.CallLedger g.F.Ledger g.R.Record g.Q.Receipts station.the_send station.the_sync t.send-R t.sync-R t.send-Q t.sync-Q (Send.plain_send _ _ _ _ _) (Send.plain_sync _ _ _ _ _) (gate.the_sync W t.sync-W)))
+    (object_with_sync Station.the_row C P F R Q (Gate.the_row W) V g.C.Ledger g.P.Ledger StationUnit.ghosts U64.ghosts g.C.Story g.C.CallLedger g.F.Ledger g.R.Record g.Q.Receipts station.the_send station.the_sync t.send-R t.sync-R t.send-Q t.sync-Q (Send.plain_send _ _ _ _ _) (Send.plain_sync _ _ _ _ _) (gate.the_sync W t.sync-W)))

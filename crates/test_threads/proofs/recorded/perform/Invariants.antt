@@ -1,3 +1,5 @@
+use Rattle.std.specs.Prelude.{Some}
+use Rattle.po_object.specs.Stories.{ends_by}
 use Rattle.test_threads.proofs.recorded.perform.Given as goal
 
 abbrev pub ghosts-open_and_close-C-Ledger : goal.ghosts-open_and_close-C-Ledger
@@ -10,4 +12,7 @@ abbrev pub ghosts-open_and_close-F-Ledger : goal.ghosts-open_and_close-F-Ledger
 ghosts-open_and_close-F-Ledger g a = record { name = a.calls.name; parts = a.calls.parts }
 
 abbrev pub ghosts-open_and_close-C-CallLedger : goal.ghosts-open_and_close-C-CallLedger
-ghosts-open_and_close-C-CallLedger g a = record { shape = a.core.object.setup.shape }
+ghosts-open_and_close-C-CallLedger g a = record { shape = a.core.object.setup.shape; log = a.log.name; end_of = ends_by g.U.Unit.meaning a.core.object.setup }
+
+abbrev pub ghosts-open_and_close-C-Story : goal.ghosts-open_and_close-C-Story
+ghosts-open_and_close-C-Story g a = record { setup = Some a.core.object.setup }

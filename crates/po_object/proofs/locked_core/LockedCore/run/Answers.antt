@@ -1,11 +1,17 @@
-use Rattle.std.proofs.Common.{rules, sym, ◌≡◌, ◌⊎◌, Some, ◌∙◌, ap, ◌+◌, arith}
+use Rattle.std.proofs.Common.{rules, sym, ◌≡◌, ◌⊎◌, Some, ◌∙◌, ap, ◌+◌, arith, ◌++◌, ◌∷◌, [], subst}
 use Rattle.po_core.specs.Refusals.{run_refusal}
+use Rattle.po_receipts.specs.OneHistory.{IsWholeLog, end_in}
+use Rattle.po_receipts.proofs.OneHistory.{whole-on, found-on}
 use Rattle.po_object.specs.Refused.{IsOutOfMemory}
-use Rattle.po_object.proofs.Asking.{asked-action}
+use Rattle.po_object.proofs.Asking.{asked-on, asked-action}
 use Rattle.po_object.proofs.Counting.{counted-ran}
 use Rattle.po_object.proofs.LatestKept.{known-action}
 use Rattle.po_object.proofs.Refused.{refused-either, out-of-memory}
 use Rattle.po_object.proofs.Rooms.{room-same}
+use Rattle.std.proofs.lemmas.Grind.{common_steps}
+use Rattle.po_receipts.specs.declared.receipt.Receipt.TheVariants.{Ran}
+use Rattle.po_receipts.proofs.OneHistory.{stands-on}
+use Rattle.po_receipts.proofs.Told.{Told, told-ran}
 use Rattle.po_object.proofs.locked_core.LockedCore.run.Goals as goal
 
 pub invariant_of-self-2 : goal.invariant_of-self-2
@@ -13,6 +19,8 @@ invariant_of-self-2 g c =
     let old = c.self.inside.core in
     let new = c.run.new.self in
     let k = c.in_ok-reply.ensures in
+    let f = c.go_on.ensures in
+    let goes : old.object.events ++ f.followed.0 ≡ new.object.events = ap (λ core. core.object.events ++ f.followed.0) (sym c.of-before.ensures) ∙ f.followed.1 in
     record {
       counted = counted-ran g.U.Unit.meaning _ _ _ _ _ _ _ _ _ k.action (c.add.ensures.total ∙ ap (λ n. n + 1) c.audit.ensures.total) c.self.invariant.counted;
       parts = c.self.invariant.parts;
@@ -22,7 +30,10 @@ invariant_of-self-2 g c =
       bounded = c.self.invariant.bounded;
       room = room-same old new c.self.inside.reservations (ap (λ core. core.tickets) k.after) (ap (λ core. core.capacity) k.after) c.self.invariant.room;
       seats = c.self.invariant.seats;
-      asked = asked-action g.U.Unit.meaning _ _ _ _ k.action (omega (arith, c.pass.invariant.seat, c.self.invariant.seats)) c.self.invariant.asked;
+      asked = asked-on g.U.Unit.meaning _ old.object new.object c.self.inside.log f.followed.0 _ c.self.invariant.log (asked-action g.U.Unit.meaning _ _ _ _ k.action (omega (arith, c.pass.invariant.seat, c.self.invariant.seats))) goes f.followed.2 c.self.invariant.asked;
+      made = c.self.invariant.made ∙ sym (ap Some k.action.setup);
+      ends = c.self.invariant.ends ∙ sym (ap (end_in g.U.Unit.meaning) k.action.setup);
+      log = subst (IsWholeLog g.U.Unit.meaning new.object) (sym f.followed.2) (whole-on g.U.Unit.meaning old.object new.object c.self.inside.log f.followed.0 k.volumes c.self.invariant.log goes);
     }
 
 pub returns-in_err-make_room-clause-refused : goal.returns-in_err-make_room-clause-refused
@@ -35,3 +46,34 @@ returns-in_err-reply-clause-refused g c =
     let either : IsOutOfMemory g.R.Record.is_bounded c.in_err-reply.field-0.0 ⊎ (run_refusal g.U.Unit.meaning c.args.self.now.object c.args.op ≡ Some c.in_err-reply.field-0.0) =
     rw (← c.self.view_is) (refused-either c.self.inside.core c.self.inside.reservations g.Q.Receipts.is_bounded g.R.Record.is_bounded c.self.invariant.bounded.0 c.self.invariant.bounded.1 c.self.invariant.room _ _ c.in_err-reply.ensures.refused) in
     search (rules, either)
+
+pub returns-clause-ran : goal.returns-clause-ran
+returns-clause-ran g c =
+    let old = c.self.inside.core in
+    let new = c.run.new.self in
+    let k = c.in_ok-reply.ensures in
+    let f = c.go_on.ensures in
+    let goes : old.object.events ++ f.followed.0 ≡ new.object.events = ap (λ core. core.object.events ++ f.followed.0) (sym c.of-before.ensures) ∙ f.followed.1 in
+    rw (← c.pass.view_is) (found-on g.U.Unit.meaning _ old.object new.object _ _ c.self.inside.log f.followed.0 _ c.self.invariant.made k.action c.headline-2.ensures.headline k.volumes c.self.invariant.log f.later goes (f.all ∙ f.followed.2))
+
+pub invariant_of-pass-2 : goal.invariant_of-pass-2
+invariant_of-pass-2 g c =
+    let m = g.U.Unit.meaning in
+    let old = c.self.inside.core in
+    let new = c.run.new.self in
+    let k = c.in_ok-reply.ensures in
+    let f = c.go_on.ensures in
+    let goes : old.object.events ++ f.followed.0 ≡ new.object.events = ap (λ core. core.object.events ++ f.followed.0) (sym c.of-before.ensures) ∙ f.followed.1 in
+    let stands = stands-on m old.object new.object _ _ c.self.inside.log f.followed.0 _ k.action c.headline-2.ensures.headline k.volumes c.self.invariant.log f.later goes (f.all ∙ f.followed.2) in
+    let none = ap (λ p. p.pending) c.pass.view_is ∙ c.requires in
+    let told = told-ran c.pass.inside.seat g.C.CallLedger.end_of c.pass.inside.pending (g.Q.Receipts.items c.pass.inside.receipts) c.args.op c.args.value c.in_ok-reply.reply c.pass.inside.front c.go_on.new.front none c.pass.invariant.told stands.happens in
+    let filed : g.Q.Receipts.items c.file.new.self ≡ g.Q.Receipts.items c.pass.inside.receipts ++ Ran c.args.op c.args.value c.in_ok-reply.reply ∷ [] = c.file.ensures ∙ ap (λ receipts. receipts ++ Ran c.args.op c.args.value c.in_ok-reply.reply ∷ []) c.make_room.ensures.same in
+    record {
+      tallied = grind (arith, common_steps);
+      told = subst (λ receipts. Told c.pass.inside.seat g.C.CallLedger.end_of c.pass.inside.pending receipts c.go_on.new.front) (sym filed) told;
+      parts = grind (arith, common_steps);
+      amounts = grind (arith, common_steps);
+      room = search rules;
+      reservation = search rules;
+      seat = c.pass.invariant.seat;
+    }

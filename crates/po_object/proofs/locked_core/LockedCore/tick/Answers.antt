@@ -1,5 +1,7 @@
-use Rattle.std.proofs.Common.{ap, ◌∙◌, ◌≤◌, subst, sym}
-use Rattle.po_object.proofs.Asking.{asked-action}
+use Rattle.std.proofs.Common.{ap, ◌∙◌, ◌≤◌, subst, sym, ◌≡◌, ◌++◌, Some}
+use Rattle.po_receipts.specs.OneHistory.{IsWholeLog, end_in}
+use Rattle.po_receipts.proofs.OneHistory.{whole-on, ticked-on}
+use Rattle.po_object.proofs.Asking.{asked-on, asked-action}
 use Rattle.po_object.proofs.Clock.{clock-tick}
 use Rattle.po_object.proofs.Counting.{counted-tick}
 use Rattle.po_object.proofs.LatestKept.{known-action}
@@ -11,6 +13,8 @@ invariant_of-self-2 g c =
     let old = c.self.inside.core in
     let new = c.tick.new.self in
     let k = c.in_ok-clock.ensures in
+    let f = c.go_on.ensures in
+    let goes : old.object.events ++ f.followed.0 ≡ new.object.events = ap (λ core. core.object.events ++ f.followed.0) (sym c.of-before.ensures) ∙ f.followed.1 in
     record {
       counted = counted-tick g.U.Unit.meaning _ _ _ _ _ k.action c.self.invariant.counted;
       parts = c.self.invariant.parts;
@@ -20,9 +24,21 @@ invariant_of-self-2 g c =
       bounded = c.self.invariant.bounded;
       room = room-same old new c.self.inside.reservations (ap (λ core. core.tickets) k.after) (ap (λ core. core.capacity) k.after) c.self.invariant.room;
       seats = c.self.invariant.seats;
-      asked = asked-action g.U.Unit.meaning _ _ _ _ k.action tt c.self.invariant.asked;
+      asked = asked-on g.U.Unit.meaning _ old.object new.object c.self.inside.log f.followed.0 _ c.self.invariant.log (asked-action g.U.Unit.meaning _ _ _ _ k.action tt) goes f.followed.2 c.self.invariant.asked;
+      made = c.self.invariant.made ∙ sym (ap Some k.action.setup);
+      ends = c.self.invariant.ends ∙ sym (ap (end_in g.U.Unit.meaning) k.action.setup);
+      log = subst (IsWholeLog g.U.Unit.meaning new.object) (sym f.followed.2) (whole-on g.U.Unit.meaning old.object new.object c.self.inside.log f.followed.0 k.volumes c.self.invariant.log goes);
     }
 
 pub returns-clause-raised : goal.returns-clause-raised
 returns-clause-raised g c =
     subst (λ clock. c.args.t ≤ clock) (sym c.in_ok-clock.ensures.clock) (clock-tick g.U.Unit.meaning _ _ _ c.in_ok-clock.ensures.action)
+
+pub returns-clause-ticked : goal.returns-clause-ticked
+returns-clause-ticked g c =
+    let old = c.self.inside.core in
+    let new = c.tick.new.self in
+    let k = c.in_ok-clock.ensures in
+    let f = c.go_on.ensures in
+    let goes : old.object.events ++ f.followed.0 ≡ new.object.events = ap (λ core. core.object.events ++ f.followed.0) (sym c.of-before.ensures) ∙ f.followed.1 in
+    ticked-on g.U.Unit.meaning _ old.object new.object _ _ _ c.self.inside.log f.followed.0 _ c.self.invariant.made k.action c.headline.ensures.headline k.volumes c.self.invariant.log f.later goes (f.all ∙ f.followed.2) k.clock

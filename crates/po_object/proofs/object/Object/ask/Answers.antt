@@ -1,0 +1,13 @@
+use Rattle.std.proofs.Common.{ap, refl}
+use Rattle.po_receipts.proofs.OneHistory.{answers-pending}
+use Rattle.po_object.proofs.object.Object.ask.Goals as goal
+
+pub returns-in-Some-clause-answered : goal.returns-in-Some-clause-answered
+returns-in-Some-clause-answered g c =
+    let k = c.in_ok-begin.ensures in
+    answers-pending g.U.Unit.meaning _ c.begin.new.pass c.begin.new.pass _ _ _ _ _ _ _ _ refl (ap (λ p. p.pending) k.pending) k.issued c.in-Some.ensures.ended
+
+pub returns-clause-answered : goal.returns-clause-answered
+returns-clause-answered g c =
+    let k = c.in_ok-begin.ensures in
+    answers-pending g.U.Unit.meaning _ _ _ _ _ _ _ _ _ _ _ c.in_default.ensures.left.1 (ap (λ p. p.pending) k.pending) k.issued c.wait.ensures.ended

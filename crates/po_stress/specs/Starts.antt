@@ -1,0 +1,9 @@
+-- What the objects of runs are made with (this project's own).
+use Rattle.std.specs.Prelude.{List, None}
+use Rattle.po_unit.specs.declared.decl.Decl.{Decl}
+use Rattle.po_queues.specs.declared.order.Order.TheVariants.{Textual}
+use Rattle.po_core.specs.Setup.{Setup}
+
+-- this unit and these entries, calls that are numbered from 1, events from 0, and no greatest length of a queue
+abbrev pub started : {S : Type 0} → S → List Decl → Setup S
+started unit shape = record { opening = unit; shape = shape; order = Textual; max_queue = None; first_number = 1; first_place = 0 }
