@@ -11,7 +11,8 @@ use Rattle.po_core.specs.Setup.{Setup}
 use Rattle.po_engine.specs.ObjectState.{IsAtRest}
 use Rattle.po_engine.specs.Step.{step, Needs, IsLegal, replay}
 use Rattle.po_core.proofs.Runs.{replay-append}
-use Rattle.po_laws.specs.Completed.{opening, state_after, completed_by}
+use Rattle.po_laws.specs.Completed.{opening, completed_by}
+use Rattle.po_receipts.specs.OneHistory.{state_after}
 use Rattle.po_laws.specs.Gathered.{servings, issued, with_own_value}
 use Rattle.po_classic_units.specs.Meeting.{MeetingState, meeting_meaning, IsNewMeeting}
 use Rattle.po_laws.specs.MeetingLaw.{Gathers, BelongsToMeeting, MeetingGathers}

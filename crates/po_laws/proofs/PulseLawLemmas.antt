@@ -12,7 +12,8 @@ use Rattle.po_core.specs.Public.{NamesPublic, AllPublic}
 use Rattle.po_engine.specs.WaitingCalls.{has_number}
 use Rattle.po_engine.specs.ObjectState.{IsAtRest}
 use Rattle.po_engine.specs.Step.{Needs, IsLegal, replay}
-use Rattle.po_laws.specs.Completed.{opening, state_after, completed_at}
+use Rattle.po_laws.specs.Completed.{opening, completed_at}
+use Rattle.po_receipts.specs.OneHistory.{state_after}
 use Rattle.po_laws.specs.Gathered.{servings, issued, with_own_value}
 use Rattle.po_classic_units.specs.Pulse.{PulseState, IsNewPulse, pulse_meaning, pulse_declarations}
 use Rattle.po_laws.specs.PulseLaw.{ReleasesAll, BelongsToSignal, PulseReleasesAll}

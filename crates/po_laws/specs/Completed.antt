@@ -8,7 +8,7 @@ use Rattle.po_history.specs.declared.event.Event.{Event}
 use Rattle.po_history.specs.declared.event.Event.TheVariants.{Issue, Serve}
 use Rattle.po_core.specs.Setup.{Setup}
 use Rattle.po_engine.specs.ObjectState.{ObjectState, opening_state}
-use Rattle.po_engine.specs.Step.{step, replay}
+use Rattle.po_engine.specs.Step.{step}
 use Rattle.po_core.specs.View.{newly_ended}
 
 -- the value of a call that completes, before others
@@ -31,10 +31,6 @@ module _ {S V : Type 0} where
   -- the state in which an object with this setup begins
   abbrev pub opening : Setup S → ObjectState S V
   opening setup = opening_state setup.opening setup.first_number
-
-  -- the state after these events of an object with this setup
-  abbrev pub state_after : Meaning S V → Setup S → List (Event V) → ObjectState S V
-  state_after m setup events = replay m setup.max_queue (opening setup) events
 
   -- the values with which calls complete by the event
   abbrev pub completed_by : Meaning S V → Option ℕ → ObjectState S V → Event V → List V

@@ -7,7 +7,8 @@ use Rattle.po_history.specs.declared.event.Event.TheVariants.{Issue, Serve}
 use Rattle.po_core.specs.Setup.{Setup}
 use Rattle.po_core.specs.Public.{AllPublic}
 use Rattle.po_core.specs.View.{newly_ended}
-use Rattle.po_laws.specs.Completed.{state_after, completed_at}
+use Rattle.po_laws.specs.Completed.{completed_at}
+use Rattle.po_receipts.specs.OneHistory.{state_after}
 use Rattle.po_laws.specs.Gathered.{BeginsAnew, servings, issued, with_own_value}
 use Rattle.po_classic_units.specs.Pulse.{PulseState, pulse_meaning, pulse_declarations}
 

@@ -62,6 +62,13 @@ impl<U: Unit, R: Record<U>, Q: Receipts<U::Value>> Closed<U, R, Q> {
         self.passes.as_slice()
     }
 
+    /// The whole history, from the opening on, which proofs alone know.
+    pub fn log(&self) -> &Seen<Event<U::Value>>
+        ensures { result.now.items ≡ self.now.log }
+    {
+        &self.log
+    }
+
     /// Whether no pass has a call that was accepted and has no receipt. The calls of `Object` leave none behind.
     pub fn none_pending(&self) -> bool
         ensures { (result ≡ true) ↔ NonePending self.now.passes }

@@ -22,19 +22,19 @@ module _ {V : Type 0} (seat : ℕ) where
   IsAskedBetween (Some asked) before after =
       HappensBetween (Issue asked.ticket.number seat asked.entry asked.value asked.deadline) before after
 
-  module _ (end_of : List (Event V) → ℕ → Option (End V)) where
-    -- The receipt says what happened: the seat issued the call, which has ended so (9.5.3); or the procedure ran for the seat,
-    -- and replied so (9.5.1).
-    abbrev pub IsAnswerBetween : Receipt V → List (Event V) → List (Event V) → Type 0
-    IsAnswerBetween (Receipt.Called number entry value deadline answer) before after =
-        HappensBetween (Issue number seat entry value deadline) before after × (end_of after number ≡ Some answer)
-    IsAnswerBetween (Receipt.Ran op value reply) before after = HappensBetween (Ran seat op value reply) before after
+module _ {V : Type 0} (seat : ℕ) (end_of : List (Event V) → ℕ → Option (End V)) where
+  -- The receipt says what happened: the seat issued the call, which has ended so (9.5.3); or the procedure ran for the seat,
+  -- and replied so (9.5.1).
+  abbrev pub IsAnswerBetween : Receipt V → List (Event V) → List (Event V) → Type 0
+  IsAnswerBetween (Receipt.Called number entry value deadline answer) before after =
+      HappensBetween (Issue number seat entry value deadline) before after × (end_of after number ≡ Some answer)
+  IsAnswerBetween (Receipt.Ran op value reply) before after = HappensBetween (Ran seat op value reply) before after
 
-    -- The receipts say what happened, one behind the other.
-    abbrev pub AreAnswersBetween : List (Receipt V) → List (Event V) → List (Event V) → Type 0
-    AreAnswersBetween [] before after = IsPrefix before after
-    AreAnswersBetween (receipt ∷ receipts) before after =
-        (here : List (Event V)) × (IsAnswerBetween receipt before here × AreAnswersBetween receipts here after)
+  -- The receipts say what happened, one behind the other.
+  abbrev pub AreAnswersBetween : List (Receipt V) → List (Event V) → List (Event V) → Type 0
+  AreAnswersBetween [] before after = IsPrefix before after
+  AreAnswersBetween (receipt ∷ receipts) before after =
+      (here : List (Event V)) × (IsAnswerBetween receipt before here × AreAnswersBetween receipts here after)
 
 -- In what its caller has seen, from the opening on, the receipts of the pass say what happened, and so does its pending call.
 abbrev pub IsTold : {V : Type 0} → (List (Event V) → ℕ → Option (End V)) → PassView V → Type 0
