@@ -1,6 +1,6 @@
 //! How an object is closed, and what is left of it.
 
-ghost use Rattle.std.specs.Prelude.{◌≡◌, ◌↔◌, true, All, ◌+◌, ◌^◌, ◌<◌, ◌≤◌, IfOk, IfErr, IfSome, IfNone, OnOk, length, vec_len, slice_index, slice_set, sum_by};
+ghost use Rattle.std.specs.Prelude.{◌≡◌, ◌↔◌, true, All, Some, ◌+◌, ◌^◌, ◌<◌, ◌≤◌, IfOk, IfErr, IfSome, IfNone, OnOk, length, vec_len, slice_index, slice_set, sum_by};
 ghost use Rattle.po_object.specs.Seats.{OneEach, IsMissing, AreBySeat, ArePlaced, AreCounts};
 ghost use Rattle.po_object.specs.Faults.{KeepsAll};
 ghost use Rattle.po_object.specs.Closing.{IsClosed};
@@ -122,6 +122,8 @@ impl<
         ensures one_each { OnOk result (OneEach self passes.items × (length passes.items ≡ self)) }
         ensures by_seat { IfOk result (λ closed. AreBySeat self passes.items closed.passes) }
         ensures totals { IfOk result (λ closed. HasClosingTotals closed.core closed.passes) }
+        // It is the object that was opened.
+        ensures setup { IfOk result (λ closed. C.setup ≡ Some closed.core.object.setup) }
         ensures fault { IfErr result (λ fault. KeepsAll self passes.items fault) }
     {
         let mut object = self;
@@ -212,6 +214,7 @@ fn gather<U: Unit, C: Story<U>, P: Ledger, F: Ledger, R: Record<U>, Q: Receipts<
     ensures length { length passes.items ≡ calls.now.seats }
     ensures by_seat { AreBySeat calls.now.seats passes.items result.passes }
     ensures totals { HasClosingTotals result.core result.passes }
+    ensures setup { C.setup ≡ Some result.core.object.setup }
 {
     let (core, mut calls_book, mut procedures_book, mut made, mut ran, mut log) =
         locked.take_apart();

@@ -461,6 +461,7 @@ impl<U: Unit, C: Story<U>, P: Ledger, F: Ledger, R: Record<U>, Q: Receipts<U::Va
         ensures totals { IsCounted result.0.object result.1.total result.2.total }
         ensures parts { (result.3.parts ≡ 1) × (result.4.parts ≡ 1) }
         ensures amounts { (result.3.amount ≡ 0) × (result.4.amount ≡ 0) }
+        ensures made { C.setup ≡ Some result.0.object.setup }
         ensures log { IsWholeLog U.meaning result.0.object result.5 }
         ensures ends { C.end_of ≡ end_in U.meaning result.0.object.setup }
         ensures asked { (seats : ℕ) → C.parts ≡ seats + 1 → AskedBySeats seats result.5 }
