@@ -3,20 +3,37 @@
 ghost use Rattle.std.specs.Prelude.{◌≡◌, ◌++◌};
 ghost use Rattle.po_history.specs.Histories.{joined};
 ghost use Rattle.po_core.specs.Cutting.{AreVolumes};
+ghost use Rattle.po_receipts.specs.OneHistory.{IsWholeLog};
 ghost use Rattle.example_readers.specs.Exclusion.{WritersAreAlone};
 ghost use Rattle.example_readers.specs.ReadersWriters.{new_readers_writers, readers_writers_meaning};
 
 use crate::readers_writers::ReadersWriters;
-use po_core::{Core, Volume};
+use po_core::{Core, Event, Record, Volume};
+use po_log::Seen;
 
 /// In the history of every object of readers and writers that was made as a new one, at each point: at most one writer is
 /// inside, and while one is, no reader is.
 ///
 /// The history is that of the volumes that were cut off, all of them in order, and the present events behind them.
-pub fn exclusion_law(core: &Core<ReadersWriters>, volumes: &[Volume<u64>])
+pub fn exclusion_law<R: Record<ReadersWriters>>(
+    core: &Core<ReadersWriters, R>,
+    volumes: &[Volume<u64>],
+)
     requires new { core.now.object.setup.opening ≡ new_readers_writers core.now.object.setup.opening.most }
     requires volumes { AreVolumes readers_writers_meaning core.now.object volumes.now }
     ensures law { WritersAreAlone core.now.object.setup (joined volumes.now ++ core.now.object.events) }
+{
+    core.headline();
+}
+
+/// The same of the whole history of an object, whatever was cut off.
+pub fn exclusion_law_of_log<R: Record<ReadersWriters>>(
+    core: &Core<ReadersWriters, R>,
+    log: &Seen<Event<u64>>,
+)
+    requires new { core.now.object.setup.opening ≡ new_readers_writers core.now.object.setup.opening.most }
+    requires whole { IsWholeLog readers_writers_meaning core.now.object log.now.items }
+    ensures law { WritersAreAlone core.now.object.setup log.now.items }
 {
     core.headline();
 }

@@ -1,30 +1,39 @@
 //! A unit of one's own with a requeue and a law, as an example: readers and writers.
 //!
 //! A reader goes in, a writer asks, and then a second reader: the writer has the next turn, and the second reader comes
-//! after it. It is printed who asks, and who goes in.
+//! after it. It is printed who asks, and who goes in. Then threads go in and out.
 #![tactic(auto)]
 
-ghost use Rattle.std.specs.Prelude.{[], IfOk, OnOk};
+ghost use Rattle.std.specs.Prelude.{◌≡◌, [], IfOk, OnOk};
 ghost use Rattle.po_core.specs.Cutting.{AreVolumes, KeepsVolumes};
-ghost use Rattle.example_readers.specs.ReadersWriters.{readers_writers_meaning};
+ghost use Rattle.example_readers.specs.ReadersWriters.{new_readers_writers, readers_writers_meaning};
 
 mod law;
 mod readers_writers;
+mod visits;
 
 use anyhow::Result;
 use law::exclusion_law;
 use po_core::{Core, Deadline, Order};
+use po_object::{Closed, Keeper};
 use po_unit::EntryRef;
 use readers_writers::{READ, READ_DONE, ReadersWriters, WRITE, WRITE_DONE};
 use std::alloc::Global;
 use std::io::Print;
+use std::marker::Brand;
+use std::sync::ledger::Blank;
+use visits::{SEATS, visit_by_threads};
 
 /// How many readers may be inside at once.
 const MOST: u64 = 8;
 
+/// The parts of each ledger: one for each seat, and one for the object.
+const PARTS: u64 = SEATS as u64 + 1;
+
 /// A core over readers and writers, whose calls are numbered from 1.
 fn new_core(alloc: Global) -> Result<Core<ReadersWriters>>
-    ensures { IfOk result (λ c. AreVolumes readers_writers_meaning c.object []) }
+    ensures whole { IfOk result (λ c. AreVolumes readers_writers_meaning c.object []) }
+    ensures new { IfOk result (λ c. c.object.setup.opening ≡ new_readers_writers c.object.setup.opening.most) }
 {
     let unit = ReadersWriters::new(MOST);
     let shape = unit.shape(alloc)?;
@@ -74,7 +83,27 @@ fn visit<R: Print>(rt: &R, core: &mut Core<ReadersWriters>) -> Result<()>
     Ok(())
 }
 
+/// How often threads went in.
+fn visits(closed: &Closed<ReadersWriters>) -> u64 {
+    let mut visits = 0u64;
+    for pass in closed.passes() {
+        visits = visits.saturating_add(pass.calls());
+    }
+    visits
+}
+
 fn main(rt: HostRuntime) -> Result<()> {
     let mut core = new_core(rt.alloc())?;
-    visit(&rt, &mut core)
+    visit(&rt, &mut core)?;
+    let core = new_core(rt.alloc())?;
+    let (calls, procedures) = (Blank::new(PARTS), Blank::new(PARTS));
+    let closed = visit_by_threads::<Brand, Brand, HostRuntime>(
+        rt,
+        core,
+        calls,
+        procedures,
+        Keeper::open(),
+    )?;
+    println!(&rt; "{} visits by threads, and never two writers inside", visits(&closed))?;
+    Ok(())
 }

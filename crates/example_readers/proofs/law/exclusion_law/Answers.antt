@@ -4,7 +4,7 @@ use Rattle.example_readers.proofs.ExclusionLemmas as lemmas
 use Rattle.example_readers.proofs.law.exclusion_law.Goals as goal
 
 pub returns : goal.returns
-returns c =
+returns g c =
     let view = c.args.core.now.object in
     let volumes = c.args.volumes.now in
     let headline = c.headline.ensures.headline in

@@ -1,0 +1,137 @@
+//! Threads that go in and out of an object of readers and writers, and the law of what they did.
+
+ghost use Rattle.std.specs.Prelude.{◌≡◌, ◌+◌, [], IfOk};
+ghost use Rattle.po_object.specs.Stories.{IsStory};
+ghost use Rattle.example_readers.specs.Exclusion.{WritersAreAlone};
+ghost use Rattle.example_readers.specs.ReadersWriters.{new_readers_writers, readers_writers_meaning};
+
+use crate::law::exclusion_law_of_log;
+use crate::readers_writers::{READ, READ_DONE, ReadersWriters, WRITE, WRITE_DONE};
+use anyhow::{Result, bail};
+use po_core::{Core, Event, Record};
+use po_object::{Closed, Keeper, Object, Pass, Receipts, Story};
+use po_threads::{Job, start};
+use po_unit::EntryRef;
+use std::alloc::AllocError;
+use std::sync::ledger::{Blank, Ledger};
+use std::sync::{Arc, Wait};
+use std::thread::Threads;
+
+/// How many threads visit: as many write as read.
+pub(crate) const SEATS: u16 = 4;
+
+/// How often each goes in and comes out.
+const VISITS: u64 = 100;
+
+/// A reader or a writer: by which entry it goes in, and by which procedure it comes out.
+#[derive(Clone, Copy)]
+struct Visitor {
+    enter: u16,
+    leave: u16,
+}
+
+const READER: Visitor = Visitor {
+    enter: READ,
+    leave: READ_DONE,
+};
+
+const WRITER: Visitor = Visitor {
+    enter: WRITE,
+    leave: WRITE_DONE,
+};
+
+impl Job<ReadersWriters> for Visitor {
+    /// A visitor that is refused finalizes the object, so that no other waits for it.
+    fn run<C: Story<ReadersWriters>, P: Ledger, F: Ledger, R: Record<ReadersWriters>, Q: Receipts<u64>, W: Wait>(
+        self,
+        rt: &W,
+        object: &Object<ReadersWriters, C, P, F, R, Q>,
+        mut pass: Pass<u64, C, P, F, Q>,
+    ) -> Pass<u64, C, P, F, Q> {
+        if pass.pending() {
+            return pass;
+        }
+        let enter = EntryRef {
+            entry: self.enter,
+            index: None,
+        };
+        for _ in 0..VISITS {
+            if object.call(rt, &mut pass, enter, 0).is_err()
+                || object.procedure(rt, &mut pass, self.leave, 0).is_err()
+            {
+                let _ended = object.finalize(rt);
+                break;
+            }
+        }
+        pass
+    }
+}
+
+/// Has a thread visit from each seat, and waits until all are done.
+fn visit_all<
+    C: Story<ReadersWriters> + Send + Sync + 'static,
+    P: Ledger + Send + Sync + 'static,
+    W: Threads + Wait + AllocGlobal + Copy + Send + 'static,
+>(
+    rt: W,
+    object: &Arc<Object<ReadersWriters, C, P>>,
+    passes: &mut Vec<Pass<u64, C, P>>,
+) -> Result<(), AllocError> {
+    let mut running = Vec::new(rt.alloc());
+    while let Some(pass) = passes.pop() {
+        let visitor = if pass.seat() % 2 == 0 { WRITER } else { READER };
+        running.push(start(rt, Arc::try_clone(object)?, pass, visitor)?)?;
+    }
+    for thread in running {
+        passes.push(thread.join(&rt))?;
+    }
+    Ok(())
+}
+
+/// Closes the object, which no thread has any more. It is the one that was opened.
+fn close<C: Story<ReadersWriters>, P: Ledger>(
+    object: Arc<Object<ReadersWriters, C, P>>,
+    passes: Vec<Pass<u64, C, P>>,
+) -> Result<Closed<ReadersWriters>>
+    ensures { IfOk result (λ closed. C.setup ≡ Some closed.core.object.setup) }
+{
+    let Ok(object) = Arc::try_unwrap(object) else {
+        bail!("a thread still has the object");
+    };
+    match object.close(passes) {
+        Ok(closed) => Ok(closed),
+        Err(fault) => bail!("{fault}"),
+    }
+}
+
+/// Opens an object over the core, has threads visit it, and closes it. However they were scheduled: at each point of the
+/// object's history at most one writer was inside, and while one was, no reader.
+pub(crate) fn visit_by_threads<
+    C: Story<ReadersWriters> + Send + Sync + 'static,
+    P: Ledger + Send + Sync + 'static,
+    W: Threads + Wait + AllocGlobal + Copy + Send + 'static,
+>(
+    rt: W,
+    core: Core<ReadersWriters>,
+    calls: Blank,
+    procedures: Blank,
+    log: Keeper<Event<u64>>,
+) -> Result<Closed<ReadersWriters>>
+    requires new { core.object.setup.opening ≡ new_readers_writers core.object.setup.opening.most }
+    requires shape { core.object.setup.shape ≡ C.shape }
+    requires story { IsStory readers_writers_meaning core.object.setup C.setup C.end_of }
+    requires log { (log.name ≡ C.log) × (log.items ≡ []) }
+    requires calls { (calls.name ≡ C.name) × (calls.parts ≡ C.parts) × (calls.parts ≡ SEATS + 1) }
+    requires procedures { (procedures.name ≡ P.name) × (procedures.parts ≡ P.parts) × (procedures.parts ≡ SEATS + 1) }
+    ensures alone { IfOk result (λ closed. WritersAreAlone core.object.setup closed.log) }
+{
+    let opened =
+        Object::<ReadersWriters, C, P>::open(rt.alloc(), core, SEATS, calls, procedures, log);
+    let (object, mut passes) = opened?;
+    let object = Arc::new(rt.alloc(), object)?;
+    visit_all(rt, &object, &mut passes)?;
+    let closed = close(object, passes)?;
+    closed.closing_totals();
+    exclusion_law_of_log(closed.core(), closed.log());
+    Ok(closed)
+}
