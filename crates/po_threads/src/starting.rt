@@ -30,6 +30,6 @@ pub fn start<
 where
     U::Value: Send + Sync + 'static,
 {
-    let done = move || -> Pass<U::Value, C, P, F, Q> { job.run(&rt, &*object, pass) };
-    Ok(thread::spawn(&rt, done)?)
+    let work = move || -> Pass<U::Value, C, P, F, Q> { job.run(&rt, &*object, pass) };
+    Ok(thread::spawn(&rt, work)?)
 }
