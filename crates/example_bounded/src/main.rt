@@ -15,13 +15,14 @@ use anyhow::{Result, bail};
 use po_classic_units::{Buffer, ScriptUnit};
 use po_core::{BoundedCore, Event, Order, Record, Start};
 use po_object::{BoundedClosed, BoundedObject, BoundedPass, Keeper, Object, Pass, Receipts, Story};
+use po_threads::{Job, start};
 use po_unit::EntryRef;
 use std::alloc::{AllocError, Global};
 use std::io::Print;
 use std::marker::Brand;
 use std::sync::ledger::{Blank, Ledger};
 use std::sync::{Arc, Wait};
-use std::thread::{self, JoinHandle, Threads};
+use std::thread::Threads;
 
 /// How many values the buffer has room for.
 const CAPACITY: u16 = 4;
@@ -67,45 +68,32 @@ fn empty_buffer(alloc: Global) -> Result<BoundedCore<Buffer>>
     Ok(core)
 }
 
-/// Calls the entry so many times, with the values from 0 on, and gives the pass back. The object is of either kind.
-///
-/// A caller that is refused finalizes the object, so that no other waits for what it doesn't do.
-fn call_often<C: Story<Buffer>, P: Ledger, F: Ledger, R: Record<Buffer>, Q: Receipts<u64>, W: Wait>(
-    rt: &W,
-    object: &Object<Buffer, C, P, F, R, Q>,
-    mut pass: Pass<u64, C, P, F, Q>,
+/// What a thread does: it calls the entry so many times, with the values from 0 on.
+#[derive(Clone, Copy)]
+struct Calls {
     entry: EntryRef,
     times: u64,
-) -> Pass<u64, C, P, F, Q> {
-    if pass.pending() {
-        return pass;
-    }
-    for value in 0..times {
-        if object.call(rt, &mut pass, entry, value).is_err() {
-            let _ended = object.finalize(rt);
-            break;
-        }
-    }
-    pass
 }
 
-/// Starts a thread that calls the entry so many times.
-fn start<
-    C: Story<Buffer> + Send + Sync + 'static,
-    P: Ledger + Send + Sync + 'static,
-    F: Ledger + Send + Sync + 'static,
-    R: Record<Buffer> + Drop + Send + Sync + 'static,
-    Q: Receipts<u64> + Send + Sync + 'static,
-    W: Threads + Wait + Copy + Send + 'static,
->(
-    rt: W,
-    object: Arc<Object<Buffer, C, P, F, R, Q>>,
-    pass: Pass<u64, C, P, F, Q>,
-    entry: EntryRef,
-    times: u64,
-) -> Result<JoinHandle<Pass<u64, C, P, F, Q>>, AllocError> {
-    let job = move || -> Pass<u64, C, P, F, Q> { call_often(&rt, &*object, pass, entry, times) };
-    Ok(thread::spawn(&rt, job)?)
+impl Job<Buffer> for Calls {
+    /// A caller that is refused finalizes the object, so that no other waits for what it doesn't do.
+    fn run<C: Story<Buffer>, P: Ledger, F: Ledger, R: Record<Buffer>, Q: Receipts<u64>, W: Wait>(
+        self,
+        rt: &W,
+        object: &Object<Buffer, C, P, F, R, Q>,
+        mut pass: Pass<u64, C, P, F, Q>,
+    ) -> Pass<u64, C, P, F, Q> {
+        if pass.pending() {
+            return pass;
+        }
+        for value in 0..self.times {
+            if object.call(rt, &mut pass, self.entry, value).is_err() {
+                let _ended = object.finalize(rt);
+                break;
+            }
+        }
+        pass
+    }
 }
 
 /// Has a thread for each pass call Put, where its seat is even, or Get, and waits until all are done.
@@ -122,7 +110,11 @@ fn exchange<
     let mut running = Vec::new(rt.alloc());
     while let Some(pass) = passes.pop() {
         let entry = if pass.seat() % 2 == 0 { PUT } else { GET };
-        running.push(start(rt, Arc::try_clone(object)?, pass, entry, VALUES)?)?;
+        let calls = Calls {
+            entry,
+            times: VALUES,
+        };
+        running.push(start(rt, Arc::try_clone(object)?, pass, calls)?)?;
     }
     for thread in running {
         passes.push(thread.join(&rt))?;

@@ -13,13 +13,14 @@ use anyhow::{Result, bail};
 use po_classic_units::{Buffer, ScriptUnit};
 use po_core::{Aborted, Core, End, Event, Order, Record};
 use po_object::{Closed, Keeper, Object, Pass, Receipt, Receipts, Story, reconcile};
+use po_threads::{Job, start};
 use po_unit::EntryRef;
 use std::alloc::{AllocError, Global};
 use std::io::Print;
 use std::marker::Brand;
 use std::sync::ledger::{Blank, Ledger};
 use std::sync::{Arc, Wait};
-use std::thread::{self, JoinHandle, Threads};
+use std::thread::{self, Threads};
 use std::time::{Clock, Duration};
 
 /// How many values the buffer has room for.
@@ -56,45 +57,32 @@ fn empty_buffer(alloc: Global) -> Result<Core<Buffer>> {
     Ok(Core::new(alloc, buffer, shape, Order::Textual, 1)?)
 }
 
-/// Calls the entry so many times, with the values from 0 on, and gives the pass back. The object is of either kind.
-///
-/// A caller that is refused finalizes the object, so that no other waits for what it doesn't do.
-fn call_often<C: Story<Buffer>, P: Ledger, F: Ledger, R: Record<Buffer>, Q: Receipts<u64>, W: Wait>(
-    rt: &W,
-    object: &Object<Buffer, C, P, F, R, Q>,
-    mut pass: Pass<u64, C, P, F, Q>,
+/// What a thread does: it calls the entry so many times, with the values from 0 on.
+#[derive(Clone, Copy)]
+struct Calls {
     entry: EntryRef,
     times: u64,
-) -> Pass<u64, C, P, F, Q> {
-    if pass.pending() {
-        return pass;
-    }
-    for value in 0..times {
-        if object.call(rt, &mut pass, entry, value).is_err() {
-            let _ended = object.finalize(rt);
-            break;
-        }
-    }
-    pass
 }
 
-/// Starts a thread that calls the entry so many times.
-fn start<
-    C: Story<Buffer> + Send + Sync + 'static,
-    P: Ledger + Send + Sync + 'static,
-    F: Ledger + Send + Sync + 'static,
-    R: Record<Buffer> + Drop + Send + Sync + 'static,
-    Q: Receipts<u64> + Send + Sync + 'static,
-    W: Threads + Wait + Copy + Send + 'static,
->(
-    rt: W,
-    object: Arc<Object<Buffer, C, P, F, R, Q>>,
-    pass: Pass<u64, C, P, F, Q>,
-    entry: EntryRef,
-    times: u64,
-) -> Result<JoinHandle<Pass<u64, C, P, F, Q>>, AllocError> {
-    let job = move || -> Pass<u64, C, P, F, Q> { call_often(&rt, &*object, pass, entry, times) };
-    Ok(thread::spawn(&rt, job)?)
+impl Job<Buffer> for Calls {
+    /// A caller that is refused finalizes the object, so that no other waits for what it doesn't do.
+    fn run<C: Story<Buffer>, P: Ledger, F: Ledger, R: Record<Buffer>, Q: Receipts<u64>, W: Wait>(
+        self,
+        rt: &W,
+        object: &Object<Buffer, C, P, F, R, Q>,
+        mut pass: Pass<u64, C, P, F, Q>,
+    ) -> Pass<u64, C, P, F, Q> {
+        if pass.pending() {
+            return pass;
+        }
+        for value in 0..self.times {
+            if object.call(rt, &mut pass, self.entry, value).is_err() {
+                let _ended = object.finalize(rt);
+                break;
+            }
+        }
+        pass
+    }
 }
 
 /// Cancels the call of the seat, which may not be there yet. If it never comes, the object is finalized.
@@ -125,7 +113,11 @@ fn exchange<
     let mut running = Vec::new(rt.alloc());
     while let Some(pass) = passes.pop() {
         let entry = if pass.seat() % 2 == 0 { PUT } else { GET };
-        running.push(start(rt, Arc::try_clone(object)?, pass, entry, VALUES)?)?;
+        let calls = Calls {
+            entry,
+            times: VALUES,
+        };
+        running.push(start(rt, Arc::try_clone(object)?, pass, calls)?)?;
     }
     for thread in running {
         passes.push(thread.join(&rt))?;
@@ -144,7 +136,11 @@ fn get_in_vain<
     pass: Pass<u64, C, P>,
 ) -> Result<Pass<u64, C, P>, AllocError> {
     let seat = pass.seat();
-    let waiting = start(rt, Arc::try_clone(object)?, pass, GET, 1)?;
+    let call = Calls {
+        entry: GET,
+        times: 1,
+    };
+    let waiting = start(rt, Arc::try_clone(object)?, pass, call)?;
     cancel(&rt, object, seat);
     Ok(waiting.join(&rt))
 }

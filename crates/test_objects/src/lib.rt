@@ -1,4 +1,4 @@
-//! Tests of an object behind its lock, which one thread calls.
+//! Tests of an object behind its lock, which one thread calls, and of jobs and tickers.
 #![tactic(auto)]
 
 #[cfg(test)]
@@ -9,5 +9,7 @@ mod buffers;
 mod scenes;
 #[cfg(test)]
 mod shelf;
+#[cfg(test)]
+mod threads;
 #[cfg(test)]
 mod volumes;

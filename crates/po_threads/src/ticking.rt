@@ -1,0 +1,71 @@
+//! What the thread of a ticker does.
+
+use crate::watch::Watch;
+use po_core::{Record, Refusal};
+use po_object::{Object, Receipts, Story};
+use po_unit::Unit;
+use std::alloc::AllocError;
+use std::sync::ledger::Ledger;
+use std::sync::{Arc, Wait};
+use std::thread::{self, JoinHandle, Threads};
+use std::time::Clock;
+
+/// Raises the clock to the time of the watch. While the time can't be read, it doesn't.
+fn tick<
+    U: Unit,
+    C: Story<U>,
+    P: Ledger,
+    F: Ledger,
+    R: Record<U>,
+    Q: Receipts<U::Value>,
+    W: Wait + Clock,
+>(rt: &W, object: &Object<U, C, P, F, R, Q>, watch: &Watch) -> Result<(), Refusal> {
+    if let Ok(millis) = watch.millis(rt) {
+        let _clock = object.tick(rt, millis)?;
+    }
+    Ok(())
+}
+
+/// Ticks every period of the watch until it is stopped, the last time behind that, and answers why the object refused a tick,
+/// if it did.
+fn tick_often<
+    U: Unit,
+    C: Story<U>,
+    P: Ledger,
+    F: Ledger,
+    R: Record<U>,
+    Q: Receipts<U::Value>,
+    W: Wait + Clock,
+>(rt: &W, object: &Object<U, C, P, F, R, Q>, watch: &Watch) -> Option<Refusal> {
+    for _ in rt.forever() {
+        if let Err(refusal) = tick(rt, object, watch) {
+            return Some(refusal);
+        }
+        if watch.is_stopped() {
+            return None;
+        }
+        watch.sleep(rt);
+    }
+    unreachable!()
+}
+
+/// Starts a thread that ticks so.
+pub(crate) fn start_ticking<
+    U: Unit + Drop + Send + Sync + 'static,
+    C: Story<U> + Send + Sync + 'static,
+    P: Ledger + Send + Sync + 'static,
+    F: Ledger + Send + Sync + 'static,
+    R: Record<U> + Drop + Send + Sync + 'static,
+    Q: Receipts<U::Value> + Send + Sync + 'static,
+    W: Threads + Wait + Clock + Copy + Send + 'static,
+>(
+    rt: W,
+    object: Arc<Object<U, C, P, F, R, Q>>,
+    watch: Arc<Watch>,
+) -> Result<JoinHandle<Option<Refusal>>, AllocError>
+where
+    U::Value: Send + Sync + 'static,
+{
+    let job = move || -> Option<Refusal> { tick_often(&rt, &*object, &*watch) };
+    Ok(thread::spawn(&rt, job)?)
+}
