@@ -14,7 +14,7 @@ use Rattle.po_engine.proofs.Lists.{found_on}
 use Rattle.po_core.proofs.Wells.{InRange, range-step}
 use Rattle.std.specs.Prelude.{slice_index}
 use Rattle.po_laws.specs.Completed.{opening, completed_at, values_at}
-use Rattle.po_laws.proofs.HistoryLemmas.{value_from, values_between, Idles, Runs, DoesAtGate, does, found_holds, legal_front}
+use Rattle.po_laws.proofs.HistoryLemmas.{value_from, values_between, Idles, Runs, DoesAtBarrier, does, found_holds, legal_front}
 use Rattle.example_readers.specs.ReadersWriters.{ReadersWritersState, new_readers_writers, readers_writers_barrier, readers_writers_body, read_done, write_done, readers_writers_meaning, readers_writers_lawful}
 use Rattle.example_readers.specs.Exclusion.{WritersAreAlone, has_left, left}
 
@@ -163,7 +163,7 @@ runs_moves s t e v turns runs low open_now =
 
 -- an issued call runs its body at an open barrier, and else waits
 issue_moves : (s t : State) (e v turns : ℕ) (is_open : Bool) → readers_writers_barrier s.unit e turns ≡ is_open
-    → DoesAtGate readers_writers_meaning s t e v (Ok is_open)
+    → DoesAtBarrier readers_writers_meaning s t e v (Ok is_open)
     → e < 3
     → Moves s.unit t.unit (many (e == 0) s t) 0 (many (e == 2) s t) 0
 issue_moves s t e v turns true is does low = runs_moves s t e v turns does low is

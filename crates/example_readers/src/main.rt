@@ -84,7 +84,7 @@ fn visit<R: Print>(rt: &R, core: &mut Core<ReadersWriters>) -> Result<()>
 }
 
 /// How often threads went in.
-fn visits(closed: &Closed<ReadersWriters>) -> u64 {
+fn count_visits(closed: &Closed<ReadersWriters>) -> u64 {
     let mut visits = 0u64;
     for pass in closed.passes() {
         visits = visits.saturating_add(pass.calls());
@@ -104,6 +104,6 @@ fn main(rt: HostRuntime) -> Result<()> {
         procedures,
         Keeper::open(),
     )?;
-    println!(&rt; "{} visits by threads, and never two writers inside", visits(&closed))?;
+    println!(&rt; "{} visits by threads, and never two writers inside", count_visits(&closed))?;
     Ok(())
 }

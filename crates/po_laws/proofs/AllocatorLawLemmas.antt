@@ -22,7 +22,7 @@ use Rattle.po_classic_units.specs.Declarations.{public_entry, private_family}
 use Rattle.po_laws.specs.Completed.{opening, completed_by, all_values}
 use Rattle.po_classic_units.specs.Allocator.{AllocatorState, IsNewAllocator, allocator_barrier, is_beyond, allocator_body, release, allocator_meaning, allocator_declarations}
 use Rattle.po_laws.specs.AllocatorLaw.{AllocatorStaysWithin, values_released, with_release}
-use Rattle.po_laws.proofs.HistoryLemmas.{value_from, values_between, Idles, Runs, DoesAtGate, does, found_holds, legal_front, public_front, HoldsRequeued, HoldsIssued, all_wait}
+use Rattle.po_laws.proofs.HistoryLemmas.{value_from, values_between, Idles, Runs, DoesAtBarrier, does, found_holds, legal_front, public_front, HoldsRequeued, HoldsIssued, all_wait}
 
 -- a number of which there can be so many
 in_range : (most v : ℕ) → is_beyond most v ≡ false → (1 ≤ v) × (v ≤ most)
@@ -144,7 +144,7 @@ idles_moves : (s t : State) → Idles s t → Moves s.unit t.unit (sum (values_b
 idles_moves s t idles = rw idles.values (moves_nothing s.unit t.unit idles.unit)
 
 -- Request and Claim take nothing
-asks_moves : (s t : State) (e v : ℕ) → e < 2 → DoesAtGate allocator_meaning s t e v (barrier_in allocator_meaning s e)
+asks_moves : (s t : State) (e v : ℕ) → e < 2 → DoesAtBarrier allocator_meaning s t e v (barrier_in allocator_meaning s e)
     → Moves s.unit t.unit (sum (values_between s t)) 0
 asks_moves s t zero v low runs =
     rw (runs.values, asked_none (is_beyond s.unit.size v) true v) (moves_nothing s.unit t.unit runs.unit)

@@ -15,7 +15,7 @@ use Rattle.po_core.proofs.Wells.{InRange, range-step}
 use Rattle.po_laws.specs.Completed.{opening, completed_at, values_at}
 use Rattle.po_classic_units.specs.Buffer.{BufferState, IsNewBuffer, has_room, buffer_barrier, put, get, buffer_body, buffer_meaning, buffer_lawful}
 use Rattle.po_laws.specs.BufferLaw.{BufferIsFifo, values_put, values_got}
-use Rattle.po_laws.proofs.HistoryLemmas.{value_from, values_between, Idles, Runs, DoesAtGate, does, found_holds, legal_front}
+use Rattle.po_laws.proofs.HistoryLemmas.{value_from, values_between, Idles, Runs, DoesAtBarrier, does, found_holds, legal_front}
 
 -- The buffer comes from the old one when these values are put and those are got.
 record Moves (old new : BufferState) (puts gots : List ℕ) : Type 0 where
@@ -87,7 +87,7 @@ idles_moves s t idles a b =
     (moves_nothing s.unit t.unit idles.unit)
 
 issue_moves : (s t : State) (e v : ℕ) (is_open : Bool) → buffer_barrier s.unit e ≡ is_open
-    → DoesAtGate buffer_meaning s t e v (Ok is_open)
+    → DoesAtBarrier buffer_meaning s t e v (Ok is_open)
     → e < 2
     → Moves s.unit t.unit
     (if e == 0 then values_between s t else [])

@@ -185,14 +185,14 @@ module _ {S V : Type 0} where
 
   module _ (m : Meaning S V) where
     -- what an issued call does, by what the barrier of its entry says
-    abbrev pub DoesAtGate : ObjectState S V → ObjectState S V → ℕ → V → Result Bool ℕ → Type 0
-    DoesAtGate s t e v (Ok true) = Runs m s t e v
-    DoesAtGate s t e v (Ok false) = Idles s t
-    DoesAtGate s t e v (Err k) = Idles s t
+    abbrev pub DoesAtBarrier : ObjectState S V → ObjectState S V → ℕ → V → Result Bool ℕ → Type 0
+    DoesAtBarrier s t e v (Ok true) = Runs m s t e v
+    DoesAtBarrier s t e v (Ok false) = Idles s t
+    DoesAtBarrier s t e v (Err k) = Idles s t
 
     -- What an event does that leads from the one state to the other: it runs a body or a procedure, or nothing.
     abbrev pub Does : ObjectState S V → ObjectState S V → Event V → Type 0
-    Does s t (Issue n owner e v d) = DoesAtGate s t e v (barrier_in m s e)
+    Does s t (Issue n owner e v d) = DoesAtBarrier s t e v (barrier_in m s e)
     Does s t (Ran owner op v reply) = values_between s t ≡ []
     Does s t (Serve e) = (x : Call V) × (find (is_on e) s.waiting ≡ Some x) × Runs m s t e x.value
     Does s t (Abort n) = Idles s t
@@ -209,7 +209,7 @@ module _ {S V : Type 0} where
         record { counts = counts; unit = concluded.unit; values = concluded.values }
 
     arrives : (limit : Option ℕ) (s : ObjectState S V) (x : Call V) (r : Result Bool ℕ)
-        → DoesAtGate s (arrive m limit (record s { next = s.next + 1 }) x r) x.entry x.value r
+        → DoesAtBarrier s (arrive m limit (record s { next = s.next + 1 }) x r) x.entry x.value r
     arrives limit s x (Ok true) =
         let runs = body_runs limit (record s { next = s.next + 1 }) x in
         record { counts = runs.counts; unit = runs.unit; values = runs.values }
@@ -258,15 +258,15 @@ module _ {V : Type 0} (P : Call V → Type 0) where
       P (record x { entry = target; value = v; without_abort = not with_abort })
 
   -- The condition holds of a new call, where what the barrier says queues it.
-  abbrev pub HoldsAtGate : Call V → Result Bool ℕ → Type 0
-  HoldsAtGate x (Ok true) = Unit {0}
-  HoldsAtGate x (Ok false) = P x
-  HoldsAtGate x (Err k) = Unit {0}
+  abbrev pub HoldsAtBarrier : Call V → Result Bool ℕ → Type 0
+  HoldsAtBarrier x (Ok true) = Unit {0}
+  HoldsAtBarrier x (Ok false) = P x
+  HoldsAtBarrier x (Err k) = Unit {0}
 
 module _ {S V : Type 0} (P : Call V → Type 0) where
   -- The condition holds of the call that the event issues, where it is queued.
   abbrev pub HoldsIssued : Meaning S V → ObjectState S V → Event V → Type 0
-  HoldsIssued m s (Issue n owner e v d) = HoldsAtGate P (issued n owner e v d) (barrier_in m s e)
+  HoldsIssued m s (Issue n owner e v d) = HoldsAtBarrier P (issued n owner e v d) (barrier_in m s e)
   HoldsIssued m s (Ran owner op v reply) = Unit {0}
   HoldsIssued m s (Abort n) = Unit {0}
   HoldsIssued m s (Tick time) = Unit {0}
@@ -304,7 +304,7 @@ module _ {S V : Type 0} (P : Call V → Type 0) where
         let r = m.body s.unit x.entry x.value (counts_in m s) in
         all_conclude (record s { unit = r.0 }) x r.1 (requeued s.unit x (counts_in m s)) all
 
-    all_arrive : (s : ObjectState S V) (x : Call V) (r : Result Bool ℕ) → HoldsAtGate P x r → All P s.waiting
+    all_arrive : (s : ObjectState S V) (x : Call V) (r : Result Bool ℕ) → HoldsAtBarrier P x r → All P s.waiting
         → All P (arrive m limit s x r).waiting
     all_arrive s x (Ok true) holds all = all_body s x all
     all_arrive s x (Ok false) holds all = all_enter s x holds all

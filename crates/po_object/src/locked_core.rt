@@ -203,7 +203,8 @@ impl<U: Unit, C: Story<U>, P: Ledger, F: Ledger, R: Record<U>, Q: Receipts<U::Va
 
     /// Issues a call from the pass's seat (9.5.3), as `Core::issue` does. It is then the pass's pending call.
     ///
-    /// Refused as `NoSuchEntry`, `PrivateEntry`, `BadIndex`, `Finalized` and `NumbersSpent`; where the number of calls isn't fixed also `OutOfMemory`, first where there is no room for a receipt.
+    /// Refused as `NoSuchEntry`, `PrivateEntry`, `BadIndex`, `Finalized` and `NumbersSpent`; where the number of calls isn't
+    /// fixed also `OutOfMemory`, first where there is no room for a receipt.
     /// There is room for it, so it is never refused as `TooManyCalls`.
     pub fn begin(
         &mut self,
@@ -295,7 +296,8 @@ impl<U: Unit, C: Story<U>, P: Ledger, F: Ledger, R: Record<U>, Q: Receipts<U::Va
 
     /// Runs a procedure from the pass's seat (9.5.1), as `Core::run` does, and files its receipt.
     ///
-    /// Refused as `NoSuchOperation`, `Finalized` and `NumbersSpent`; where the number of calls isn't fixed also `OutOfMemory`, first where there is no room for a receipt.
+    /// Refused as `NoSuchOperation`, `Finalized` and `NumbersSpent`; where the number of calls isn't fixed also `OutOfMemory`,
+    /// first where there is no room for a receipt.
     pub fn run(
         &mut self,
         pass: &mut Pass<U::Value, C, P, F, Q>,

@@ -37,7 +37,8 @@ impl<U: Unit, C: Story<U>, P: Ledger, F: Ledger, R: Record<U>, Q: Receipts<U::Va
 > {
     /// Opens an object over a core that has no event, with so many seats, and hands out a pass for each.
     ///
-    /// The log is a new one, which the ledger of calls names. A fault hands the core, the blanks and the log back: 1 where the core has, or had before a cut, an event, and 2.
+    /// The log is a new one, which the ledger of calls names. A fault hands the core, the blanks and the log back: 1 where the
+    /// core has, or had before a cut, an event, and 2.
     pub fn open(
         alloc: Global,
         core: Core<U, R>,
@@ -67,7 +68,8 @@ impl<U: Unit, C: Story<U>, P: Ledger, F: Ledger, R: Record<U>, Q: Receipts<U::Va
     /// Opens an object over a core that has no event and takes no memory, with so many seats, and hands out a pass for each.
     /// No call of the object takes memory later.
     ///
-    /// The log is a new one, which the ledger of calls names. A fault hands the core, the blanks and the log back: 1 where the core has an event, and 2.
+    /// The log is a new one, which the ledger of calls names. A fault hands the core, the blanks and the log back: 1 where the
+    /// core has an event, and 2.
     pub fn open_bounded(
         alloc: Global,
         core: Core<U, R>,
