@@ -68,31 +68,46 @@ fn empty_buffer(alloc: Global) -> Result<BoundedCore<Buffer>>
     Ok(core)
 }
 
-/// What a thread does: it calls the entry so many times, with the values from 0 on.
+/// Calls the entry so many times, with the values from 0 on, and gives the pass back. The object is of either kind.
+///
+/// A caller that is refused finalizes the object, so that no other waits for what it doesn't do.
+fn call_often<C: Story<Buffer>, P: Ledger, F: Ledger, R: Record<Buffer>, Q: Receipts<u64>, W: Wait>(
+    rt: &W,
+    object: &Object<Buffer, C, P, F, R, Q>,
+    mut pass: Pass<u64, C, P, F, Q>,
+    entry: EntryRef,
+    times: u64,
+) -> Pass<u64, C, P, F, Q> {
+    if pass.pending() {
+        return pass;
+    }
+    for value in 0..times {
+        if object.call(rt, &mut pass, entry, value).is_err() {
+            let _ended = object.finalize(rt);
+            break;
+        }
+    }
+    pass
+}
+
+/// What a thread does: it calls the entry so many times.
 #[derive(Clone, Copy)]
 struct Calls {
     entry: EntryRef,
     times: u64,
 }
 
-impl Job<Buffer> for Calls {
-    /// A caller that is refused finalizes the object, so that no other waits for what it doesn't do.
-    fn run<C: Story<Buffer>, P: Ledger, F: Ledger, R: Record<Buffer>, Q: Receipts<u64>, W: Wait>(
+impl<C: Story<Buffer>, P: Ledger, F: Ledger> Job<
+    BoundedObject<Buffer, C, P, F>,
+    BoundedPass<u64, C, P, F>,
+> for Calls {
+    fn run<W: Wait>(
         self,
         rt: &W,
-        object: &Object<Buffer, C, P, F, R, Q>,
-        mut pass: Pass<u64, C, P, F, Q>,
-    ) -> Pass<u64, C, P, F, Q> {
-        if pass.pending() {
-            return pass;
-        }
-        for value in 0..self.times {
-            if object.call(rt, &mut pass, self.entry, value).is_err() {
-                let _ended = object.finalize(rt);
-                break;
-            }
-        }
-        pass
+        object: &BoundedObject<Buffer, C, P, F>,
+        pass: BoundedPass<u64, C, P, F>,
+    ) -> BoundedPass<u64, C, P, F> {
+        call_often(rt, object, pass, self.entry, self.times)
     }
 }
 

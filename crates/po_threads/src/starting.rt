@@ -19,7 +19,7 @@ pub fn start<
     F: Ledger + Send + Sync + 'static,
     R: Record<U> + Drop + Send + Sync + 'static,
     Q: Receipts<U::Value> + Send + Sync + 'static,
-    J: Job<U> + Drop + Send + 'static,
+    J: Job<Object<U, C, P, F, R, Q>, Pass<U::Value, C, P, F, Q>> + Drop + Send + 'static,
     W: Threads + Wait + Copy + Send + 'static,
 >(
     rt: W,

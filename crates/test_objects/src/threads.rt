@@ -7,8 +7,8 @@ ghost use Rattle.po_object.specs.Stories.{IsStory};
 use crate::asks::{GET, PUT, same};
 use crate::buffers::empty_buffer;
 use po_classic_units::Buffer;
-use po_core::{Core, Deadline, End, Event, Record, Refusal};
-use po_object::{Agreed, Closed, Keeper, Object, Pass, Receipt, Receipts, Story, reconcile};
+use po_core::{Core, Deadline, End, Event, Refusal};
+use po_object::{Agreed, Closed, Keeper, Object, Pass, Receipt, Story, reconcile};
 use po_threads::{Job, Ticker, start};
 use po_unit::EntryRef;
 use std::alloc::AllocError;
@@ -46,13 +46,13 @@ enum Errand {
     Idle,
 }
 
-impl Job<Buffer> for Errand {
-    fn run<C: Story<Buffer>, P: Ledger, F: Ledger, R: Record<Buffer>, Q: Receipts<u64>, W: Wait>(
+impl<C: Story<Buffer>, P: Ledger> Job<Object<Buffer, C, P>, Pass<u64, C, P>> for Errand {
+    fn run<W: Wait>(
         self,
         rt: &W,
-        object: &Object<Buffer, C, P, F, R, Q>,
-        pass: Pass<u64, C, P, F, Q>,
-    ) -> Pass<u64, C, P, F, Q> {
+        object: &Object<Buffer, C, P>,
+        pass: Pass<u64, C, P>,
+    ) -> Pass<u64, C, P> {
         match self {
             Errand::Calls(entry) => call_often(rt, object, pass, entry),
             Errand::Timed(deadline) => call_once(rt, object, pass, deadline),
@@ -62,12 +62,12 @@ impl Job<Buffer> for Errand {
 }
 
 /// Calls the entry with the values from 0 on. Where a call is refused, the object is finalized, so that nobody waits for it.
-fn call_often<C: Story<Buffer>, P: Ledger, F: Ledger, R: Record<Buffer>, Q: Receipts<u64>, W: Wait>(
+fn call_often<C: Story<Buffer>, P: Ledger, W: Wait>(
     rt: &W,
-    object: &Object<Buffer, C, P, F, R, Q>,
-    mut pass: Pass<u64, C, P, F, Q>,
+    object: &Object<Buffer, C, P>,
+    mut pass: Pass<u64, C, P>,
     entry: EntryRef,
-) -> Pass<u64, C, P, F, Q> {
+) -> Pass<u64, C, P> {
     if pass.pending() {
         return pass;
     }
@@ -81,12 +81,12 @@ fn call_often<C: Story<Buffer>, P: Ledger, F: Ledger, R: Record<Buffer>, Q: Rece
 }
 
 /// Calls Get with the deadline.
-fn call_once<C: Story<Buffer>, P: Ledger, F: Ledger, R: Record<Buffer>, Q: Receipts<u64>, W: Wait>(
+fn call_once<C: Story<Buffer>, P: Ledger, W: Wait>(
     rt: &W,
-    object: &Object<Buffer, C, P, F, R, Q>,
-    mut pass: Pass<u64, C, P, F, Q>,
+    object: &Object<Buffer, C, P>,
+    mut pass: Pass<u64, C, P>,
     deadline: u64,
-) -> Pass<u64, C, P, F, Q> {
+) -> Pass<u64, C, P> {
     if !pass.pending() {
         let _end = object.timed(rt, &mut pass, GET, 0, deadline);
     }
