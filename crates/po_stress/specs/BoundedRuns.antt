@@ -6,6 +6,8 @@ use Rattle.po_core.specs.Headline.{Headline}
 use Rattle.po_classic_units.specs.Buffer.{buffer_meaning}
 use Rattle.po_classic_units.specs.Allocator.{allocator_meaning}
 use Rattle.po_classic_units.specs.Meeting.{meeting_meaning}
+use Rattle.po_receipts.specs.Answers.{AnswersAreOwn, NonePending}
+use Rattle.po_receipts.specs.OneHistory.{IsWholeHistory}
 use Rattle.po_object.specs.Closing.{ClosedView, IsClosed}
 use Rattle.po_stress.specs.declared.counting.Ending.TheVariants.{Done, GivenUp, Failed}
 use Rattle.po_stress.specs.declared.totals.Totals.{Totals}
@@ -26,12 +28,18 @@ pub record AreTotalsOf {S : Type 0} (closed : ClosedView S ℕ) (t : Totals) : T
 -- serial protected actions of one thread, and as many calls were issued as the passes counted. Each thread's pass counted all
 -- calls that the thread was to make; so all of them were issued, and each of them ended in one of the three ways. So the totals
 -- agree.
+--
+-- Each thread was answered what the object's whole history, which proofs alone know, gives to the thread's own calls, each once
+-- and in the thread's order; no call was left without its answer; and this history is serial (9.5.1).
 pub record IsBoundedRun {S : Type 0} (m : Meaning S ℕ) (threads calls : ℕ) (t : Totals) : Type 0 where
   pub closed : ClosedView S ℕ
   pub seats : length closed.passes ≡ threads
   pub tallies : All (λ pass. pass.calls ≡ calls) closed.passes
-  pub totals : IsClosed closed
+  pub totals : IsClosed m closed
   pub headline : Headline m closed.core.object
+  pub pending : NonePending closed.passes
+  pub own : AnswersAreOwn closed.core.object.state.ended closed.log closed.passes
+  pub serial : IsWholeHistory m closed.core.object.setup closed.log
   pub told : AreTotalsOf closed t
   pub issued : t.issued ≡ threads * calls
   pub sums : t.completed + t.cancelled + t.program_error ≡ threads * calls

@@ -5,6 +5,8 @@ use Rattle.po_core.specs.Headline.{Headline}
 use Rattle.po_classic_units.specs.Buffer.{buffer_meaning}
 use Rattle.po_classic_units.specs.Allocator.{allocator_meaning}
 use Rattle.po_classic_units.specs.Meeting.{meeting_meaning}
+use Rattle.po_receipts.specs.Answers.{AnswersAreOwn, NonePending}
+use Rattle.po_receipts.specs.OneHistory.{IsWholeHistory}
 use Rattle.po_object.specs.Closing.{ClosedView, IsClosed}
 use Rattle.po_stress.specs.Reports.{IsReportOf, AddUpTo}
 use Rattle.po_stress.specs.declared.report.Report.{Report}
@@ -14,12 +16,18 @@ use Rattle.po_stress.specs.declared.unit.StressUnit.TheVariants.{Buffer, Allocat
 -- The report is on an object of a unit with this meaning that had so many seats and was closed: its history replays as serial
 -- protected actions of one thread, and as many calls were issued as the passes counted. Each thread's pass counted all calls
 -- that the thread was to make; so where all answers agree with the history, the numbers add up to the calls of all threads.
+--
+-- Whatever the verdict is: each thread was answered what the object's whole history gives to the thread's own calls, each once
+-- and in the thread's order; no call was left without its answer; and this history is serial (9.5.1).
 pub record IsRun {S V : Type 0} (m : Meaning S V) (threads calls : ℕ) (report : Report) : Type 0 where
   pub closed : ClosedView S V
   pub seats : length closed.passes ≡ threads
   pub tallies : All (λ pass. pass.calls ≡ calls) closed.passes
-  pub totals : IsClosed closed
+  pub totals : IsClosed m closed
   pub headline : Headline m closed.core.object
+  pub pending : NonePending closed.passes
+  pub own : AnswersAreOwn closed.core.object.state.ended closed.log closed.passes
+  pub serial : IsWholeHistory m closed.core.object.setup closed.log
   pub told : IsReportOf closed report
   pub sums : IsOk report.verdict → AddUpTo (threads * calls) report
 

@@ -47,8 +47,9 @@ impl<C: CallLedger<u64>, P: Ledger, F: Ledger, Q: Receipts<u64>> Caller<C, P, F,
         }
     }
 
-    /// The caller's pass, and how its calls ended.
+    /// The caller's pass, with which no call is pending, and how its calls ended.
     pub(crate) fn leave(self) -> (Pass<u64, C, P, F, Q>, Ends)
+        ensures free { result.0.pending ≡ None }
         ensures ends { AreEndsOf result.0.receipts result.1 }
         ensures all { all_of result.1 ≡ result.0.calls }
     {

@@ -2,6 +2,7 @@
 
 ghost use Rattle.std.specs.Prelude.{◌≡◌, ◌≤◌, ◌+◌, true, false, [], Some, All, IfOk, IfErr, IfSome, length};
 ghost use Rattle.std.specs.Arc.{arc_value};
+ghost use Rattle.po_receipts.specs.Answers.{NonePending};
 ghost use Rattle.po_object.specs.Seats.{AreFresh};
 ghost use Rattle.po_object.specs.Stories.{IsStory};
 ghost use Rattle.po_stress.specs.Ends.{AreEndsOfAll, all_of, calls_of};
@@ -218,9 +219,11 @@ pub(crate) fn run_bounded<
 /// The report on a closed object each of whose passes counted so many calls, with what holds of each such object.
 fn report_on<U: Unit<Value = u64>>(closed: &Closed<U>, calls: u32) -> Report
     requires tallies { All (λ pass. pass.calls ≡ calls) closed.now.passes }
+    requires pending { NonePending closed.now.passes }
     ensures { IsRun U.meaning (length closed.now.passes) calls result }
 {
     closed.closing_totals();
+    closed.every_answer();
     closed.core().headline();
     Report::of(closed)
 }
@@ -228,11 +231,13 @@ fn report_on<U: Unit<Value = u64>>(closed: &Closed<U>, calls: u32) -> Report
 /// The totals of a closed object, with what holds of each such object.
 fn totals_of<U: Unit<Value = u64>>(closed: &BoundedClosed<U>, ends: Ends, calls: u32) -> Totals
     requires tallies { All (λ pass. pass.calls ≡ calls) closed.now.passes }
+    requires pending { NonePending closed.now.passes }
     requires ends { AreEndsOfAll closed.now.passes ends }
     requires all { all_of ends ≡ calls_of closed.now.passes }
     ensures { IsBoundedRun U.meaning (length closed.now.passes) calls result }
 {
     closed.closing_totals();
+    closed.every_answer();
     closed.core().headline();
     Totals::of(closed.core().issued(), ends)
 }

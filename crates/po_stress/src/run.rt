@@ -2,6 +2,7 @@
 
 ghost use Rattle.std.specs.Prelude.{◌≡◌, ◌≤◌, All, IfOk, IfErr, OnOk, length, vec_len};
 ghost use Rattle.std.specs.Arc.{arc_value};
+ghost use Rattle.po_receipts.specs.Answers.{NonePending};
 ghost use Rattle.po_object.specs.Seats.{AreFresh, OneEach, AreBySeat};
 ghost use Rattle.po_stress.specs.Ends.{AreEndsOfAll, AreUnused, all_of, calls_of};
 
@@ -43,6 +44,7 @@ fn leave_all<C: CallLedger<u64>, P: Ledger, F: Ledger, Q: Receipts<u64>>(
 ) -> Result<(Vec<Pass<u64, C, P, F, Q>>, Ends), StressFault>
     requires { vec_len callers ≤ 65_535 }
     ensures tallies { IfOk result (λ r. All (λ pass. pass.calls ≡ calls) r.0.items) }
+    ensures free { IfOk result (λ r. NonePending r.0.items) }
     ensures ends { IfOk result (λ r. AreEndsOfAll r.0.items r.1) }
     ensures all { IfOk result (λ r. all_of r.1 ≡ calls_of r.0.items) }
     ensures fault { IfErr result (λ fault. fault ≡ StressFault.OutOfMemory) }
@@ -106,6 +108,7 @@ fn call_from_all<
 ) -> Result<(Vec<Pass<u64, C, P, F, Q>>, Ends), StressFault>
     requires { AreFresh threads passes.items }
     ensures tallies { IfOk result (λ r. All (λ pass. pass.calls ≡ job.calls) r.0.items) }
+    ensures free { IfOk result (λ r. NonePending r.0.items) }
     ensures ends { IfOk result (λ r. AreEndsOfAll r.0.items r.1) }
     ensures all { IfOk result (λ r. all_of r.1 ≡ calls_of r.0.items) }
     ensures fault { IfErr result (λ fault. fault ≡ StressFault.OutOfMemory) }
@@ -161,6 +164,7 @@ pub(crate) fn run_over<
     requires fresh { AreFresh threads passes.items }
     ensures seats { IfOk result (λ r. length r.0.passes ≡ threads) }
     ensures tallies { IfOk result (λ r. All (λ pass. pass.calls ≡ job.calls) r.0.passes) }
+    ensures free { IfOk result (λ r. NonePending r.0.passes) }
     ensures ends { IfOk result (λ r. AreEndsOfAll r.0.passes r.1) }
     ensures all { IfOk result (λ r. all_of r.1 ≡ calls_of r.0.passes) }
     ensures fault { IfErr result (λ fault. fault ≡ StressFault.OutOfMemory) }

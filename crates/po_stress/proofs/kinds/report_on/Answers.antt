@@ -17,6 +17,9 @@ returns g c =
       tallies = tallies;
       totals = c.closing_totals.ensures;
       headline = subst holds c.core.ensures c.headline.ensures.headline;
+      pending = c.requires.pending;
+      own = c.every_answer.ensures.own;
+      serial = c.every_answer.ensures.serial;
       told = c.of.ensures.told;
       sums = λ ok. subst (λ n. AddUpTo n c.of.result) (same_tallies c.args.calls passes tallies) (c.of.ensures.sums ok);
     }

@@ -1,4 +1,4 @@
-use Rattle.std.proofs.Common.{◌≡◌, ◌∙◌}
+use Rattle.std.proofs.Common.{◌≡◌, ◌∙◌, None}
 use Rattle.po_stress.proofs.CallEnds.{all-by_seat, ends-by_seat, calls-by_seat}
 use Rattle.po_stress.proofs.run.run_over.Goals as goal
 
@@ -6,6 +6,11 @@ pub returns-clause-tallies : goal.returns-clause-tallies
 returns-clause-tallies g c =
     let told = c.in_ok-closed.ensures in
     all-by_seat (λ pass. pass.calls ≡ c.args.job.calls) _ _ _ told.one_each.0 told.by_seat c.in_ok-passes.ensures.tallies
+
+pub returns-clause-free : goal.returns-clause-free
+returns-clause-free g c =
+    let told = c.in_ok-closed.ensures in
+    all-by_seat (λ pass. pass.pending ≡ None) _ _ _ told.one_each.0 told.by_seat c.in_ok-passes.ensures.free
 
 pub returns-clause-ends : goal.returns-clause-ends
 returns-clause-ends g c =
