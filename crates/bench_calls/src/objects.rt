@@ -23,7 +23,7 @@ use std::time::Clock;
 
 impl<
     U: Unit<Value = u64>,
-    C: Story<U>,
+    C: Story<U, u64>,
     P: Ledger,
     F: Ledger,
     R: Record<U>,
@@ -57,7 +57,7 @@ impl<
 /// Has threads do the task on an object over the core.
 fn race_over<
     U: ScriptUnit + Send + Sync + 'static,
-    C: Story<U> + Send + Sync + 'static,
+    C: Story<U, u64> + Send + Sync + 'static,
     P: Ledger + Send + Sync + 'static,
     F: Ledger + Send + Sync + 'static,
     R: Record<U> + Send + Sync + Drop + 'static,
@@ -87,7 +87,7 @@ fn race_over<
 /// The same, on an object with fixed memory.
 fn race_over_bounded<
     U: ScriptUnit + Send + Sync + 'static,
-    C: Story<U> + Send + Sync + 'static,
+    C: Story<U, u64> + Send + Sync + 'static,
     P: Ledger + Send + Sync + 'static,
     F: Ledger + Send + Sync + 'static,
     R: Record<U> + Send + Sync + Drop + 'static,

@@ -71,7 +71,14 @@ fn empty_buffer(alloc: Global) -> Result<BoundedCore<Buffer>>
 /// Calls the entry so many times, with the values from 0 on, and gives the pass back. The object is of either kind.
 ///
 /// A caller that is refused finalizes the object, so that no other waits for what it doesn't do.
-fn call_often<C: Story<Buffer>, P: Ledger, F: Ledger, R: Record<Buffer>, Q: Receipts<u64>, W: Wait>(
+fn call_often<
+    C: Story<Buffer, u64>,
+    P: Ledger,
+    F: Ledger,
+    R: Record<Buffer>,
+    Q: Receipts<u64>,
+    W: Wait,
+>(
     rt: &W,
     object: &Object<Buffer, C, P, F, R, Q>,
     mut pass: Pass<u64, C, P, F, Q>,
@@ -97,7 +104,7 @@ struct Calls {
     times: u64,
 }
 
-impl<C: Story<Buffer>, P: Ledger, F: Ledger> Job<
+impl<C: Story<Buffer, u64>, P: Ledger, F: Ledger> Job<
     BoundedObject<Buffer, C, P, F>,
     BoundedPass<u64, C, P, F>,
 > for Calls {
@@ -113,7 +120,7 @@ impl<C: Story<Buffer>, P: Ledger, F: Ledger> Job<
 
 /// Has a thread for each pass call Put, where its seat is even, or Get, and waits until all are done.
 fn exchange<
-    C: Story<Buffer> + Send + Sync + 'static,
+    C: Story<Buffer, u64> + Send + Sync + 'static,
     P: Ledger + Send + Sync + 'static,
     F: Ledger + Send + Sync + 'static,
     R: Threads + Wait + AllocGlobal + Copy + Send + 'static,
@@ -138,7 +145,7 @@ fn exchange<
 }
 
 /// Closes the object, which no thread has any more.
-fn close<C: Story<Buffer>, P: Ledger, F: Ledger>(
+fn close<C: Story<Buffer, u64>, P: Ledger, F: Ledger>(
     object: Arc<BoundedObject<Buffer, C, P, F>>,
     passes: Vec<BoundedPass<u64, C, P, F>>,
 ) -> Result<BoundedClosed<Buffer>> {
@@ -153,7 +160,7 @@ fn close<C: Story<Buffer>, P: Ledger, F: Ledger>(
 
 /// Opens an object over the core, has threads call it, and closes it.
 fn use_object<
-    C: Story<Buffer> + Send + Sync + 'static,
+    C: Story<Buffer, u64> + Send + Sync + 'static,
     P: Ledger + Send + Sync + 'static,
     F: Ledger + Send + Sync + 'static,
     R: Threads + Wait + AllocGlobal + Copy + Send + 'static,

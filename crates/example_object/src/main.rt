@@ -60,7 +60,14 @@ fn empty_buffer(alloc: Global) -> Result<Core<Buffer>> {
 /// Calls the entry so many times, with the values from 0 on, and gives the pass back. The object is of either kind.
 ///
 /// A caller that is refused finalizes the object, so that no other waits for what it doesn't do.
-fn call_often<C: Story<Buffer>, P: Ledger, F: Ledger, R: Record<Buffer>, Q: Receipts<u64>, W: Wait>(
+fn call_often<
+    C: Story<Buffer, u64>,
+    P: Ledger,
+    F: Ledger,
+    R: Record<Buffer>,
+    Q: Receipts<u64>,
+    W: Wait,
+>(
     rt: &W,
     object: &Object<Buffer, C, P, F, R, Q>,
     mut pass: Pass<u64, C, P, F, Q>,
@@ -86,7 +93,7 @@ struct Calls {
     times: u64,
 }
 
-impl<C: Story<Buffer>, P: Ledger> Job<Object<Buffer, C, P>, Pass<u64, C, P>> for Calls {
+impl<C: Story<Buffer, u64>, P: Ledger> Job<Object<Buffer, C, P>, Pass<u64, C, P>> for Calls {
     fn run<W: Wait>(
         self,
         rt: &W,
@@ -98,7 +105,7 @@ impl<C: Story<Buffer>, P: Ledger> Job<Object<Buffer, C, P>, Pass<u64, C, P>> for
 }
 
 /// Cancels the call of the seat, which may not be there yet. If it never comes, the object is finalized.
-fn cancel<C: Story<Buffer>, P: Ledger, R: Wait + Clock>(
+fn cancel<C: Story<Buffer, u64>, P: Ledger, R: Wait + Clock>(
     rt: &R,
     object: &Object<Buffer, C, P>,
     seat: u16,
@@ -114,7 +121,7 @@ fn cancel<C: Story<Buffer>, P: Ledger, R: Wait + Clock>(
 
 /// Has a thread for each pass call Put, where its seat is even, or Get, and waits until all are done.
 fn exchange<
-    C: Story<Buffer> + Send + Sync + 'static,
+    C: Story<Buffer, u64> + Send + Sync + 'static,
     P: Ledger + Send + Sync + 'static,
     R: Threads + Wait + AllocGlobal + Copy + Send + 'static,
 >(
@@ -139,7 +146,7 @@ fn exchange<
 
 /// Has a thread call Get, which waits as the buffer is empty, and cancels its call.
 fn get_in_vain<
-    C: Story<Buffer> + Send + Sync + 'static,
+    C: Story<Buffer, u64> + Send + Sync + 'static,
     P: Ledger + Send + Sync + 'static,
     R: Threads + Wait + Clock + Copy + Send + 'static,
 >(
@@ -159,7 +166,7 @@ fn get_in_vain<
 
 /// Has a thread call for each pass, that of the last one alone.
 fn call_all<
-    C: Story<Buffer> + Send + Sync + 'static,
+    C: Story<Buffer, u64> + Send + Sync + 'static,
     P: Ledger + Send + Sync + 'static,
     R: Threads + Wait + Clock + AllocGlobal + Copy + Send + 'static,
 >(
@@ -198,7 +205,7 @@ fn answers(closed: &Closed<Buffer>) -> (u64, u64) {
 }
 
 /// Closes the object, which no thread has any more.
-fn close<C: Story<Buffer>, P: Ledger>(
+fn close<C: Story<Buffer, u64>, P: Ledger>(
     object: Arc<Object<Buffer, C, P>>,
     passes: Vec<Pass<u64, C, P>>,
 ) -> Result<Closed<Buffer>> {
@@ -213,7 +220,7 @@ fn close<C: Story<Buffer>, P: Ledger>(
 
 /// Opens an object over the core, has threads call it, and closes it.
 fn use_object<
-    C: Story<Buffer> + Send + Sync + 'static,
+    C: Story<Buffer, u64> + Send + Sync + 'static,
     P: Ledger + Send + Sync + 'static,
     R: Threads + Wait + Clock + AllocGlobal + Copy + Send + 'static,
 >(

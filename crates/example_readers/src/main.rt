@@ -104,6 +104,9 @@ fn main(rt: HostRuntime) -> Result<()> {
         procedures,
         Keeper::open(),
     )?;
-    println!(&rt; "{} visits by threads, and never two writers inside", count_visits(&closed))?;
+    println!(&rt;
+        "{} visits by threads, and never two writers inside",
+        count_visits(&closed)
+    )?;
     Ok(())
 }

@@ -8,8 +8,8 @@ ghost use Rattle.example_readers.specs.ReadersWriters.{new_readers_writers, read
 use crate::law::exclusion_law_of_log;
 use crate::readers_writers::{READ, READ_DONE, ReadersWriters, WRITE, WRITE_DONE};
 use anyhow::{Result, bail};
-use po_core::{Core, Event, Record};
-use po_object::{Closed, Keeper, Object, Pass, Receipts, Story};
+use po_core::{Core, Event};
+use po_object::{Closed, Keeper, Object, Pass, Story};
 use po_threads::{Job, start};
 use po_unit::EntryRef;
 use std::alloc::AllocError;
@@ -40,14 +40,15 @@ const WRITER: Visitor = Visitor {
     leave: WRITE_DONE,
 };
 
-impl Job<ReadersWriters> for Visitor {
+impl<C: Story<ReadersWriters, u64>, P: Ledger> Job<Object<ReadersWriters, C, P>, Pass<u64, C, P>>
+    for Visitor {
     /// A visitor that is refused finalizes the object, so that no other waits for it.
-    fn run<C: Story<ReadersWriters>, P: Ledger, F: Ledger, R: Record<ReadersWriters>, Q: Receipts<u64>, W: Wait>(
+    fn run<W: Wait>(
         self,
         rt: &W,
-        object: &Object<ReadersWriters, C, P, F, R, Q>,
-        mut pass: Pass<u64, C, P, F, Q>,
-    ) -> Pass<u64, C, P, F, Q> {
+        object: &Object<ReadersWriters, C, P>,
+        mut pass: Pass<u64, C, P>,
+    ) -> Pass<u64, C, P> {
         if pass.pending() {
             return pass;
         }
@@ -69,7 +70,7 @@ impl Job<ReadersWriters> for Visitor {
 
 /// Has a thread visit from each seat, and waits until all are done.
 fn visit_all<
-    C: Story<ReadersWriters> + Send + Sync + 'static,
+    C: Story<ReadersWriters, u64> + Send + Sync + 'static,
     P: Ledger + Send + Sync + 'static,
     W: Threads + Wait + AllocGlobal + Copy + Send + 'static,
 >(
@@ -89,7 +90,7 @@ fn visit_all<
 }
 
 /// Closes the object, which no thread has any more. It is the one that was opened.
-fn close<C: Story<ReadersWriters>, P: Ledger>(
+fn close<C: Story<ReadersWriters, u64>, P: Ledger>(
     object: Arc<Object<ReadersWriters, C, P>>,
     passes: Vec<Pass<u64, C, P>>,
 ) -> Result<Closed<ReadersWriters>>
@@ -107,7 +108,7 @@ fn close<C: Story<ReadersWriters>, P: Ledger>(
 /// Opens an object over the core, has threads visit it, and closes it. However they were scheduled: at each point of the
 /// object's history at most one writer was inside, and while one was, no reader.
 pub(crate) fn visit_by_threads<
-    C: Story<ReadersWriters> + Send + Sync + 'static,
+    C: Story<ReadersWriters, u64> + Send + Sync + 'static,
     P: Ledger + Send + Sync + 'static,
     W: Threads + Wait + AllocGlobal + Copy + Send + 'static,
 >(
@@ -125,8 +126,14 @@ pub(crate) fn visit_by_threads<
     requires procedures { (procedures.name ≡ P.name) × (procedures.parts ≡ P.parts) × (procedures.parts ≡ SEATS + 1) }
     ensures alone { IfOk result (λ closed. WritersAreAlone core.object.setup closed.log) }
 {
-    let opened =
-        Object::<ReadersWriters, C, P>::open(rt.alloc(), core, SEATS, calls, procedures, log);
+    let opened = Object::<ReadersWriters, C, P>::open(
+        rt.alloc(),
+        core,
+        SEATS,
+        calls,
+        procedures,
+        log,
+    );
     let (object, mut passes) = opened?;
     let object = Arc::new(rt.alloc(), object)?;
     visit_all(rt, &object, &mut passes)?;

@@ -105,7 +105,7 @@ impl<U: Unit, R: Record<U>, Q: Receipts<U::Value>> Closed<U, R, Q> {
 
 impl<
     U: Unit,
-    C: Story<U>,
+    C: Story<U, U::Value>,
     P: Ledger,
     F: Ledger,
     R: Record<U>,
@@ -151,7 +151,7 @@ impl<
 
 impl<
     U: Unit,
-    C: Story<U>,
+    C: Story<U, U::Value>,
     P: Ledger,
     F: Ledger,
     R: Record<U>,
@@ -201,7 +201,14 @@ fn count_one(counts: &mut Vec<usize>, seat: u16)
 }
 
 /// Takes the core out, with the passes by rising seat.
-fn gather<U: Unit, C: Story<U>, P: Ledger, F: Ledger, R: Record<U>, Q: Receipts<U::Value>>(
+fn gather<
+    U: Unit,
+    C: Story<U, U::Value>,
+    P: Ledger,
+    F: Ledger,
+    R: Record<U>,
+    Q: Receipts<U::Value>,
+>(
     locked: LockedCore<U, C, P, F, R, Q>,
     room: Vec<ClosedPass<U::Value, Q>>,
     passes: Vec<Pass<U::Value, C, P, F, Q>>,

@@ -52,7 +52,7 @@ impl<U: Unit, R: Record<U>> fmt::Debug for BoundedOpenFault<U, R> {
 #[derive(Drop, Error)]
 pub enum CloseFault<
     U: Unit,
-    C: Story<U>,
+    C: Story<U, <U as Unit>::Value>,
     P: Ledger,
     F: Ledger = C,
     R: Record<U> = Recorded<U>,
@@ -73,7 +73,7 @@ pub enum CloseFault<
 
 impl<
     U: Unit,
-    C: Story<U>,
+    C: Story<U, U::Value>,
     P: Ledger,
     F: Ledger,
     R: Record<U>,

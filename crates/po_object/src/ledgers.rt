@@ -6,7 +6,6 @@ ghost use Rattle.po_calls.specs.declared.end.End.{End};
 ghost use Rattle.po_history.specs.declared.event.Event.{Event};
 ghost use Rattle.po_core.specs.Setup.{Setup};
 
-use po_unit::Unit;
 use std::marker::{Brand, PhantomData};
 use std::sync::ledger::Ledger;
 
@@ -30,11 +29,11 @@ impl<V> CallLedger<V> for Brand {
 
 /// A ledger of accepted calls that says what its object was made with, so that an answer can speak of the object's whole
 /// history. Nothing is said where it doesn't.
-pub trait Story<U: Unit>: CallLedger<<U as Unit>::Value> {
+pub trait Story<U, V>: CallLedger<V> {
     ghost setup: { Option (Setup U) };
 }
 
-impl<U: Unit> Story<U> for Brand {
+impl<U, V> Story<U, V> for Brand {
     ghost setup = { None };
 }
 

@@ -49,7 +49,7 @@ use std::sync::ledger::{Book, Ledger, Share};
 #[derive(Drop)]
 pub struct LockedCore<
     U: Unit,
-    C: Story<U>,
+    C: Story<U, <U as Unit>::Value>,
     P: Ledger,
     F: Ledger = C,
     R: Record<U> = Recorded<U>,
@@ -79,8 +79,14 @@ pub type BoundedLockedCore<U, C, P, F> = LockedCore<
     Trace<Receipt<<U as Unit>::Value>>,
 >;
 
-impl<U: Unit, C: Story<U>, P: Ledger, F: Ledger, R: Record<U>, Q: Receipts<U::Value>> Model
-    for LockedCore<U, C, P, F, R, Q> {
+impl<
+    U: Unit,
+    C: Story<U, U::Value>,
+    P: Ledger,
+    F: Ledger,
+    R: Record<U>,
+    Q: Receipts<U::Value>,
+> Model for LockedCore<U, C, P, F, R, Q> {
     ghost use Rattle.std.specs.Prelude.{◌≡◌, ◌+◌, is_some, length, Some};
     ghost use Rattle.po_core.specs.Tickets.{CoreView};
     ghost use Rattle.po_receipts.specs.Answers.{AskedBySeats};
@@ -109,7 +115,7 @@ impl<U: Unit, C: Story<U>, P: Ledger, F: Ledger, R: Record<U>, Q: Receipts<U::Va
     } };
 }
 
-impl<U: Unit + Drop, C: Story<U>, P: Ledger, F: Ledger, Q: Receipts<U::Value>> LockedCore<
+impl<U: Unit + Drop, C: Story<U, U::Value>, P: Ledger, F: Ledger, Q: Receipts<U::Value>> LockedCore<
     U,
     C,
     P,
@@ -145,14 +151,14 @@ impl<U: Unit + Drop, C: Story<U>, P: Ledger, F: Ledger, Q: Receipts<U::Value>> L
     }
 }
 
-impl<U: Unit, C: Story<U>, P: Ledger, F: Ledger, R: Record<U>, Q: Receipts<U::Value>> LockedCore<
-    U,
-    C,
-    P,
-    F,
-    R,
-    Q,
-> {
+impl<
+    U: Unit,
+    C: Story<U, U::Value>,
+    P: Ledger,
+    F: Ledger,
+    R: Record<U>,
+    Q: Receipts<U::Value>,
+> LockedCore<U, C, P, F, R, Q> {
     pub(crate) fn new(
         core: Core<U, R>,
         calls: Book<C>,

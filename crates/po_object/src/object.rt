@@ -34,7 +34,7 @@ use std::sync::{RwLock, RwLockReadGuard, RwLockWriteGuard, Wait};
 #[derive(Drop)]
 pub struct Object<
     U: Unit,
-    C: Story<U>,
+    C: Story<U, <U as Unit>::Value>,
     P: Ledger,
     F: Ledger = C,
     R: Record<U> = Recorded<U>,
@@ -64,7 +64,7 @@ pub type BoundedObject<U, C, P, F> = Object<
 
 impl<
     U: Unit,
-    C: Story<U>,
+    C: Story<U, U::Value>,
     P: Ledger,
     F: Ledger,
     R: Record<U>,
@@ -86,15 +86,14 @@ impl<
     } };
 }
 
-impl<U: Unit + Drop, C: Story<U>, P: Ledger, F: Ledger, Q: Receipts<U::Value>, S: Steps> Object<
-    U,
-    C,
-    P,
-    F,
-    Recorded<U>,
-    Q,
-    S,
-> {
+impl<
+    U: Unit + Drop,
+    C: Story<U, U::Value>,
+    P: Ledger,
+    F: Ledger,
+    Q: Receipts<U::Value>,
+    S: Steps,
+> Object<U, C, P, F, Recorded<U>, Q, S> {
     /// Cuts the history, as `Core::cut` does.
     ///
     /// Refused as `NumbersSpent` and `OutOfMemory`, also on a finalized object.
@@ -130,7 +129,7 @@ impl<U: Unit + Drop, C: Story<U>, P: Ledger, F: Ledger, Q: Receipts<U::Value>, S
 
 impl<
     U: Unit,
-    C: Story<U>,
+    C: Story<U, U::Value>,
     P: Ledger,
     F: Ledger,
     R: Record<U>,

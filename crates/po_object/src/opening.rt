@@ -27,14 +27,14 @@ use std::marker::PhantomData;
 use std::sync::RwLock;
 use std::sync::ledger::{Blank, Ledger, Share};
 
-impl<U: Unit, C: Story<U>, P: Ledger, F: Ledger, R: Record<U>, Q: Receipts<U::Value>> Object<
-    U,
-    C,
-    P,
-    F,
-    R,
-    Q,
-> {
+impl<
+    U: Unit,
+    C: Story<U, U::Value>,
+    P: Ledger,
+    F: Ledger,
+    R: Record<U>,
+    Q: Receipts<U::Value>,
+> Object<U, C, P, F, R, Q> {
     /// Opens an object over a core that has no event, with so many seats, and hands out a pass for each.
     ///
     /// The log is a new one, which the ledger of calls names. A fault hands the core, the blanks and the log back: 1 where the
@@ -102,7 +102,7 @@ impl<U: Unit, C: Story<U>, P: Ledger, F: Ledger, R: Record<U>, Q: Receipts<U::Va
 
 impl<
     U: Unit,
-    C: Story<U>,
+    C: Story<U, U::Value>,
     P: Ledger,
     F: Ledger,
     R: Record<U>,
@@ -298,7 +298,7 @@ fn prepare<V: Copy, C: CallLedger<V>, P: Ledger, F: Ledger, Q: Receipts<V>>(
 /// Opens the object, for which all memory is there.
 fn open_over<
     U: Unit,
-    C: Story<U>,
+    C: Story<U, U::Value>,
     P: Ledger,
     F: Ledger,
     R: Record<U>,
@@ -375,7 +375,7 @@ fn open_over<
 /// An object with this value behind its lock, these seats, and the room that its closing needs.
 fn object_over<
     U: Unit,
-    C: Story<U>,
+    C: Story<U, U::Value>,
     P: Ledger,
     F: Ledger,
     R: Record<U>,

@@ -59,7 +59,9 @@ impl<C: CallLedger<u64>, P: Ledger, F: Ledger, Q: Receipts<u64>> Caller<C, P, F,
 }
 
 /// A pass has fewer than 2^64 receipts of calls. It does nothing when it runs.
-fn recall_room<C: CallLedger<u64>, P: Ledger, F: Ledger, Q: Receipts<u64>>(pass: &Pass<u64, C, P, F, Q>)
+fn recall_room<C: CallLedger<u64>, P: Ledger, F: Ledger, Q: Receipts<u64>>(
+    pass: &Pass<u64, C, P, F, Q>,
+)
     ensures { count_by is_call pass.now.receipts < 2 ^ 64 }
 {
     pass.recall_invariant();
@@ -68,7 +70,7 @@ fn recall_room<C: CallLedger<u64>, P: Ledger, F: Ledger, Q: Receipts<u64>>(pass:
 
 impl<
     U: Unit<Value = u64>,
-    C: Story<U> + Send + 'static,
+    C: Story<U, u64> + Send + 'static,
     P: Ledger + 'static,
     F: Ledger + 'static,
     R: Record<U>,

@@ -42,7 +42,7 @@ fn let_go<U: Unit<Value = u64> + Drop, R: Record<U> + Drop>(_fault: OpenFault<U,
 /// The object, in a place that threads can share, with its passes.
 fn share<
     U: Unit<Value = u64> + Drop,
-    C: Story<U>,
+    C: Story<U, u64>,
     P: Ledger,
     F: Ledger,
     R: Record<U> + Drop,
@@ -62,7 +62,7 @@ fn share<
 /// Opens an object over the core that threads can share, with a fresh pass for each of its seats.
 fn open_shared<
     U: Unit<Value = u64> + Drop,
-    C: Story<U>,
+    C: Story<U, u64>,
     P: Ledger,
     F: Ledger,
     R: Record<U> + Drop,
@@ -97,7 +97,7 @@ fn open_shared<
 /// seats.
 fn open_shared_bounded<
     U: Unit<Value = u64> + Drop,
-    C: Story<U>,
+    C: Story<U, u64>,
     P: Ledger,
     F: Ledger,
     R: Record<U> + Drop,
@@ -136,7 +136,7 @@ fn open_shared_bounded<
 /// Opens an object over the core, has threads call it, closes it, and reports.
 pub(crate) fn run<
     U: Unit<Value = u64> + Send + Sync + Drop + 'static,
-    C: Story<U> + Send + Sync + 'static,
+    C: Story<U, u64> + Send + Sync + 'static,
     P: Ledger + Send + Sync + 'static,
     W: Threads + Wait + AllocGlobal + Copy + Send + 'static,
 >(
@@ -168,7 +168,7 @@ pub(crate) fn run<
 /// Opens an object with fixed memory over the core, has threads call it, closes it, and adds up.
 pub(crate) fn run_bounded<
     U: Unit<Value = u64> + Send + Sync + Drop + 'static,
-    C: Story<U> + Send + Sync + 'static,
+    C: Story<U, u64> + Send + Sync + 'static,
     P: Ledger + Send + Sync + 'static,
     F: Ledger + Send + Sync + 'static,
     W: Threads + Wait + AllocGlobal + Copy + Send + 'static,

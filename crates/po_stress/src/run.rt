@@ -65,7 +65,7 @@ fn leave_all<C: CallLedger<u64>, P: Ledger, F: Ledger, Q: Receipts<u64>>(
 /// Has a thread for each caller make all its calls, and waits for their ends. The callers are where they were.
 fn call_from<
     U: Unit<Value = u64> + Send + Sync + Drop + 'static,
-    C: Story<U> + Send + Sync + 'static,
+    C: Story<U, u64> + Send + Sync + 'static,
     P: Ledger + Send + Sync + 'static,
     F: Ledger + Send + Sync + 'static,
     R: Record<U> + Send + Sync + Drop + 'static,
@@ -92,7 +92,7 @@ fn call_from<
 /// Has a thread for each pass make all its calls, and gives the passes back, and how the calls ended.
 fn call_from_all<
     U: Unit<Value = u64> + Send + Sync + Drop + 'static,
-    C: Story<U> + Send + Sync + 'static,
+    C: Story<U, u64> + Send + Sync + 'static,
     P: Ledger + Send + Sync + 'static,
     F: Ledger + Send + Sync + 'static,
     R: Record<U> + Send + Sync + Drop + 'static,
@@ -121,7 +121,7 @@ fn call_from_all<
 /// Closes the object. All threads have ended, so nobody else has the object, and each seat's pass is here.
 fn close<
     U: Unit<Value = u64> + Drop,
-    C: Story<U>,
+    C: Story<U, u64>,
     P: Ledger,
     F: Ledger,
     R: Record<U> + Drop,
@@ -146,7 +146,7 @@ fn close<
 /// Has threads call the object, from each of its passes, and closes it: with how the calls ended, so many of each pass.
 pub(crate) fn run_over<
     U: Unit<Value = u64> + Send + Sync + Drop + 'static,
-    C: Story<U> + Send + Sync + 'static,
+    C: Story<U, u64> + Send + Sync + 'static,
     P: Ledger + Send + Sync + 'static,
     F: Ledger + Send + Sync + 'static,
     R: Record<U> + Send + Sync + Drop + 'static,

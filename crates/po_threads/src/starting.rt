@@ -14,7 +14,7 @@ use std::thread::{self, JoinHandle, Threads};
 /// `Err` where memory runs out or no thread can be made. Then the job and the pass are gone, so the object can't be closed.
 pub fn start<
     U: Unit + Drop + Send + Sync + 'static,
-    C: Story<U> + Send + Sync + 'static,
+    C: Story<U, U::Value> + Send + Sync + 'static,
     P: Ledger + Send + Sync + 'static,
     F: Ledger + Send + Sync + 'static,
     R: Record<U> + Drop + Send + Sync + 'static,

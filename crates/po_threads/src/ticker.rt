@@ -28,7 +28,7 @@ impl Ticker {
     /// Fails where memory runs out, no thread can be made, or the time can't be read.
     pub fn start<
         U: Unit + Drop + Send + Sync + 'static,
-        C: Story<U> + Send + Sync + 'static,
+        C: Story<U, U::Value> + Send + Sync + 'static,
         P: Ledger + Send + Sync + 'static,
         F: Ledger + Send + Sync + 'static,
         R: Record<U> + Drop + Send + Sync + 'static,

@@ -13,7 +13,7 @@ use std::time::Clock;
 /// Raises the clock to the time of the watch. While the time can't be read, it doesn't.
 fn tick<
     U: Unit,
-    C: Story<U>,
+    C: Story<U, U::Value>,
     P: Ledger,
     F: Ledger,
     R: Record<U>,
@@ -30,7 +30,7 @@ fn tick<
 /// if it did.
 fn tick_often<
     U: Unit,
-    C: Story<U>,
+    C: Story<U, U::Value>,
     P: Ledger,
     F: Ledger,
     R: Record<U>,
@@ -52,7 +52,7 @@ fn tick_often<
 /// Starts a thread that ticks so.
 pub(crate) fn start_ticking<
     U: Unit + Drop + Send + Sync + 'static,
-    C: Story<U> + Send + Sync + 'static,
+    C: Story<U, U::Value> + Send + Sync + 'static,
     P: Ledger + Send + Sync + 'static,
     F: Ledger + Send + Sync + 'static,
     R: Record<U> + Drop + Send + Sync + 'static,

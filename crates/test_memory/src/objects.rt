@@ -63,7 +63,7 @@ struct Snapshot {
 }
 
 /// What is seen of the pass and of the object.
-fn see<U: Unit<Value = u64> + Drop, C: Story<U>, P: Ledger, R: Wait>(
+fn see<U: Unit<Value = u64> + Drop, C: Story<U, u64>, P: Ledger, R: Wait>(
     rt: &R,
     object: &Object<U, C, P>,
     pass: &Pass<u64, C, P>,
@@ -79,7 +79,7 @@ fn see<U: Unit<Value = u64> + Drop, C: Story<U>, P: Ledger, R: Wait>(
 }
 
 /// Asks the object.
-fn answer_of<U: Unit<Value = u64> + Drop, C: Story<U>, P: Ledger, R: Wait>(
+fn answer_of<U: Unit<Value = u64> + Drop, C: Story<U, u64>, P: Ledger, R: Wait>(
     rt: &R,
     object: &Object<U, C, P>,
     pass: &mut Pass<u64, C, P>,
@@ -98,7 +98,7 @@ fn answer_of<U: Unit<Value = u64> + Drop, C: Story<U>, P: Ledger, R: Wait>(
 }
 
 /// Asks the object, once more where memory was wanting, prints the answer, and counts how often memory was wanting.
-fn print_answer<U: Unit<Value = u64> + Drop, C: Story<U>, P: Ledger, R: Print + Wait>(
+fn print_answer<U: Unit<Value = u64> + Drop, C: Story<U, u64>, P: Ledger, R: Print + Wait>(
     rt: &R,
     object: &Object<U, C, P>,
     pass: &mut Pass<u64, C, P>,
@@ -117,7 +117,7 @@ fn print_answer<U: Unit<Value = u64> + Drop, C: Story<U>, P: Ledger, R: Print + 
 }
 
 /// Asks for all of these, and counts how often memory was wanting.
-fn print_all<U: Unit<Value = u64> + Drop, C: Story<U>, P: Ledger, R: Print + Wait>(
+fn print_all<U: Unit<Value = u64> + Drop, C: Story<U, u64>, P: Ledger, R: Print + Wait>(
     rt: &R,
     object: &Object<U, C, P>,
     pass: &mut Pass<u64, C, P>,
@@ -131,7 +131,7 @@ fn print_all<U: Unit<Value = u64> + Drop, C: Story<U>, P: Ledger, R: Print + Wai
 }
 
 /// Cuts the history, once more where memory was wanting, and counts how often memory was wanting.
-fn cut<U: Unit<Value = u64> + Drop, C: Story<U>, P: Ledger, R: Wait>(
+fn cut<U: Unit<Value = u64> + Drop, C: Story<U, u64>, P: Ledger, R: Wait>(
     rt: &R,
     object: &Object<U, C, P>,
     pass: &Pass<u64, C, P>,
@@ -148,7 +148,7 @@ fn cut<U: Unit<Value = u64> + Drop, C: Story<U>, P: Ledger, R: Wait>(
 }
 
 /// Prints what takes no memory, and finalizes the object.
-fn print_the_rest<U: Unit<Value = u64> + Drop, C: Story<U>, P: Ledger, R: Print + Wait>(
+fn print_the_rest<U: Unit<Value = u64> + Drop, C: Story<U, u64>, P: Ledger, R: Print + Wait>(
     rt: &R,
     object: &Object<U, C, P>,
 ) -> io::Result<()> {
@@ -159,7 +159,7 @@ fn print_the_rest<U: Unit<Value = u64> + Drop, C: Story<U>, P: Ledger, R: Print 
 }
 
 /// Asks for all of these, and cuts the history.
-fn ask_and_cut<U: Unit<Value = u64> + Drop, C: Story<U>, P: Ledger, R: Print + Wait>(
+fn ask_and_cut<U: Unit<Value = u64> + Drop, C: Story<U, u64>, P: Ledger, R: Print + Wait>(
     rt: &R,
     object: &Object<U, C, P>,
     pass: &mut Pass<u64, C, P>,
@@ -171,7 +171,7 @@ fn ask_and_cut<U: Unit<Value = u64> + Drop, C: Story<U>, P: Ledger, R: Print + W
 }
 
 /// Uses the object, whose history is cut twice, and gives the two volumes.
-fn use_object<U: Unit<Value = u64> + Drop, C: Story<U>, P: Ledger, R: Print + Wait>(
+fn use_object<U: Unit<Value = u64> + Drop, C: Story<U, u64>, P: Ledger, R: Print + Wait>(
     rt: &R,
     object: &Object<U, C, P>,
     pass: &mut Pass<u64, C, P>,
@@ -190,7 +190,7 @@ fn use_object<U: Unit<Value = u64> + Drop, C: Story<U>, P: Ledger, R: Print + Wa
 }
 
 /// The same with the first of the passes, if there is one.
-fn use_first<U: Unit<Value = u64> + Drop, C: Story<U>, P: Ledger, R: Print + Wait>(
+fn use_first<U: Unit<Value = u64> + Drop, C: Story<U, u64>, P: Ledger, R: Print + Wait>(
     rt: &R,
     object: &Object<U, C, P>,
     passes: &mut Vec<Pass<u64, C, P>>,
@@ -213,7 +213,7 @@ fn issued_none<U: Unit>(core: &Core<U>) -> bool {
 }
 
 /// Opens an object with one seat, once more with what is handed back where memory was wanting.
-fn open<C: Story<Allocator>, P: Ledger>(
+fn open<C: Story<Allocator, u64>, P: Ledger>(
     alloc: Global,
     core: Core<Allocator>,
     calls: Blank,
@@ -277,7 +277,7 @@ fn print_end<U: Unit<Value = u64>, R: Print>(
 }
 
 /// Opens, uses and closes an object over the core, and counts how often memory was wanting.
-fn try_object<C: Story<Allocator>, P: Ledger, R: Print + Wait + AllocGlobal>(
+fn try_object<C: Story<Allocator, u64>, P: Ledger, R: Print + Wait + AllocGlobal>(
     rt: &R,
     core: Core<Allocator>,
     calls: Blank,

@@ -66,7 +66,7 @@ pub fn same<T: PartialEq + Debug + Drop, R: Abort>(rt: &R, seen: T, wanted: T) {
 }
 
 /// Asks with a pass that waits for no call. Any other is refused as if its call were unknown.
-fn answer_of<U: Unit<Value = u64>, C: Story<U>, P: Ledger, R: Wait>(
+fn answer_of<U: Unit<Value = u64>, C: Story<U, u64>, P: Ledger, R: Wait>(
     rt: &R,
     object: &Object<U, C, P>,
     pass: &mut Pass<u64, C, P>,
@@ -96,7 +96,7 @@ fn answer_of<U: Unit<Value = u64>, C: Story<U>, P: Ledger, R: Wait>(
 }
 
 /// Asks all of these in turn, and asserts that each is answered as it stands beside it.
-pub fn ask_all<U: Unit<Value = u64>, C: Story<U>, P: Ledger, R: Abort + Wait>(
+pub fn ask_all<U: Unit<Value = u64>, C: Story<U, u64>, P: Ledger, R: Abort + Wait>(
     rt: &R,
     object: &Object<U, C, P>,
     pass: &mut Pass<u64, C, P>,

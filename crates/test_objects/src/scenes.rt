@@ -24,7 +24,7 @@ pub enum Scene {
 }
 
 /// Plays the scene with the first of the passes, if there is one, and keeps the volumes that are cut off.
-pub fn play<U: Unit<Value = u64> + Drop, C: Story<U>, P: Ledger, R: Abort + Wait>(
+pub fn play<U: Unit<Value = u64> + Drop, C: Story<U, u64>, P: Ledger, R: Abort + Wait>(
     rt: &R,
     object: &Object<U, C, P>,
     passes: &mut Vec<Pass<u64, C, P>>,
@@ -77,7 +77,7 @@ pub fn look<U: Unit<Value = u64>, R: Abort>(rt: &R, closed: &Closed<U>, scene: S
 }
 
 /// What is put is seen in the receipt.
-fn one_call<U: Unit<Value = u64>, C: Story<U>, P: Ledger, R: Abort + Wait>(
+fn one_call<U: Unit<Value = u64>, C: Story<U, u64>, P: Ledger, R: Abort + Wait>(
     rt: &R,
     object: &Object<U, C, P>,
     pass: &mut Pass<u64, C, P>,
@@ -99,7 +99,7 @@ fn one_call<U: Unit<Value = u64>, C: Story<U>, P: Ledger, R: Abort + Wait>(
 
 /// An empty buffer of 1 has nothing to get at once; what is put into it is seen, and got. The clock doesn't go back. Every
 /// command on a finalized object is refused.
-fn each_kind<U: Unit<Value = u64>, C: Story<U>, P: Ledger, R: Abort + Wait>(
+fn each_kind<U: Unit<Value = u64>, C: Story<U, u64>, P: Ledger, R: Abort + Wait>(
     rt: &R,
     object: &Object<U, C, P>,
     pass: &mut Pass<u64, C, P>,
@@ -124,7 +124,7 @@ fn each_kind<U: Unit<Value = u64>, C: Story<U>, P: Ledger, R: Abort + Wait>(
 }
 
 /// Every command on a finalized object is refused.
-fn refused_everywhere<U: Unit<Value = u64>, C: Story<U>, P: Ledger, R: Abort + Wait>(
+fn refused_everywhere<U: Unit<Value = u64>, C: Story<U, u64>, P: Ledger, R: Abort + Wait>(
     rt: &R,
     object: &Object<U, C, P>,
     pass: &mut Pass<u64, C, P>,
@@ -142,7 +142,7 @@ fn refused_everywhere<U: Unit<Value = u64>, C: Story<U>, P: Ledger, R: Abort + W
 }
 
 /// No call waits, and there is no seat 9.
-fn none_waits<U: Unit<Value = u64>, C: Story<U>, P: Ledger, R: Abort + Wait>(
+fn none_waits<U: Unit<Value = u64>, C: Story<U, u64>, P: Ledger, R: Abort + Wait>(
     rt: &R,
     object: &Object<U, C, P>,
     pass: &mut Pass<u64, C, P>,
@@ -155,7 +155,7 @@ fn none_waits<U: Unit<Value = u64>, C: Story<U>, P: Ledger, R: Abort + Wait>(
 }
 
 /// Cuts the history, and keeps the volume. Where it isn't cut, the volume is missing in the end.
-fn cut<U: Unit<Value = u64> + Drop, C: Story<U>, P: Ledger, R: Wait>(
+fn cut<U: Unit<Value = u64> + Drop, C: Story<U, u64>, P: Ledger, R: Wait>(
     rt: &R,
     object: &Object<U, C, P>,
     volumes: &mut Vec<Volume<u64>>,
@@ -166,7 +166,7 @@ fn cut<U: Unit<Value = u64> + Drop, C: Story<U>, P: Ledger, R: Wait>(
 }
 
 /// Puts the value, gets it, and cuts the history behind each of the calls.
-fn put_and_get<U: Unit<Value = u64> + Drop, C: Story<U>, P: Ledger, R: Abort + Wait>(
+fn put_and_get<U: Unit<Value = u64> + Drop, C: Story<U, u64>, P: Ledger, R: Abort + Wait>(
     rt: &R,
     object: &Object<U, C, P>,
     pass: &mut Pass<u64, C, P>,

@@ -26,7 +26,7 @@ pub struct Shelf {
 }
 
 /// Closes the object without the pass of seat 0, which is refused, and then with it.
-fn close_twice<C: Story<Buffer>, P: Ledger, R: Abort>(
+fn close_twice<C: Story<Buffer, u64>, P: Ledger, R: Abort>(
     rt: &R,
     object: Object<Buffer, C, P>,
     mut passes: Vec<Pass<u64, C, P>>,
@@ -53,7 +53,7 @@ fn name_of(fault: OpenFault<Buffer>) -> &'static str {
 }
 
 /// Opens an object, plays the scene, and closes it: where it has two seats, first without the pass of one of them.
-fn open_and_close<C: Story<Buffer>, P: Ledger, R: Abort + Wait + AllocGlobal>(
+fn open_and_close<C: Story<Buffer, u64>, P: Ledger, R: Abort + Wait + AllocGlobal>(
     rt: &R,
     core: Core<Buffer>,
     seats: u16,

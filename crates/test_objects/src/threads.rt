@@ -46,7 +46,7 @@ enum Errand {
     Idle,
 }
 
-impl<C: Story<Buffer>, P: Ledger> Job<Object<Buffer, C, P>, Pass<u64, C, P>> for Errand {
+impl<C: Story<Buffer, u64>, P: Ledger> Job<Object<Buffer, C, P>, Pass<u64, C, P>> for Errand {
     fn run<W: Wait>(
         self,
         rt: &W,
@@ -62,7 +62,7 @@ impl<C: Story<Buffer>, P: Ledger> Job<Object<Buffer, C, P>, Pass<u64, C, P>> for
 }
 
 /// Calls the entry with the values from 0 on. Where a call is refused, the object is finalized, so that nobody waits for it.
-fn call_often<C: Story<Buffer>, P: Ledger, W: Wait>(
+fn call_often<C: Story<Buffer, u64>, P: Ledger, W: Wait>(
     rt: &W,
     object: &Object<Buffer, C, P>,
     mut pass: Pass<u64, C, P>,
@@ -81,7 +81,7 @@ fn call_often<C: Story<Buffer>, P: Ledger, W: Wait>(
 }
 
 /// Calls Get with the deadline.
-fn call_once<C: Story<Buffer>, P: Ledger, W: Wait>(
+fn call_once<C: Story<Buffer, u64>, P: Ledger, W: Wait>(
     rt: &W,
     object: &Object<Buffer, C, P>,
     mut pass: Pass<u64, C, P>,
@@ -95,7 +95,7 @@ fn call_once<C: Story<Buffer>, P: Ledger, W: Wait>(
 
 /// Has a thread at each seat do its errand, and waits until both are done.
 fn do_both<
-    C: Story<Buffer> + Send + Sync + 'static,
+    C: Story<Buffer, u64> + Send + Sync + 'static,
     P: Ledger + Send + Sync + 'static,
     R: Threads + Wait + AllocGlobal + Copy + Send + 'static,
 >(
@@ -118,7 +118,7 @@ fn do_both<
 
 /// Has the threads do their errands beside a ticker, which the object doesn't refuse.
 fn do_in_time<
-    C: Story<Buffer> + Send + Sync + 'static,
+    C: Story<Buffer, u64> + Send + Sync + 'static,
     P: Ledger + Send + Sync + 'static,
     R: Threads + Wait + Clock + Abort + AllocGlobal + Copy + Send + 'static,
 >(
@@ -137,7 +137,7 @@ fn do_in_time<
 
 /// A ticker over a finalized object is refused at once.
 fn tick_in_vain<
-    C: Story<Buffer> + Send + Sync + 'static,
+    C: Story<Buffer, u64> + Send + Sync + 'static,
     P: Ledger + Send + Sync + 'static,
     R: Threads + Wait + Clock + Abort + AllocGlobal + Copy + Send + 'static,
 >(rt: R, object: &Arc<Object<Buffer, C, P>>) -> Result<(), Fail> {
@@ -150,7 +150,7 @@ fn tick_in_vain<
 
 /// Opens an object over the core, has threads do their errands, and closes it.
 fn open_and_close<
-    C: Story<Buffer> + Send + Sync + 'static,
+    C: Story<Buffer, u64> + Send + Sync + 'static,
     P: Ledger + Send + Sync + 'static,
     R: Threads + Wait + Clock + Abort + AllocGlobal + Copy + Send + 'static,
 >(

@@ -23,7 +23,7 @@ use std::time::Clock;
 
 impl Kept for Unrecorded<Station> {
     /// The history is known to proofs alone.
-    fn cut<C: Story<Station>, P: Ledger, F: Ledger, Q: Receipts<u64>, S: Steps, W: Wait>(
+    fn cut<C: Story<Station, u64>, P: Ledger, F: Ledger, Q: Receipts<u64>, S: Steps, W: Wait>(
         _rt: &W,
         _object: &Object<Station, C, P, F, Unrecorded<Station>, Q, S>,
     ) -> Option<Volume<u64>> {
@@ -33,7 +33,7 @@ impl Kept for Unrecorded<Station> {
 
 /// Opens an object, plays the scene, and closes the object.
 fn open_and_close<
-    C: Story<Station> + Send + Sync + 'static,
+    C: Story<Station, u64> + Send + Sync + 'static,
     P: Ledger + Send + Sync + 'static,
     F: Ledger + Send + Sync + 'static,
     R: Kept + Send + Sync + 'static,

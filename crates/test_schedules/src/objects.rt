@@ -32,7 +32,7 @@ pub(crate) fn beginning(scene: Scene) -> Start {
 
 /// Plays the scene with the object, and closes it, if all threads come to an end.
 pub(crate) fn play_and_close<
-    C: Story<Station> + Send + Sync + 'static,
+    C: Story<Station, u64> + Send + Sync + 'static,
     P: Ledger + Send + Sync + 'static,
     F: Ledger + Send + Sync + 'static,
     R: Kept + Send + Sync + 'static,

@@ -18,7 +18,7 @@ pub(crate) trait Plays<P> {
 /// What an object keeps of what has happened, which is cut where that is its history.
 pub(crate) trait Kept: Record<Station> + Drop {
     /// Cuts the history, where the object keeps one.
-    fn cut<C: Story<Station>, P: Ledger, F: Ledger, Q: Receipts<u64>, S: Steps, W: Wait>(
+    fn cut<C: Story<Station, u64>, P: Ledger, F: Ledger, Q: Receipts<u64>, S: Steps, W: Wait>(
         rt: &W,
         object: &Object<Station, C, P, F, Self, Q, S>,
     ) -> Option<Volume<u64>>;
@@ -29,7 +29,7 @@ fn single(entry: u16) -> EntryRef {
     EntryRef { entry, index: None }
 }
 
-impl<C: Story<Station>, P: Ledger, F: Ledger, R: Kept, Q: Receipts<u64>, S: Steps> Plays<
+impl<C: Story<Station, u64>, P: Ledger, F: Ledger, R: Kept, Q: Receipts<u64>, S: Steps> Plays<
     Pass<u64, C, P, F, Q>,
 > for Object<Station, C, P, F, R, Q, S> {
     fn play<W: Wait>(
@@ -48,7 +48,7 @@ impl<C: Story<Station>, P: Ledger, F: Ledger, R: Kept, Q: Receipts<u64>, S: Step
 
 /// Asks what the act says. The answer is compared with the history in the end, and else of no interest.
 fn ask<
-    C: Story<Station>,
+    C: Story<Station, u64>,
     P: Ledger,
     F: Ledger,
     R: Record<Station>,
@@ -78,7 +78,7 @@ fn ask<
 
 /// Makes the call, or runs the procedure, of the act.
 fn call<
-    C: Story<Station>,
+    C: Story<Station, u64>,
     P: Ledger,
     F: Ledger,
     R: Record<Station>,

@@ -21,7 +21,7 @@ use std::thread::Threads;
 use std::time::Clock;
 
 impl Kept for Recorded<Station> {
-    fn cut<C: Story<Station>, P: Ledger, F: Ledger, Q: Receipts<u64>, S: Steps, W: Wait>(
+    fn cut<C: Story<Station, u64>, P: Ledger, F: Ledger, Q: Receipts<u64>, S: Steps, W: Wait>(
         rt: &W,
         object: &Object<Station, C, P, F, Recorded<Station>, Q, S>,
     ) -> Option<Volume<u64>> {
@@ -31,7 +31,7 @@ impl Kept for Recorded<Station> {
 
 /// Opens an object, plays the scene, and closes the object.
 fn open_and_close<
-    C: Story<Station> + Send + Sync + 'static,
+    C: Story<Station, u64> + Send + Sync + 'static,
     P: Ledger + Send + Sync + 'static,
     F: Ledger + Send + Sync + 'static,
     R: Kept + Send + Sync + 'static,

@@ -19,7 +19,7 @@ use std::time::{Clock, CpuClock};
 
 impl<U: Unit<Value = u64>> Kept<U> for Unrecorded<U> {
     /// The history is known to proofs alone.
-    fn cut_history<C: Story<U>, L: Ledger, F: Ledger, Q: Receipts<u64>, W: Wait>(
+    fn cut_history<C: Story<U, u64>, L: Ledger, F: Ledger, Q: Receipts<u64>, W: Wait>(
         _rt: &W,
         _object: &Object<U, C, L, F, Unrecorded<U>, Q>,
     ) -> Result<Option<Volume<u64>>, Refusal> {
@@ -44,7 +44,7 @@ impl Shown for Trace<Receipt<u64>> {
 /// Opens an object, plays the scene, and closes the object.
 fn open_and_close<
     U: Unit<Value = u64> + Send + Sync + Drop + 'static,
-    C: Story<U> + Send + Sync + 'static,
+    C: Story<U, u64> + Send + Sync + 'static,
     L: Ledger + Send + Sync + 'static,
     F: Ledger + Send + Sync + 'static,
     R: Kept<U> + Send + Sync + 'static,

@@ -15,7 +15,7 @@ use std::time::{Clock, CpuClock};
 /// What an object keeps of what has happened, which is cut where that is its history.
 pub(crate) trait Kept<U: Unit<Value = u64>>: Record<U> + Drop {
     /// Cuts the history, where the object keeps one.
-    fn cut_history<C: Story<U>, L: Ledger, F: Ledger, Q: Receipts<u64>, W: Wait>(
+    fn cut_history<C: Story<U, u64>, L: Ledger, F: Ledger, Q: Receipts<u64>, W: Wait>(
         rt: &W,
         object: &Object<U, C, L, F, Self, Q>,
     ) -> Result<Option<Volume<u64>>, Refusal>;
@@ -31,7 +31,7 @@ pub(crate) trait Shown: Receipts<u64> {
     ) -> io::Result<()>;
 }
 
-impl<U: Unit<Value = u64>, C: Story<U>, L: Ledger, F: Ledger, R: Kept<U>, Q: Shown> Shared<
+impl<U: Unit<Value = u64>, C: Story<U, u64>, L: Ledger, F: Ledger, R: Kept<U>, Q: Shown> Shared<
     Pass<u64, C, L, F, Q>,
 > for Object<U, C, L, F, R, Q> {
     fn enter<W: Wait>(
@@ -104,7 +104,7 @@ pub(crate) struct Shelf<U: Unit<Value = u64> + Drop, R: Record<U>, Q: Receipts<u
 /// Closes the object with all passes that are here, or gives none where one is missing or a thread still has the object.
 fn close<
     U: Unit<Value = u64> + Drop,
-    C: Story<U>,
+    C: Story<U, u64>,
     L: Ledger,
     F: Ledger,
     R: Record<U> + Drop,
@@ -121,7 +121,7 @@ fn close<
 /// Plays the scene with the object, and closes it.
 pub(crate) fn play_and_close<
     U: Unit<Value = u64> + Send + Sync + Drop + 'static,
-    C: Story<U> + Send + Sync + 'static,
+    C: Story<U, u64> + Send + Sync + 'static,
     L: Ledger + Send + Sync + 'static,
     F: Ledger + Send + Sync + 'static,
     R: Kept<U> + Send + Sync + 'static,

@@ -18,7 +18,7 @@ use std::thread::Threads;
 use std::time::{Clock, CpuClock};
 
 impl<U: Unit<Value = u64> + Drop> Kept<U> for Recorded<U> {
-    fn cut_history<C: Story<U>, L: Ledger, F: Ledger, Q: Receipts<u64>, W: Wait>(
+    fn cut_history<C: Story<U, u64>, L: Ledger, F: Ledger, Q: Receipts<u64>, W: Wait>(
         rt: &W,
         object: &Object<U, C, L, F, Recorded<U>, Q>,
     ) -> Result<Option<Volume<u64>>, Refusal> {
@@ -40,7 +40,7 @@ impl Shown for Vec<Receipt<u64>> {
 /// Opens an object, plays the scene, and closes the object.
 fn open_and_close<
     U: Unit<Value = u64> + Send + Sync + Drop + 'static,
-    C: Story<U> + Send + Sync + 'static,
+    C: Story<U, u64> + Send + Sync + 'static,
     L: Ledger + Send + Sync + 'static,
     F: Ledger + Send + Sync + 'static,
     R: Kept<U> + Send + Sync + 'static,
