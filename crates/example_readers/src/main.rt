@@ -21,7 +21,9 @@ use readers_writers::{READ, READ_DONE, ReadersWriters, WRITE, WRITE_DONE};
 use std::alloc::Global;
 use std::io::Print;
 use std::marker::Brand;
+use std::sync::Wait;
 use std::sync::ledger::Blank;
+use std::thread::Threads;
 use visits::{SEATS, visit_by_threads};
 
 /// How many readers may be inside at once.
@@ -92,21 +94,26 @@ fn count_visits(closed: &Closed<ReadersWriters>) -> u64 {
     visits
 }
 
-fn main(rt: HostRuntime) -> Result<()> {
+/// One thread uses a core by itself.
+fn take_turns<R: Print + AllocGlobal>(rt: &R) -> Result<()> {
     let mut core = new_core(rt.alloc())?;
-    visit(&rt, &mut core)?;
+    visit(rt, &mut core)
+}
+
+/// Threads share an object. In the end it is known of all that they did that never two writers were inside.
+fn share<R: Threads + Wait + AllocGlobal + Print + Copy + Send + 'static>(rt: R) -> Result<()> {
     let core = new_core(rt.alloc())?;
     let (calls, procedures) = (Blank::new(PARTS), Blank::new(PARTS));
-    let closed = visit_by_threads::<Brand, Brand, HostRuntime>(
-        rt,
-        core,
-        calls,
-        procedures,
-        Keeper::open(),
-    )?;
+    let log = Keeper::open();
+    let closed = visit_by_threads::<Brand, Brand, R>(rt, core, calls, procedures, log)?;
     println!(&rt;
         "{} visits by threads, and never two writers inside",
         count_visits(&closed)
     )?;
     Ok(())
+}
+
+fn main(rt: HostRuntime) -> Result<()> {
+    take_turns(&rt)?;
+    share(rt)
 }

@@ -40,31 +40,42 @@ const WRITER: Visitor = Visitor {
     leave: WRITE_DONE,
 };
 
+/// Goes in and comes out so often, and gives the pass back.
+///
+/// A visitor that is refused finalizes the object, so that no other waits for it.
+fn visit_often<C: Story<ReadersWriters, u64>, P: Ledger, W: Wait>(
+    rt: &W,
+    object: &Object<ReadersWriters, C, P>,
+    mut pass: Pass<u64, C, P>,
+    visitor: Visitor,
+) -> Pass<u64, C, P> {
+    if pass.pending() {
+        return pass;
+    }
+    let enter = EntryRef {
+        entry: visitor.enter,
+        index: None,
+    };
+    for _ in 0..VISITS {
+        if object.call(rt, &mut pass, enter, 0).is_err()
+            || object.procedure(rt, &mut pass, visitor.leave, 0).is_err()
+        {
+            let _ended = object.finalize(rt);
+            break;
+        }
+    }
+    pass
+}
+
 impl<C: Story<ReadersWriters, u64>, P: Ledger> Job<Object<ReadersWriters, C, P>, Pass<u64, C, P>>
     for Visitor {
-    /// A visitor that is refused finalizes the object, so that no other waits for it.
     fn run<W: Wait>(
         self,
         rt: &W,
         object: &Object<ReadersWriters, C, P>,
-        mut pass: Pass<u64, C, P>,
+        pass: Pass<u64, C, P>,
     ) -> Pass<u64, C, P> {
-        if pass.pending() {
-            return pass;
-        }
-        let enter = EntryRef {
-            entry: self.enter,
-            index: None,
-        };
-        for _ in 0..VISITS {
-            if object.call(rt, &mut pass, enter, 0).is_err()
-                || object.procedure(rt, &mut pass, self.leave, 0).is_err()
-            {
-                let _ended = object.finalize(rt);
-                break;
-            }
-        }
-        pass
+        visit_often(rt, object, pass, self)
     }
 }
 

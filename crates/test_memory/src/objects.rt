@@ -3,6 +3,7 @@
 //! memory answers the same, whatever was refused.
 
 ghost use Rattle.std.specs.Prelude.{◌≡◌, [], Some};
+ghost use Rattle.po_classic_units.specs.Allocator.{allocator_meaning};
 ghost use Rattle.po_object.specs.Stories.{IsStory};
 
 use crate::cores::make_again;
@@ -222,7 +223,7 @@ fn open<C: Story<Allocator, u64>, P: Ledger>(
     refusals: &mut Refusals,
 ) -> Option<(Object<Allocator, C, P>, Vec<Pass<u64, C, P>>)>
     requires shape { core.object.setup.shape ≡ C.shape }
-    requires story { IsStory U.meaning core.object.setup C.setup C.end_of }
+    requires story { IsStory allocator_meaning core.object.setup C.setup C.end_of }
     requires log { (log.name ≡ C.log) × (log.items ≡ []) }
     requires calls { (calls.name ≡ C.name) × (calls.parts ≡ C.parts) × (calls.parts ≡ 2) }
     requires procedures { (procedures.name ≡ P.name) × (procedures.parts ≡ P.parts) × (procedures.parts ≡ 2) }
@@ -286,7 +287,7 @@ fn try_object<C: Story<Allocator, u64>, P: Ledger, R: Print + Wait + AllocGlobal
     refusals: &mut Refusals,
 ) -> io::Result<()>
     requires shape { core.object.setup.shape ≡ C.shape }
-    requires story { IsStory U.meaning core.object.setup C.setup C.end_of }
+    requires story { IsStory allocator_meaning core.object.setup C.setup C.end_of }
     requires log { (log.name ≡ C.log) × (log.items ≡ []) }
     requires calls { (calls.name ≡ C.name) × (calls.parts ≡ C.parts) × (calls.parts ≡ 2) }
     requires procedures { (procedures.name ≡ P.name) × (procedures.parts ≡ P.parts) × (procedures.parts ≡ 2) }

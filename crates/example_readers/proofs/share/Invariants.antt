@@ -1,7 +1,7 @@
 use Rattle.std.specs.Prelude.{Some}
 use Rattle.po_object.specs.Stories.{ends_by}
 use Rattle.example_readers.specs.ReadersWriters.{readers_writers_meaning}
-use Rattle.example_readers.proofs.main.Given as goal
+use Rattle.example_readers.proofs.share.Given as goal
 
 abbrev pub ghosts-visit_by_threads-C-Ledger : goal.ghosts-visit_by_threads-C-Ledger
 ghosts-visit_by_threads-C-Ledger g a = record { name = a.calls.name; parts = a.calls.parts }
