@@ -17,9 +17,9 @@ STAY = """        self.stay(pass.seat());
         Ok(self.wait(rt, pass))
 """
 AT_ONCE = "            drop(taken);\n            self.wake(&sleepers);\n            return Ok(end);\n"
-TICK = "        let clock = taken.locked.tick(t)?;\n        let sleepers = self.tell(&taken.locked, None);\n"
-ABORT = "        let aborted = taken.locked.abort_seat(seat)?;\n        let sleepers = self.tell(&taken.locked, None);\n"
-FINAL = "        taken.locked.finalize()?;\n        let sleepers = self.tell(&taken.locked, None);\n        drop(taken);\n        self.wake(&sleepers);\n"
+TICK = "        let clock = taken.locked.tick(front, t)?;\n        let sleepers = self.tell(&taken.locked, None);\n"
+ABORT = "        let aborted = taken.locked.abort_seat(front, seat)?;\n        let sleepers = self.tell(&taken.locked, None);\n"
+FINAL = "        taken.locked.finalize(front)?;\n        let sleepers = self.tell(&taken.locked, None);\n        drop(taken);\n        self.wake(&sleepers);\n"
 REPLY = "        drop(taken);\n        self.wake(&sleepers);\n        Ok(reply)\n"
 WAKE = "self.wake(&sleepers);\n"
 NO_WAKE = "let _ = &sleepers;\n"
@@ -48,14 +48,14 @@ BUGS = [
     ("a call that ends at once wakes nobody", "object.rt", AT_ONCE, AT_ONCE.replace(WAKE, NO_WAKE), "pair recorded"),
     ("a call doesn't say that it waits", "object.rt", STAY, STAY.replace("        self.stay(pass.seat());\n", ""), "twice recorded"),
     ("tick tells before it raises the clock", "object.rt",
-     TICK, "        let sleepers = self.tell(&taken.locked, None);\n        let clock = taken.locked.tick(t)?;\n", "tick recorded"),
+     TICK, "        let sleepers = self.tell(&taken.locked, None);\n        let clock = taken.locked.tick(front, t)?;\n", "tick recorded"),
     ("tick doesn't tell the seat 0", "object.rt", TICK, TICK.replace("None", "Some(0)"), "tick recorded"),
     ("abort_seat doesn't tell the seat", "object.rt", ABORT, ABORT.replace("None", "Some(seat)"), "cancel recorded"),
     ("more sleepers than can be noted aren't woken", "object.rt",
      MANY, MANY.replace("there.wake(&self.steps, seat);", "let _ = there;"), "five recorded"),
     ("the same, bounded", "object.rt", MANY, MANY.replace("there.wake(&self.steps, seat);", "let _ = there;"), "five bounded"),
     ("a caller sleeps with the lock", "object.rt", SLEEP, "                let held = self.look(rt);\n" + SLEEP + "                drop(held);\n", "pair recorded"),
-    ("finalize neither tells nor wakes", "object.rt", FINAL, "        taken.locked.finalize()?;\n", "final recorded"),
+    ("finalize neither tells nor wakes", "object.rt", FINAL, "        taken.locked.finalize(front)?;\n", "final recorded"),
     ("a procedure wakes nobody", "object.rt", REPLY, REPLY.replace(WAKE, NO_WAKE), "five recorded"),
     ("who ends a call leaves its flag", "seat.rt", SWAP, SWAP.replace("swap(ENDED, ", "load("), "pair recorded"),
     ("a caller looks and falls asleep in two steps", "seat.rt", FALL_ASLEEP, LOOK_THEN_SET, "pair recorded"),
