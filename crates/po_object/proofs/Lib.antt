@@ -4,6 +4,7 @@ pub mod Clock
 pub mod Counting
 pub mod LatestKept
 pub mod Refused
+pub mod Refusing
 pub mod Seating
 pub mod Shared
 pub mod Totals

@@ -1,15 +1,20 @@
 -- What a refusal of the core says.
-use Rattle.std.proofs.Common.{◌≡◌, ◌⊎◌, ℕ, ◌+◌, ◌≤◌, inl, inr, ap, sym, ◌∙◌, subst, refl, arith, Bool, true, false, Option, Some, None, is_some, nat_le, if◌then◌else◌}
+use Rattle.std.proofs.Common.{◌≡◌, ◌⊎◌, ℕ, ◌+◌, ◌≤◌, inl, inr, ap, sym, ◌∙◌, subst, refl, arith, Bool, true, false, Option, Some, None, Result, Ok, Err, List, is_some, nat_le, if◌then◌else◌}
 use Rattle.std.specs.Prelude.{IfSome}
+use Rattle.std.specs.List.{slice_get}
 use Rattle.std.proofs.lemmas.Bool.Decides.{nat_tests}
+use Rattle.po_unit.specs.declared.decl.Decl.{Decl}
+use Rattle.po_unit.specs.declared.decl.EntryRef.{EntryRef}
+use Rattle.po_unit.specs.declared.fault.IndexFault.{IndexFault}
+use Rattle.po_unit.specs.Numbering.{flat_number}
 use Rattle.po_engine.specs.Tickets.{uncollected}
 use Rattle.po_core.specs.declared.refusal.Refusal.{Refusal}
-use Rattle.po_core.specs.declared.refusal.Refusal.TheVariants.{OutOfMemory, TooManyCalls, Finalized, NumbersSpent}
-use Rattle.po_core.specs.View.{next_place}
+use Rattle.po_core.specs.declared.refusal.Refusal.TheVariants.{OutOfMemory, TooManyCalls, Finalized, NumbersSpent, PrivateEntry}
+use Rattle.po_core.specs.View.{View, next_place}
 use Rattle.po_core.specs.Tickets.{CoreView}
-use Rattle.po_core.specs.Refusals.{MayRefuse, if_full, or_else, if_uncounted, tick_refusal, finalized_refusal}
+use Rattle.po_core.specs.Refusals.{MayRefuse, if_full, if_finalized, if_private, if_unindexed, or_else, if_uncounted, entry_refusal, issue_refusal, tick_refusal, finalized_refusal}
 use Rattle.po_object.specs.Reservations.{HasRoomFor}
-use Rattle.po_object.specs.Refused.{IsOutOfMemory, IsTickRefusal}
+use Rattle.po_object.specs.Refused.{IsOutOfMemory, IsCallRefusal, IsTickRefusal, IsTickRefusalOf}
 
 -- memory may be wanting
 pub out-of-memory : (bounded : Bool) → bounded ≡ false → IsOutOfMemory bounded OutOfMemory
@@ -75,3 +80,48 @@ module _ {S V : Type 0} (core : CoreView S V) where
   -- which refusals a tick may meet
   pub tick-refused : (bounded : Bool) → is_some core.capacity ≡ bounded → (r : Refusal) → MayRefuse core.capacity (tick_refusal core) r → IsTickRefusal bounded r
   tick-refused bounded is r may = subst (λ b. IsTickRefusal b r) is (tick_by core.capacity core.object.state.finalized (next_place core.object) r may)
+
+  tick_of : (capacity : Option ℕ) (finalized : Option Refusal) (place : ℕ) (r : Refusal) → MayRefuse capacity (or_else finalized (if_uncounted capacity place)) r
+      → IsOutOfMemory (is_some capacity) r ⊎ (or_else finalized (if is_some capacity then (if nat_le 18_446_744_073_709_551_615 place then Some NumbersSpent else None) else None) ≡ Some r)
+  tick_of None (Some why) place r may = inr (ap (λ x. Some x) (sym may))
+  tick_of None None place r may = inl may.1
+  tick_of (Some most) (Some why) place r may = inr (ap (λ x. Some x) (sym may))
+  tick_of (Some most) None place r may = spent (nat_le 18_446_744_073_709_551_615 place) may
+    where
+      spent : (b : Bool) → MayRefuse (Some most) (if b then Some NumbersSpent else None) r → ⊥ ⊎ ((if b then Some NumbersSpent else None) ≡ Some r)
+      spent true h = inr (ap (λ x. Some x) (sym h))
+      spent false h = let bad : None ≡ Some most = sym h.0 in cc
+
+  -- and which it meets, by what the object is
+  pub tick-refused-of : (bounded : Bool) → is_some core.capacity ≡ bounded → (r : Refusal) → MayRefuse core.capacity (tick_refusal core) r → IsTickRefusalOf bounded core.object r
+  tick-refused-of bounded is r may = subst (λ b. IsTickRefusalOf b core.object r) is (tick_of core.capacity (finalized_refusal core.object) (next_place core.object) r may)
+
+-- a refusal that isn't that of the entry is the other one
+entry-or : (public : Bool) (f : Result ℕ IndexFault) (other : Option Refusal) (r : Refusal)
+    → (if public then if_unindexed f other else Some PrivateEntry) ≡ Some r
+    → ((if public then if_unindexed f None else Some PrivateEntry) ≡ Some r) ⊎ (((if public then if_unindexed f None else Some PrivateEntry) ≡ None) × (other ≡ Some r))
+entry-or false f other r is = inl is
+entry-or true (Ok n) other r is = inr (refl, is)
+entry-or true (Err fault) other r is = inl is
+
+private-or : (o : Option Decl) (f : Result ℕ IndexFault) (other : Option Refusal) (r : Refusal) → if_private o (if_unindexed f other) ≡ Some r
+    → (if_private o (if_unindexed f None) ≡ Some r) ⊎ ((if_private o (if_unindexed f None) ≡ None) × (other ≡ Some r))
+private-or None f other r is = inl is
+private-or (Some d) f other r is = entry-or d.public f other r is
+
+by-state : (finalized spent : Bool) (r : Refusal) → (if finalized then Some Finalized else (if spent then Some NumbersSpent else None)) ≡ Some r → (r ≡ Finalized) ⊎ (r ≡ NumbersSpent)
+by-state true spent r is = inl cc
+by-state false true r is = inr cc
+by-state false false r is = cc
+
+-- which refusals a call may meet
+pub call-refusal : {S V : Type 0} (bounded : Bool) (view : View S V) (shape : List Decl) (entry : EntryRef) (r : Refusal) → view.setup.shape ≡ shape
+    → IsOutOfMemory bounded r ⊎ (issue_refusal view entry ≡ Some r) → IsCallRefusal bounded shape entry r
+call-refusal {S} {V} bounded view shape entry r same (inl none) = inl none
+call-refusal {S} {V} bounded view shape entry r same (inr is) =
+    let other = if_finalized view.state (if nat_le 18_446_744_073_709_551_615 view.state.next then Some NumbersSpent else None) in
+    let here : entry_refusal shape entry other ≡ Some r = subst (λ (decls : List Decl). entry_refusal decls entry other ≡ Some r) same is in
+    elim (private-or (slice_get shape entry.entry) (flat_number shape entry) other r here) [
+      | inl own ↦ inr (inl own)
+      | inr rest ↦ inr (inr (rest.0, by-state view.state.finalized (nat_le 18_446_744_073_709_551_615 view.state.next) r rest.1))
+    ]

@@ -9,6 +9,10 @@ use Rattle.po_receipts.specs.declared.receipt.Receipt.TheVariants.{Called, Ran}
 use Rattle.po_receipts.specs.Passes.{PassView}
 
 module _ {V : Type 0} where
+  -- the pass, whose caller has seen so much of the history
+  abbrev pub seeing : PassView V → List (Event V) → PassView V
+  seeing pass seen = record pass { seen = seen }
+
   -- the pass with this receipt behind the earlier ones, whose caller has seen so much of the history
   abbrev pub filing : PassView V → Receipt V → List (Event V) → PassView V
   filing pass receipt seen = record pass { receipts = pass.receipts ++ receipt ∷ []; seen = seen }

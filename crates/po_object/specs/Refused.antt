@@ -1,9 +1,10 @@
 -- Which refusals a call of an object may meet (this project's own). What lies behind the lock isn't known, but for the
 -- declarations of its entries, and whether the number of calls is fixed.
-use Rattle.std.specs.Prelude.{◌≡◌, ◌⊎◌, Bool, true, false, List, Some, None}
+use Rattle.std.specs.Prelude.{◌≡◌, ◌⊎◌, Bool, true, false, List, Some, None, if◌then◌else◌}
 use Rattle.po_unit.specs.declared.decl.Decl.{Decl}
 use Rattle.po_unit.specs.declared.decl.EntryRef.{EntryRef}
-use Rattle.po_core.specs.Refusals.{entry_refusal}
+use Rattle.po_core.specs.View.{View}
+use Rattle.po_core.specs.Refusals.{entry_refusal, or_else, finalized_refusal, if_spent}
 use Rattle.po_core.specs.declared.refusal.Refusal.{Refusal}
 use Rattle.po_core.specs.declared.refusal.Refusal.TheVariants.{NoSuchOperation, Finalized, NumbersSpent, OutOfMemory}
 
@@ -31,6 +32,11 @@ IsFunctionRefusal r = (r ≡ NoSuchOperation) ⊎ (r ≡ Finalized)
 abbrev pub IsTickRefusal : Bool → Refusal → Type 0
 IsTickRefusal false r = (r ≡ OutOfMemory) ⊎ (r ≡ Finalized)
 IsTickRefusal true r = (r ≡ NumbersSpent) ⊎ (r ≡ Finalized)
+
+-- of a tick, by what the object is then
+abbrev pub IsTickRefusalOf : {S V : Type 0} → Bool → View S V → Refusal → Type 0
+IsTickRefusalOf bounded view r =
+    IsOutOfMemory bounded r ⊎ (or_else (finalized_refusal view) (if bounded then if_spent view else None) ≡ Some r)
 
 -- of a cut
 abbrev pub IsCutRefusal : Refusal → Type 0

@@ -1,8 +1,9 @@
 //! The log of an object's history, which lies behind its lock, and how far callers have seen it.
 
-ghost use Rattle.std.specs.Prelude.{◌≡◌, ◌++◌, ◌⊎◌, List, []};
+ghost use Rattle.std.specs.Prelude.{◌≡◌, ◌+◌, ◌≤◌, ◌++◌, ◌⊎◌, List, [], length, true, false};
 ghost use mathlib.Core.List.{IsPrefix};
 ghost use Rattle.po_history.specs.declared.event.Event.{Event};
+ghost use Rattle.po_core.specs.View.{next_place};
 
 use crate::ledgers::CallLedger;
 use po_core::{Core, Event, Record};
@@ -13,22 +14,24 @@ use std::snapshot::Snapshot;
 
 /// How far the history of an object was seen by one that asks it. Contracts see it as these events, from the opening on.
 ///
-/// An answer stands behind them, and is seen by the front from then on. Each pass has one. It takes no memory and no time.
+/// An answer stands behind them, and is seen by the front from then on. Each pass has one. Of the events it keeps how many
+/// they are, and nothing else.
 #[derive(Drop)]
 pub struct Front<V: Copy, C: CallLedger<V>> {
     seen: Seen<Event<V>>,
+    events: u128,
     of: PhantomData<C>,
 }
 
 impl<V: Copy, C: CallLedger<V>> Model for Front<V, C> {
-    ghost use Rattle.std.specs.Prelude.{◌≡◌, List};
+    ghost use Rattle.std.specs.Prelude.{◌≡◌, List, length};
     ghost use Rattle.po_history.specs.declared.event.Event.{Event};
 
     ghost Value = { List (Event V) };
 
     ghost view = { λ f. f.seen.items };
 
-    ghost invariant = { λ f. f.seen.name ≡ C.log };
+    ghost invariant = { λ f. (f.seen.name ≡ C.log) × (f.events ≡ length f.seen.items) };
 }
 
 impl<V: Copy, C: CallLedger<V>> Front<V, C> {
@@ -38,8 +41,36 @@ impl<V: Copy, C: CallLedger<V>> Front<V, C> {
     {
         Front {
             seen: self.seen.again(),
+            events: self.events,
             of: PhantomData,
         }
+    }
+
+    /// Sees what the other one has seen too. Of what two have seen of one object the one is the beginning of the other.
+    pub fn see(&mut self, other: &Front<V, C>)
+        ensures own { IsPrefix self.old self.new }
+        ensures other { IsPrefix other.now self.new }
+        ensures alone { (self.new ≡ self.old) ⊎ (self.new ≡ other.now) }
+    {
+        if !self.go_to(other) {
+            other.seen.meet(&self.seen);
+        }
+    }
+
+    /// Sees what the other one has seen, if it has seen no more than that. Answers whether it does.
+    pub(crate) fn go_to(&mut self, other: &Front<V, C>) -> bool
+        ensures later { result ≡ true → IsPrefix self.old other.now }
+        ensures seen { result ≡ true → self.new ≡ other.now }
+        ensures left { result ≡ false → self.new ≡ self.old }
+        // It has seen more.
+        ensures more { result ≡ false → length other.now + 1 ≤ length self.old }
+    {
+        if self.events > other.events {
+            return false;
+        }
+        self.seen.meet(&other.seen);
+        *self = other.again();
+        true
     }
 
     /// Tells that of what two have seen of one object the one is the beginning of the other.
@@ -54,7 +85,11 @@ impl<V: Copy, C: CallLedger<V>> Front<V, C> {
     pub(crate) fn into_seen(self) -> Seen<Event<V>>
         ensures { result.items ≡ self }
     {
-        let Front { seen, of: _of } = self;
+        let Front {
+            seen,
+            events: _events,
+            of: _of,
+        } = self;
         seen
     }
 }
@@ -95,6 +130,7 @@ impl<V: Copy, C: CallLedger<V>> Log<V, C> {
             keeper,
             shown: Front {
                 seen,
+                events: 0,
                 of: PhantomData,
             },
         }
@@ -133,7 +169,18 @@ impl<V: Copy, C: CallLedger<V>> Log<V, C> {
         ensures same { self.new ≡ self.old }
     {
         self.keeper.recall(&front.seen);
-        front.seen = self.keeper.show();
+        *front = self.shown.again();
+    }
+
+    /// Lets the front see all of it, by a look alone, and answers whether it does. No front has seen more; but only who may
+    /// change the log can tell, as `show_to` does.
+    pub(crate) fn show_beside(&self, front: &mut Front<V, C>) -> bool
+        ensures later { result ≡ true → IsPrefix front.old self.now }
+        ensures all { result ≡ true → front.new ≡ self.now }
+        ensures left { result ≡ false → front.new ≡ front.old }
+        ensures more { result ≡ false → length self.now + 1 ≤ length front.old }
+    {
+        front.go_to(&self.shown)
     }
 }
 
@@ -145,6 +192,9 @@ pub(crate) fn go_on<U: Unit, C: CallLedger<U::Value>, R: Record<U>>(
     core: &Core<U, R>,
 )
     requires goes_on { IsPrefix before.now.value.object.events core.now.object.events }
+    // The log had all events before the next place.
+    requires placed { length log.old + core.now.object.setup.first_place + length core.now.object.events
+        ≡ next_place core.now.object + length before.now.value.object.events }
     ensures later { IsPrefix front.old log.old }
     ensures followed { (more : List (Event U.Value))
         × (before.now.value.object.events ++ more ≡ core.now.object.events)
@@ -153,6 +203,10 @@ pub(crate) fn go_on<U: Unit, C: CallLedger<U::Value>, R: Record<U>>(
 {
     log.keeper.recall(&front.seen);
     log.keeper.follow::<Core<U, R>, CoreEvents>(before, core);
-    front.seen = log.keeper.show();
-    log.shown.seen = log.keeper.show();
+    log.shown = Front {
+        seen: log.keeper.show(),
+        events: core.place() - u128::from(core.first_place()),
+        of: PhantomData,
+    };
+    *front = log.shown.again();
 }

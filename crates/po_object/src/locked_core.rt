@@ -12,17 +12,17 @@ ghost use Rattle.po_core.specs.Cutting.{cut, cut_off, Leads, KeepsArrivals, Keep
 ghost use Rattle.po_core.specs.Commands.{issue_of, reply_of};
 ghost use Rattle.po_core.specs.ProtectedAction.{IsProtectedAction, IsAbortOf, after_action, after_abort, abort_answer};
 ghost use Rattle.po_core.specs.Commands.{entry_of};
-ghost use Rattle.po_core.specs.Refusals.{MayRefuse, issue_refusal, run_refusal, tick_refusal, finalized_refusal, cut_refusal, if_unindexed};
+ghost use Rattle.po_core.specs.Refusals.{MayRefuse, issue_refusal, run_refusal, read_refusal, tick_refusal, finalized_refusal, cut_refusal, if_unindexed};
 ghost use Rattle.po_unit.specs.Numbering.{flat_number};
 ghost use Rattle.po_engine.specs.ObjectState.{counts_in};
 ghost use Rattle.po_core.specs.declared.refusal.Refusal.{Refusal};
 ghost use Rattle.po_receipts.specs.Passes.{PassView};
 ghost use Rattle.po_receipts.specs.Answers.{AskedBySeats};
-ghost use Rattle.po_receipts.specs.OneHistory.{IsWholeLog, Stands, HasEnded, IsTicked, IsReadAt, IsCountAt, IsAborted, IsCutOff, end_in};
-ghost use Rattle.po_object.specs.Filing.{IsFinished, asking, running};
+ghost use Rattle.po_receipts.specs.OneHistory.{IsWholeLog, Stands, HasEnded, IsTicked, IsReadAt, IsCountAt, IsAborted, IsCutOff, HoldsAt, end_in};
+ghost use Rattle.po_object.specs.Filing.{IsFinished, asking, running, seeing};
 ghost use Rattle.po_object.specs.Holds.{IsCounted};
 ghost use Rattle.po_object.specs.Stories.{IsStory};
-ghost use Rattle.po_object.specs.Refused.{IsOutOfMemory, IsFunctionRefusal};
+ghost use Rattle.po_object.specs.Refused.{IsOutOfMemory, IsTickRefusalOf};
 ghost use Rattle.po_object.specs.LatestCalls.{NoneIssued};
 
 use crate::front::{Front, Log, go_on};
@@ -142,11 +142,14 @@ impl<U: Unit + Drop, C: Story<U, U::Value>, P: Ledger, F: Ledger, Q: Receipts<U:
         ensures allowed { OnOk result (cut_refusal self.old.object ≡ None) }
         ensures refused { IfErr result (λ r.
             r ≡ unwrap_or (cut_refusal self.old.object) Refusal.OutOfMemory) }
-        ensures unchanged { OnErr result ((self.new ≡ self.old) × (front.new ≡ front.old)) }
+        // It is refused at a moment of that history.
+        ensures refused_at { IfErr result (λ r. IsFound (λ setup. HoldsAt U.meaning setup
+            (λ view. r ≡ unwrap_or (cut_refusal view) Refusal.OutOfMemory) front.old front.new) C.setup) }
+        ensures unchanged { OnErr result (self.new ≡ self.old) }
     {
         self.core.headline();
-        let volume = self.core.cut()?;
         self.log.show_to(front);
+        let volume = self.core.cut()?;
         Ok(volume)
     }
 }
@@ -244,11 +247,15 @@ impl<
         ensures shape { self.old.object.setup.shape ≡ C.shape }
         ensures allowed { OnOk result (issue_refusal self.old.object entry ≡ None) }
         ensures refused { IfErr result (λ r. IsOutOfMemory R.is_bounded r ⊎ (issue_refusal self.old.object entry ≡ Some r)) }
-        ensures unchanged { OnErr result ((self.new ≡ self.old) × (pass.new ≡ pass.old)) }
+        // It is refused at a moment of that history.
+        ensures refused_at { IfErr result (λ r. IsFound (λ setup. HoldsAt U.meaning setup
+            (λ view. IsOutOfMemory R.is_bounded r ⊎ (issue_refusal view entry ≡ Some r)) pass.old.seen pass.new.seen) C.setup) }
+        ensures unchanged { OnErr result ((self.new ≡ self.old) × (pass.new ≡ seeing pass.old pass.new.seen)) }
     {
+        self.core.headline();
+        self.log.show_to(&mut pass.front);
         let number = number_of(&self.core, entry);
         pass.receipts.make_room()?;
-        self.core.headline();
         self.reservations.audit(&mut pass.reservation);
         let idle = self.latest.is_idle(&self.core, pass.seat);
         let before = Snapshot::of(&self.core);
@@ -324,9 +331,13 @@ impl<
             (Event.Ran pass.old.seat op value reply) pass.old.seen pass.new.seen) C.setup) }
         ensures allowed { OnOk result (run_refusal U.meaning self.old.object op ≡ None) }
         ensures refused { IfErr result (λ r. IsOutOfMemory R.is_bounded r ⊎ (run_refusal U.meaning self.old.object op ≡ Some r)) }
-        ensures unchanged { OnErr result ((self.new ≡ self.old) × (pass.new ≡ pass.old)) }
+        // It is refused at a moment of that history.
+        ensures refused_at { IfErr result (λ r. IsFound (λ setup. HoldsAt U.meaning setup
+            (λ view. IsOutOfMemory R.is_bounded r ⊎ (run_refusal U.meaning view op ≡ Some r)) pass.old.seen pass.new.seen) C.setup) }
+        ensures unchanged { OnErr result ((self.new ≡ self.old) × (pass.new ≡ seeing pass.old pass.new.seen)) }
     {
         self.core.headline();
+        self.log.show_to(&mut pass.front);
         pass.receipts.make_room()?;
         let before = Snapshot::of(&self.core);
         let reply = self.core.run(pass.seat, op, value)?;
@@ -357,9 +368,14 @@ impl<
         ensures kind { is_some self.old.capacity ≡ R.is_bounded }
         // The tick stands in the history of the object, behind all that was seen before.
         ensures ticked { IfOk result (λ clock. IsFound (λ setup. IsTicked U.meaning setup t clock front.old front.new) C.setup) }
-        ensures unchanged { OnErr result ((self.new ≡ self.old) × (front.new ≡ front.old)) }
+        // It is refused at a moment of that history.
+        ensures refused_at { IfErr result (λ r. IsFound (λ setup. HoldsAt U.meaning setup
+            (λ view. IsTickRefusalOf R.is_bounded view r) front.old front.new) C.setup) }
+        ensures unchanged { OnErr result (self.new ≡ self.old) }
     {
         self.core.recall_kind();
+        self.core.headline();
+        self.log.show_to(front);
         let before = Snapshot::of(&self.core);
         let clock = self.core.tick(t)?;
         self.core.headline();
@@ -383,8 +399,13 @@ impl<
             (λ r. finalized_refusal self.old.object ≡ Some r) }
         // The end stands in the history of the object, behind all that was seen before.
         ensures finalized { OnOk result (IsFound (λ setup. Stands U.meaning setup Event.Final front.old front.new) C.setup) }
-        ensures unchanged { OnErr result ((self.new ≡ self.old) × (front.new ≡ front.old)) }
+        // It is refused at a moment of that history.
+        ensures refused_at { IfErr result (λ r. IsFound (λ setup. HoldsAt U.meaning setup
+            (λ view. finalized_refusal view ≡ Some r) front.old front.new) C.setup) }
+        ensures unchanged { OnErr result (self.new ≡ self.old) }
     {
+        self.core.headline();
+        self.log.show_to(front);
         let before = Snapshot::of(&self.core);
         self.core.finalize()?;
         self.core.headline();
@@ -409,9 +430,13 @@ impl<
         ensures refused { IfErr result (λ r. (r ≡ Refusal.NoCall) × (find (is_of seat) self.old.object.state.waiting ≡ None)) }
         // It came to this at a moment of the history of the object, behind all that was seen before.
         ensures aborted { IfOk result (λ aborted. IsFound (λ setup. IsAborted U.meaning setup seat aborted front.old front.new) C.setup) }
-        ensures unchanged { OnErr result ((self.new ≡ self.old) × (front.new ≡ front.old)) }
+        // None of the seat's is queued at a moment of that history.
+        ensures refused_at { OnErr result (IsFound (λ setup. HoldsAt U.meaning setup
+            (λ view. find (is_of seat) view.state.waiting ≡ None) front.old front.new) C.setup) }
+        ensures unchanged { OnErr result (self.new ≡ self.old) }
     {
         self.core.headline();
+        self.log.show_to(front);
         let Some(ticket) = self.latest.waiting_of(&self.core, seat) else {
             return Err(Refusal::NoCall);
         };
@@ -422,36 +447,81 @@ impl<
         Ok(aborted)
     }
 
-    /// What a function gives (9.5.1), as `Core::read` says, and the history of the object up to now.
+    /// What a function gives (9.5.1), as `Core::read` does, and `None` if the front had seen more than the whole history, which
+    /// never happens. What it then sees is the history up to now.
     ///
     /// Refused as `NoSuchOperation` and `Finalized`.
     pub fn read(
         &self,
+        front: &mut Front<U::Value, C>,
         op: u16,
         value: U::Value,
-    ) -> Result<(Result<U::Value, u32>, Front<U::Value, C>), Refusal>
+    ) -> Option<Result<Result<U::Value, u32>, Refusal>>
         // It gives this where that history ends.
-        ensures read { IfOk result (λ r. IsFound (λ setup. IsReadAt U.meaning setup op value r.0 [] r.1) C.setup) }
-        ensures refused { IfErr result IsFunctionRefusal }
+        ensures read { IfSome result (λ r. IfOk r (λ reply. IsFound (λ setup.
+            IsReadAt U.meaning setup op value reply front.old front.new) C.setup)) }
+        ensures refused { IfSome result (λ r. MatchResult r
+            (λ _. read_refusal U.meaning self.now.object op ≡ None)
+            (λ why. read_refusal U.meaning self.now.object op ≡ Some why)) }
+        // It is refused at a moment of that history.
+        ensures refused_at { IfSome result (λ r. IfErr r (λ why. IsFound (λ setup. HoldsAt U.meaning setup
+            (λ view. read_refusal U.meaning view op ≡ Some why) front.old front.new) C.setup)) }
+        ensures ahead { IfNone result ((front.new ≡ front.old)
+            × (next_place self.now.object + 1 ≤ self.now.object.setup.first_place + length front.old)) }
     {
         self.core.headline();
-        let reply = read_now(&self.core, op, value)?;
-        Ok((reply, self.log.show()))
+        if !self.log.show_beside(front) {
+            return None;
+        }
+        Some(read_now(&self.core, op, value))
     }
 
-    /// How many calls are queued on an entry (9.9), as `Core::count` says, and the history of the object up to now.
+    /// As `read`, by one that has the object alone, and so can tell that the front hasn't seen more.
+    pub fn read_alone(
+        &mut self,
+        front: &mut Front<U::Value, C>,
+        op: u16,
+        value: U::Value,
+    ) -> Result<Result<U::Value, u32>, Refusal>
+        ensures read { IfOk result (λ reply. IsFound (λ setup.
+            IsReadAt U.meaning setup op value reply front.old front.new) C.setup) }
+        ensures refused { MatchResult result
+            (λ _. read_refusal U.meaning self.old.object op ≡ None)
+            (λ why. read_refusal U.meaning self.old.object op ≡ Some why) }
+        ensures refused_at { IfErr result (λ why. IsFound (λ setup. HoldsAt U.meaning setup
+            (λ view. read_refusal U.meaning view op ≡ Some why) front.old front.new) C.setup) }
+        ensures same { self.new ≡ self.old }
+    {
+        self.core.headline();
+        self.log.show_to(front);
+        read_now(&self.core, op, value)
+    }
+
+    /// How many calls are queued on an entry (9.9), as `Core::count` says, and `None` if the front had seen more than the
+    /// whole history, which never happens. What it then sees is the history up to now.
     ///
     /// Refused as `NoSuchEntry` and `BadIndex`.
-    pub fn count(&self, entry: EntryRef) -> Result<(u64, Front<U::Value, C>), Refusal>
+    pub fn count(
+        &self,
+        front: &mut Front<U::Value, C>,
+        entry: EntryRef,
+    ) -> Result<Option<u64>, Refusal>
         // So many are queued where that history ends.
-        ensures count { IfOk result (λ r. IsFound (λ setup. IsCountAt U.meaning setup (entry_of C.shape entry) r.0 [] r.1) C.setup) }
+        ensures count { IfOk result (λ count. IfSome count (λ n. IsFound (λ setup.
+            IsCountAt U.meaning setup (entry_of C.shape entry) n front.old front.new) C.setup)) }
         ensures refused { MatchResult result
             (λ _. if_unindexed (flat_number C.shape entry) None ≡ None)
             (λ r. if_unindexed (flat_number C.shape entry) None ≡ Some r) }
+        ensures ahead { IfOk result (λ count. IfNone count ((front.new ≡ front.old)
+            × (next_place self.now.object + 1 ≤ self.now.object.setup.first_place + length front.old))) }
+        ensures unchanged { OnErr result (front.new ≡ front.old) }
     {
         self.core.headline();
         let count = self.core.count(entry)?;
-        Ok((count, self.log.show()))
+        if !self.log.show_beside(front) {
+            return Ok(None);
+        }
+        Ok(Some(count))
     }
 
     /// The core, the parts of the ledgers that no pass holds, and the log.
@@ -498,7 +568,9 @@ fn read_now<U: Unit, R: Record<U>>(
     ensures reply { IfOk result (λ reply. reply ≡
         U.meaning.function core.now.object.state.unit op value (counts_in U.meaning core.now.object.state)) }
     ensures has { OnOk result (op < U.meaning.functions core.now.object.state.unit) }
-    ensures refused { IfErr result IsFunctionRefusal }
+    ensures refused { MatchResult result
+        (λ _. read_refusal U.meaning core.now.object op ≡ None)
+        (λ why. read_refusal U.meaning core.now.object op ≡ Some why) }
 {
     core.read(op, value)
 }

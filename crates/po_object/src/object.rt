@@ -1,17 +1,18 @@
 //! An object that threads share: its core behind a lock, and where the callers of its seats wait.
 
-ghost use Rattle.std.specs.Prelude.{◌≡◌, ◌+◌, ◌≤◌, List, [], None, Some, IfOk, IfErr, IfSome, OnOk, OnErr, IsSome};
+ghost use Rattle.std.specs.Prelude.{◌≡◌, ◌+◌, ◌≤◌, ◌⊎◌, List, [], None, Some, IfOk, IfErr, IfSome, OnOk, OnErr, IsSome, find, unwrap_or};
 ghost use Rattle.po_unit.specs.Numbering.{flat_number};
 ghost use Rattle.po_calls.specs.declared.call.Deadline.TheVariants.{Never, At};
 ghost use Rattle.po_history.specs.declared.event.Event.{Event};
 ghost use Rattle.po_engine.specs.Finding.{IsFound};
+ghost use Rattle.po_engine.specs.WaitingCalls.{is_of};
 ghost use Rattle.po_core.specs.Commands.{entry_of};
-ghost use Rattle.po_core.specs.Refusals.{entry_refusal, if_unindexed};
+ghost use Rattle.po_core.specs.Refusals.{entry_refusal, issue_refusal, run_refusal, read_refusal, finalized_refusal, cut_refusal, if_unindexed};
 ghost use Rattle.po_core.specs.declared.refusal.Refusal.{Refusal};
 ghost use Rattle.po_receipts.specs.Answers.{AskedBySeats};
-ghost use Rattle.po_receipts.specs.OneHistory.{Stands, HasEnded, IsAnswered, IsTicked, IsReadAt, IsCountAt, IsAborted, IsCutOff};
-ghost use Rattle.po_object.specs.Filing.{IsFinished, IsCalled, running};
-ghost use Rattle.po_object.specs.Refused.{IsCallRefusal, IsProcedureRefusal, IsFunctionRefusal, IsTickRefusal, IsCutRefusal};
+ghost use Rattle.po_receipts.specs.OneHistory.{Stands, HasEnded, IsAnswered, IsTicked, IsReadAt, IsCountAt, IsAborted, IsCutOff, HoldsAt};
+ghost use Rattle.po_object.specs.Filing.{IsFinished, IsCalled, running, seeing};
+ghost use Rattle.po_object.specs.Refused.{IsCallRefusal, IsProcedureRefusal, IsFunctionRefusal, IsOutOfMemory, IsTickRefusal, IsTickRefusalOf, IsCutRefusal};
 
 use crate::front::Front;
 use crate::ledgers::{SeatParts, Story};
@@ -119,7 +120,8 @@ impl<
         ensures cut_off { IfOk result (λ volume. IsFound (λ setup. IsCutOff U.meaning setup volume front.old front.new) C.setup) }
         ensures asked { IfOk result (λ volume. AskedBySeats self.now volume.events) }
         ensures refused { IfErr result IsCutRefusal }
-        ensures unchanged { OnErr result (front.new ≡ front.old) }
+        ensures refused_at { IfErr result (λ r. IsFound (λ setup. HoldsAt U.meaning setup
+            (λ view. r ≡ unwrap_or (cut_refusal view) Refusal.OutOfMemory) front.old front.new) C.setup) }
     {
         self.recall_parts();
         let mut taken = self.change(rt);
@@ -166,7 +168,9 @@ impl<
             pass.old.seat (entry_of C.shape entry) value Never end pass.old.seen pass.new.seen) C.setup) }
         ensures allowed { OnOk result (entry_refusal C.shape entry None ≡ None) }
         ensures refused { IfErr result (IsCallRefusal R.is_bounded C.shape entry) }
-        ensures unchanged { OnErr result (pass.new ≡ pass.old) }
+        ensures refused_at { IfErr result (λ r. IsFound (λ setup. HoldsAt U.meaning setup
+            (λ view. IsOutOfMemory R.is_bounded r ⊎ (issue_refusal view entry ≡ Some r)) pass.old.seen pass.new.seen) C.setup) }
+        ensures unchanged { OnErr result (pass.new ≡ seeing pass.old pass.new.seen) }
     {
         self.ask(rt, pass, entry, value, Deadline::Never)
     }
@@ -187,7 +191,9 @@ impl<
             pass.old.seat (entry_of C.shape entry) value (At 0) end pass.old.seen pass.new.seen) C.setup) }
         ensures allowed { OnOk result (entry_refusal C.shape entry None ≡ None) }
         ensures refused { IfErr result (IsCallRefusal R.is_bounded C.shape entry) }
-        ensures unchanged { OnErr result (pass.new ≡ pass.old) }
+        ensures refused_at { IfErr result (λ r. IsFound (λ setup. HoldsAt U.meaning setup
+            (λ view. IsOutOfMemory R.is_bounded r ⊎ (issue_refusal view entry ≡ Some r)) pass.old.seen pass.new.seen) C.setup) }
+        ensures unchanged { OnErr result (pass.new ≡ seeing pass.old pass.new.seen) }
     {
         self.ask(rt, pass, entry, value, Deadline::At(0))
     }
@@ -210,7 +216,9 @@ impl<
             pass.old.seat (entry_of C.shape entry) value (At deadline) end pass.old.seen pass.new.seen) C.setup) }
         ensures allowed { OnOk result (entry_refusal C.shape entry None ≡ None) }
         ensures refused { IfErr result (IsCallRefusal R.is_bounded C.shape entry) }
-        ensures unchanged { OnErr result (pass.new ≡ pass.old) }
+        ensures refused_at { IfErr result (λ r. IsFound (λ setup. HoldsAt U.meaning setup
+            (λ view. IsOutOfMemory R.is_bounded r ⊎ (issue_refusal view entry ≡ Some r)) pass.old.seen pass.new.seen) C.setup) }
+        ensures unchanged { OnErr result (pass.new ≡ seeing pass.old pass.new.seen) }
     {
         self.ask(rt, pass, entry, value, Deadline::At(deadline))
     }
@@ -230,7 +238,9 @@ impl<
         ensures ran { IfOk result (λ reply. IsFound (λ setup. Stands U.meaning setup
             (Event.Ran pass.old.seat op value reply) pass.old.seen pass.new.seen) C.setup) }
         ensures refused { IfErr result (IsProcedureRefusal R.is_bounded) }
-        ensures unchanged { OnErr result (pass.new ≡ pass.old) }
+        ensures refused_at { IfErr result (λ r. IsFound (λ setup. HoldsAt U.meaning setup
+            (λ view. IsOutOfMemory R.is_bounded r ⊎ (run_refusal U.meaning view op ≡ Some r)) pass.old.seen pass.new.seen) C.setup) }
+        ensures unchanged { OnErr result (pass.new ≡ seeing pass.old pass.new.seen) }
     {
         let mut taken = self.change(rt);
         let reply = taken.locked.run(pass, op, value)?;
@@ -252,24 +262,34 @@ impl<
         ensures read { IfOk result (λ reply. (log : List (Event U.Value))
             × IsFound (λ setup. IsReadAt U.meaning setup op value reply [] log) C.setup) }
         ensures refused { IfErr result IsFunctionRefusal }
+        ensures refused_at { IfErr result (λ r. (log : List (Event U.Value))
+            × IsFound (λ setup. HoldsAt U.meaning setup (λ view. read_refusal U.meaning view op ≡ Some r) [] log) C.setup) }
     {
-        let (reply, _front) = self.function_seen(rt, op, value)?;
-        Ok(reply)
+        let mut front = self.front();
+        self.function_after(rt, &mut front, op, value)
     }
 
-    /// As `function`, with the history up to the moment at which the function gives this.
+    /// As `function`, behind all that the front has seen. What it then sees is the history up to the moment of the reply.
     ///
     /// Refused as `Core::read` is.
-    pub fn function_seen<W: Wait>(
+    pub fn function_after<W: Wait>(
         &self,
         rt: &W,
+        front: &mut Front<U::Value, C>,
         op: u16,
         value: U::Value,
-    ) -> Result<(Result<U::Value, u32>, Front<U::Value, C>), Refusal>
-        ensures read { IfOk result (λ r. IsFound (λ setup. IsReadAt U.meaning setup op value r.0 [] r.1) C.setup) }
+    ) -> Result<Result<U::Value, u32>, Refusal>
+        ensures read { IfOk result (λ reply. IsFound (λ setup. IsReadAt U.meaning setup op value reply front.old front.new) C.setup) }
         ensures refused { IfErr result IsFunctionRefusal }
+        ensures refused_at { IfErr result (λ r. IsFound (λ setup. HoldsAt U.meaning setup
+            (λ view. read_refusal U.meaning view op ≡ Some r) front.old front.new) C.setup) }
     {
-        self.look(rt).locked.read(op, value)
+        let looked = self.look(rt);
+        if let Some(reply) = looked.locked.read(front, op, value) {
+            return reply;
+        }
+        drop(looked);
+        self.change(rt).locked.read_alone(front, op, value)
     }
 
     /// Raises the clock to t, if it is lower, and answers the clock.
@@ -297,7 +317,8 @@ impl<
         ensures raised { IfOk result (λ clock. t ≤ clock) }
         ensures ticked { IfOk result (λ clock. IsFound (λ setup. IsTicked U.meaning setup t clock front.old front.new) C.setup) }
         ensures refused { IfErr result (IsTickRefusal R.is_bounded) }
-        ensures unchanged { OnErr result (front.new ≡ front.old) }
+        ensures refused_at { IfErr result (λ r. IsFound (λ setup. HoldsAt U.meaning setup
+            (λ view. IsTickRefusalOf R.is_bounded view r) front.old front.new) C.setup) }
     {
         let mut taken = self.change(rt);
         let clock = taken.locked.tick(front, t)?;
@@ -329,7 +350,8 @@ impl<
     ) -> Result<(), Refusal>
         ensures finalized { OnOk result (IsFound (λ setup. Stands U.meaning setup Event.Final front.old front.new) C.setup) }
         ensures refused { IfErr result (λ r. r ≡ Refusal.Finalized) }
-        ensures unchanged { OnErr result (front.new ≡ front.old) }
+        ensures refused_at { IfErr result (λ r. IsFound (λ setup. HoldsAt U.meaning setup
+            (λ view. finalized_refusal view ≡ Some r) front.old front.new) C.setup) }
     {
         let mut taken = self.change(rt);
         taken.locked.finalize(front)?;
@@ -362,7 +384,8 @@ impl<
     ) -> Result<Aborted, Refusal>
         ensures aborted { IfOk result (λ aborted. IsFound (λ setup. IsAborted U.meaning setup seat aborted front.old front.new) C.setup) }
         ensures refused { IfErr result (λ r. r ≡ Refusal.NoCall) }
-        ensures unchanged { OnErr result (front.new ≡ front.old) }
+        ensures refused_at { OnErr result (IsFound (λ setup. HoldsAt U.meaning setup
+            (λ view. find (is_of seat) view.state.waiting ≡ None) front.old front.new) C.setup) }
     {
         let mut taken = self.change(rt);
         let aborted = taken.locked.abort_seat(front, seat)?;
@@ -382,26 +405,25 @@ impl<
         ensures allowed { IfOk result (λ count. IsSome count → if_unindexed (flat_number C.shape entry) None ≡ None) }
         ensures refused { IfErr result (λ r. if_unindexed (flat_number C.shape entry) None ≡ Some r) }
     {
-        match self.try_count_seen(entry)? {
-            Some((count, _front)) => Ok(Some(count)),
-            None => Ok(None),
-        }
+        let mut front = self.front();
+        self.try_count_after(&mut front, entry)
     }
 
-    /// As `try_count`, with the history up to the moment at which so many calls are queued.
+    /// As `try_count`, behind all that the front has seen. What it then sees is the history up to the moment of the count.
     ///
     /// Refused as `Core::count` is.
-    pub fn try_count_seen(
+    pub fn try_count_after(
         &self,
+        front: &mut Front<U::Value, C>,
         entry: EntryRef,
-    ) -> Result<Option<(u64, Front<U::Value, C>)>, Refusal>
-        ensures count { IfOk result (λ count. IfSome count (λ r. IsFound (λ setup.
-            IsCountAt U.meaning setup (entry_of C.shape entry) r.0 [] r.1) C.setup)) }
+    ) -> Result<Option<u64>, Refusal>
+        ensures count { IfOk result (λ count. IfSome count (λ n. IsFound (λ setup.
+            IsCountAt U.meaning setup (entry_of C.shape entry) n front.old front.new) C.setup)) }
         ensures allowed { IfOk result (λ count. IsSome count → if_unindexed (flat_number C.shape entry) None ≡ None) }
         ensures refused { IfErr result (λ r. if_unindexed (flat_number C.shape entry) None ≡ Some r) }
     {
         match self.try_look() {
-            Some(taken) => Ok(Some(taken.locked.count(entry)?)),
+            Some(taken) => taken.locked.count(front, entry),
             None => Ok(None),
         }
     }
@@ -463,7 +485,9 @@ impl<
             pass.old.seat (entry_of C.shape entry) value deadline end pass.old.seen pass.new.seen) C.setup) }
         ensures allowed { OnOk result (entry_refusal C.shape entry None ≡ None) }
         ensures refused { IfErr result (IsCallRefusal R.is_bounded C.shape entry) }
-        ensures unchanged { OnErr result (pass.new ≡ pass.old) }
+        ensures refused_at { IfErr result (λ r. IsFound (λ setup. HoldsAt U.meaning setup
+            (λ view. IsOutOfMemory R.is_bounded r ⊎ (issue_refusal view entry ≡ Some r)) pass.old.seen pass.new.seen) C.setup) }
+        ensures unchanged { OnErr result (pass.new ≡ seeing pass.old pass.new.seen) }
     {
         let mut taken = self.change(rt);
         taken.locked.begin(pass, entry, value, deadline)?;

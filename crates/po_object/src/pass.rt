@@ -1,8 +1,10 @@
 //! What a caller carries.
 
-ghost use Rattle.std.specs.Prelude.{◌≡◌, ◌<◌, ◌≤◌, ◌+◌, ◌↔◌, true, IsSome, []};
+ghost use Rattle.std.specs.Prelude.{◌≡◌, ◌<◌, ◌≤◌, ◌+◌, ◌⊎◌, ◌↔◌, true, IsSome, []};
+ghost use mathlib.Core.List.{IsPrefix};
 ghost use Rattle.po_receipts.specs.Passes.{PassView, IsTallied, fresh};
 ghost use Rattle.po_receipts.specs.Told.{IsTold, IsToldOf};
+ghost use Rattle.po_object.specs.Filing.{seeing};
 ghost use Rattle.po_object.specs.Reservations.{reserved};
 
 use crate::front::{Front, Log};
@@ -151,6 +153,16 @@ impl<V: Copy, C: CallLedger<V>, P: Ledger, F: Ledger, Q: Receipts<V>> Pass<V, C,
         ensures { result ≡ self.now.seen }
     {
         self.front.again()
+    }
+
+    /// Lets its caller see what another one has seen too: what it is told from now on stands behind that.
+    pub fn see(&mut self, front: &Front<V, C>)
+        ensures own { IsPrefix self.old.seen self.new.seen }
+        ensures other { IsPrefix front.now self.new.seen }
+        ensures alone { (self.new.seen ≡ self.old.seen) ⊎ (self.new.seen ≡ front.now) }
+        ensures same { self.new ≡ seeing self.old self.new.seen }
+    {
+        self.front.see(front);
     }
 
     /// There are as many receipts of calls as calls, but for one that is pending, and as many of procedures as procedures.

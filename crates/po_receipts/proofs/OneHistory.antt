@@ -23,7 +23,7 @@ use Rattle.po_core.specs.declared.aborted.Aborted.{Aborted}
 use Rattle.po_core.specs.declared.aborted.Aborted.TheVariants.{Cancelled, Kept}
 use Rattle.po_core.specs.Setup.{Setup}
 use Rattle.po_core.specs.Public.{AllPublic, NamesPublic}
-use Rattle.po_core.specs.View.{View}
+use Rattle.po_core.specs.View.{View, next_place}
 use Rattle.po_core.specs.Cutting.{AreVolumes, KeepsVolumes, cut, cut_off}
 use Rattle.po_core.specs.Headline.{Headline}
 use Rattle.po_core.specs.ProtectedAction.{IsProtectedAction, IsAbortOf, IsAbortOfCall, abort_answer, is_without_abort}
@@ -32,7 +32,7 @@ use Rattle.po_receipts.specs.declared.asked.Asked.{Asked}
 use Rattle.po_receipts.specs.Passes.{PassView}
 use Rattle.po_receipts.specs.Receipts.{answer_of}
 use Rattle.po_receipts.proofs.Told.{further}
-use Rattle.po_receipts.specs.OneHistory.{state_after, end_in, IsWholeHistory, Stands, HasEnded, IsAnswered, IsTicked, IsReadAt, IsCountAt, IsAborted, IsCutOff, attempted, IsAttempt, IsWholeLog}
+use Rattle.po_receipts.specs.OneHistory.{state_after, end_in, IsWholeHistory, Stands, HasEnded, IsAnswered, IsTicked, IsReadAt, IsCountAt, IsAborted, IsCutOff, HoldsAt, view_after, attempted, IsAttempt, IsWholeLog}
 
 -- volumes that run on end where their events do
 ends-at : {V : Type 0} (from : ℕ) (volumes : List (VolumeView V)) (to : ℕ) → RunOn from volumes to → to ≡ from + length (joined volumes)
@@ -72,6 +72,36 @@ module _ {S V : Type 0} (m : Meaning S V) where
   pub whole-cut : (old new : View S V) (log : List (Event V)) → new ≡ cut m old → ((volumes : List (VolumeView V)) → AreVolumes m old volumes → AreVolumes m new (volumes ++ cut_off old ∷ [])) → IsWholeLog m old log → IsWholeLog m new log
   whole-cut old new log is j w =
       (w.0 ++ cut_off old ∷ [], j w.0 w.1, w.2 ∙ sym (ap (λ (v : View S V). joined (w.0 ++ cut_off old ∷ []) ++ v.events) is ∙ (append-nil (joined (w.0 ++ cut_off old ∷ [])) ∙ joined-append w.0 (cut_off old))))
+
+  -- the log has the events before the next place
+  pub log-counted : (view : View S V) (log : List (Event V)) → IsWholeLog m view log → view.setup.first_place + length log ≡ next_place view
+  log-counted view log w =
+      let before = ends-at view.setup.first_place w.0 view.base.place w.1.run_on in
+      let both = length-append (joined w.0) view.events in
+      let all = ap (λ (l : List (Event V)). length l) w.2 in
+      omega (arith, before, both, all)
+
+  -- and so before a command, as the places after it say
+  pub placed-on : (old new before : View S V) (log here : List (Event V)) → before ≡ old → here ≡ log → KeepsVolumes m old new → IsWholeLog m old log → IsPrefix old.events new.events
+      → length here + new.setup.first_place + length new.events ≡ next_place new + length before.events
+  placed-on old new before log here was same k w p =
+      let counted = log-counted new (log ++ p.0) (whole-on old new log p.0 k w p.1) in
+      let longer = length-append log p.0 in
+      let grown : length old.events + length p.0 ≡ length new.events = sym (length-append old.events p.0) ∙ ap (λ (l : List (Event V)). length l) p.1 in
+      let now : length here ≡ length log = ap (λ (l : List (Event V)). length l) same in
+      let first : length before.events ≡ length old.events = ap (λ (v : View S V). length v.events) was in
+      omega (arith, counted, longer, grown, now, first)
+
+  -- what holds of the object after its whole log holds at a moment of its history
+  pub held-on : (made : Option (Setup S)) (view : View S V) (holds : View S V → Type 0) (seen log after : List (Event V)) → made ≡ Some view.setup → Headline m view → IsWholeLog m view log
+      → IsPrefix seen log → after ≡ log → holds (view_after m view.setup log) → IsFound (λ setup. HoldsAt m setup holds seen after) made
+  held-on made view holds seen log after is h w later all held =
+      subst (λ (l : List (Event V)). IsFound (λ setup. HoldsAt m setup holds seen l) made) (sym all)
+      (subst (IsFound (λ setup. HoldsAt m setup holds seen log)) (sym is) (record {
+        later = later;
+        history = whole-history view log h w;
+        held = held;
+      }))
 
   -- what is cut off is the last part of the log
   pub cut-on : (made : Option (Setup S)) (old : View S V) (volume : VolumeView V) (seen log after : List (Event V)) → made ≡ Some old.setup → Headline m old → IsWholeLog m old log

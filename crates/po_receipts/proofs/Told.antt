@@ -39,6 +39,11 @@ module _ {V : Type 0} (seat : ℕ) (end_of : List (Event V) → ℕ → Option (
   longer [] before here after told p = prefix_trans before here after told p
   longer (receipt ∷ receipts) before here after told p = (told.0, (told.1.0, longer receipts told.0 here after told.1.1 p))
 
+  -- what a pass was told goes on being so as its caller sees more
+  pub told-later : (pending : Option (Asked V)) (receipts : List (Receipt V)) (seen after : List (Event V)) → Told pending receipts seen → IsPrefix seen after → Told pending receipts after
+  told-later None receipts seen after told p = (told.0, (told.1.0, prefix_trans told.0 seen after told.1.1 p))
+  told-later (Some asked) receipts seen after told p = (told.0, (told.1.0, further (Issue asked.ticket.number seat asked.entry asked.value asked.deadline) told.0 seen after told.1.1 p))
+
   pub told-first : Told None [] []
   told-first = ([], (prefix_refl [], prefix_refl []))
 

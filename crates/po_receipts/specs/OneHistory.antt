@@ -15,7 +15,7 @@ use Rattle.po_core.specs.declared.aborted.Aborted.{Aborted}
 use Rattle.po_core.specs.declared.aborted.Aborted.TheVariants.{Cancelled, Kept}
 use Rattle.po_core.specs.Setup.{Setup}
 use Rattle.po_core.specs.Public.{AllPublic}
-use Rattle.po_core.specs.View.{View}
+use Rattle.po_core.specs.View.{View, opening_view}
 use Rattle.po_core.specs.Cutting.{AreVolumes}
 use Rattle.po_engine.specs.ObjectState.{ObjectState, opening_state, counts_in, IsAtRest}
 use Rattle.po_engine.specs.Step.{replay, IsLegal}
@@ -37,6 +37,10 @@ module _ {S V : Type 0} (m : Meaning S V) (setup : Setup S) where
   -- the state to which these events lead from the opening of the object
   abbrev pub state_after : List (Event V) → ObjectState S V
   state_after log = replay m setup.max_queue (opening_state setup.opening setup.first_number) log
+
+  -- what contracts see of the object after these events, with all of its history
+  abbrev pub view_after : List (Event V) → View S V
+  view_after log = record (opening_view setup) { events = log; state = state_after log }
 
   -- The events are a whole history of the object, from its opening up to a moment at which no protected action is underway:
   -- serial protected actions of one thread (9.5.1).
@@ -71,6 +75,12 @@ module _ {S V : Type 0} (m : Meaning S V) (setup : Setup S) where
   pub record IsTicked (t clock : ℕ) (before after : List (Event V)) : Type 0 where
     pub ticked : Stands (Tick t) before after
     pub clock_is : clock ≡ (state_after after).clock
+
+  -- The history is seen further, to a moment at which this holds of the object.
+  pub record HoldsAt (holds : View S V → Type 0) (before after : List (Event V)) : Type 0 where
+    pub later : IsPrefix before after
+    pub history : IsWholeHistory after
+    pub held : holds (view_after after)
 
   -- The history is seen further, to a moment at which the function gives this (9.5.1).
   pub record IsReadAt (op : ℕ) (value : V) (reply : Result V ℕ) (before after : List (Event V)) : Type 0 where

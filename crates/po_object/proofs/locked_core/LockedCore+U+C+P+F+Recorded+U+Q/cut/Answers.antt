@@ -1,4 +1,4 @@
-use Rattle.std.proofs.Common.{length, ap, ◌∙◌, sym, subst, Some, ◌++◌, ◌∷◌, []}
+use Rattle.std.proofs.Common.{length, ap, ◌∙◌, sym, subst, Some, ◌++◌, ◌∷◌, [], rules}
 use Rattle.po_core.specs.Cutting.{AreVolumes}
 use Rattle.po_receipts.proofs.OneHistory.{whole-cut, cut-on}
 use Rattle.po_receipts.specs.Answers.{AskedBySeats}
@@ -7,6 +7,7 @@ use Rattle.po_object.proofs.Asking.{asked-since, asked-of}
 use Rattle.po_object.proofs.Counting.{counted-cut}
 use Rattle.po_object.proofs.LatestKept.{known-same}
 use Rattle.po_object.proofs.Rooms.{room-same}
+use Rattle.po_object.proofs.Refusing.{cut-refused}
 use Rattle.po_object.proofs.locked_core.LockedCore+U+C+P+F+Recorded+U+Q.cut.Goals as goal
 
 pub invariant_of-self-2 : goal.invariant_of-self-2
@@ -42,3 +43,8 @@ returns-clause-asked g c =
 pub returns-clause-cut_off : goal.returns-clause-cut_off
 returns-clause-cut_off g c =
     cut-on g.U.Unit.meaning _ c.self.inside.core.object c.in_ok-volume.volume _ c.self.inside.log _ c.self.invariant.made c.headline.ensures.headline c.self.invariant.log c.show_to.ensures.later c.show_to.ensures.all c.in_ok-volume.ensures.volume
+
+pub returns-in_err-volume-clause-refused_at : goal.returns-in_err-volume-clause-refused_at
+returns-in_err-volume-clause-refused_at g c =
+    let held = cut-refused g.U.Unit.meaning _ c.self.inside.core.object _ c.self.inside.log _ c.self.invariant.made c.headline.ensures.headline c.self.invariant.log c.show_to.ensures.later c.show_to.ensures.all c.in_err-volume.field-0.0 c.in_err-volume.ensures.refused in
+    search (rules, held)

@@ -1,10 +1,13 @@
-use Rattle.std.proofs.Common.{ap, ◌∙◌, ◌≡◌, ◌++◌, Some, sym, subst}
+use Rattle.std.proofs.Common.{ap, ◌∙◌, ◌≡◌, ◌++◌, Some, sym, subst, rules}
 use Rattle.po_receipts.specs.OneHistory.{IsWholeLog, end_in}
 use Rattle.po_receipts.proofs.OneHistory.{whole-on, found-on}
 use Rattle.po_object.proofs.Asking.{asked-on, asked-action}
 use Rattle.po_object.proofs.Counting.{counted-final}
 use Rattle.po_object.proofs.LatestKept.{known-action}
 use Rattle.po_object.proofs.Rooms.{room-same}
+use mathlib.Core.List.{IsPrefix}
+use Rattle.po_receipts.proofs.OneHistory.{placed-on}
+use Rattle.po_object.proofs.Refusing.{final-refused}
 use Rattle.po_object.proofs.locked_core.LockedCore.finalize.Goals as goal
 
 pub invariant_of-self-2 : goal.invariant_of-self-2
@@ -14,6 +17,7 @@ invariant_of-self-2 g c =
     let k = c.in_ok-finalize.ensures in
     let f = c.go_on.ensures in
     let goes : old.object.events ++ f.followed.0 ≡ new.object.events = ap (λ core. core.object.events ++ f.followed.0) (sym c.of-before.ensures) ∙ f.followed.1 in
+    let went : c.go_on.new.log ≡ c.self.inside.log ++ f.followed.0 = f.followed.2 ∙ ap (λ log. log ++ f.followed.0) c.show_to.ensures.same in
     record {
       counted = counted-final g.U.Unit.meaning _ _ _ _ k.action c.self.invariant.counted;
       parts = c.self.invariant.parts;
@@ -23,10 +27,21 @@ invariant_of-self-2 g c =
       bounded = c.self.invariant.bounded;
       room = room-same old new c.self.inside.reservations (ap (λ core. core.tickets) k.after) (ap (λ core. core.capacity) k.after) c.self.invariant.room;
       seats = c.self.invariant.seats;
-      asked = asked-on g.U.Unit.meaning _ old.object new.object c.self.inside.log f.followed.0 _ c.self.invariant.log (asked-action g.U.Unit.meaning _ _ _ _ k.action tt) goes f.followed.2 c.self.invariant.asked;
+      asked = asked-on g.U.Unit.meaning _ old.object new.object c.self.inside.log f.followed.0 _ c.self.invariant.log (asked-action g.U.Unit.meaning _ _ _ _ k.action tt) goes went c.self.invariant.asked;
       made = c.self.invariant.made ∙ sym (ap Some k.action.setup);
       ends = c.self.invariant.ends ∙ sym (ap (end_in g.U.Unit.meaning) k.action.setup);
-      log = subst (IsWholeLog g.U.Unit.meaning new.object) (sym f.followed.2) (whole-on g.U.Unit.meaning old.object new.object c.self.inside.log f.followed.0 k.volumes c.self.invariant.log goes);
+      log = subst (IsWholeLog g.U.Unit.meaning new.object) (sym went) (whole-on g.U.Unit.meaning old.object new.object c.self.inside.log f.followed.0 k.volumes c.self.invariant.log goes);
+    }
+
+pub go_on-requires : goal.go_on-requires
+go_on-requires g c =
+    let old = c.self.inside.core in
+    let new = c.finalize.new.self in
+    let k = c.in_ok-finalize.ensures in
+    let goes : IsPrefix old.object.events new.object.events = (_, sym k.action.events) in
+    record {
+      goes_on = subst (λ core. IsPrefix core.object.events new.object.events) (sym c.of-before.ensures) goes;
+      placed = placed-on g.U.Unit.meaning old.object new.object _ c.self.inside.log _ (ap (λ core. core.object) c.of-before.ensures) c.show_to.ensures.same k.volumes c.self.invariant.log goes;
     }
 
 pub returns-clause-finalized : goal.returns-clause-finalized
@@ -36,4 +51,10 @@ returns-clause-finalized g c =
     let k = c.in_ok-finalize.ensures in
     let f = c.go_on.ensures in
     let goes : old.object.events ++ f.followed.0 ≡ new.object.events = ap (λ core. core.object.events ++ f.followed.0) (sym c.of-before.ensures) ∙ f.followed.1 in
-    found-on g.U.Unit.meaning _ old.object new.object _ _ c.self.inside.log f.followed.0 _ c.self.invariant.made k.action c.headline.ensures.headline k.volumes c.self.invariant.log f.later goes (f.all ∙ f.followed.2)
+    let went : c.go_on.new.log ≡ c.self.inside.log ++ f.followed.0 = f.followed.2 ∙ ap (λ log. log ++ f.followed.0) c.show_to.ensures.same in
+    found-on g.U.Unit.meaning _ old.object new.object _ _ c.self.inside.log f.followed.0 _ c.self.invariant.made k.action c.headline-2.ensures.headline k.volumes c.self.invariant.log c.show_to.ensures.later goes (f.all ∙ went)
+
+pub returns-in_err-finalize-clause-refused_at : goal.returns-in_err-finalize-clause-refused_at
+returns-in_err-finalize-clause-refused_at g c =
+    let held = final-refused g.U.Unit.meaning _ c.self.inside.core.object _ c.self.inside.log _ c.self.invariant.made c.headline.ensures.headline c.self.invariant.log c.show_to.ensures.later c.show_to.ensures.all c.in_err-finalize.field-0.0 c.in_err-finalize.ensures.refused in
+    search (rules, held)

@@ -1,4 +1,4 @@
-use Rattle.std.proofs.Common.{rules, sym, ◌≡◌, ◌⊎◌, Some, ◌∙◌, ap, ◌+◌, arith, ◌++◌, ◌∷◌, [], subst}
+use Rattle.std.proofs.Common.{rules, sym, ◌≡◌, ◌⊎◌, inl, Some, ◌∙◌, ap, ◌+◌, arith, ◌++◌, ◌∷◌, [], subst}
 use Rattle.po_core.specs.Refusals.{run_refusal}
 use Rattle.po_receipts.specs.OneHistory.{IsWholeLog, end_in}
 use Rattle.po_receipts.proofs.OneHistory.{whole-on, found-on}
@@ -12,6 +12,9 @@ use Rattle.std.proofs.lemmas.Grind.{common_steps}
 use Rattle.po_receipts.specs.declared.receipt.Receipt.TheVariants.{Ran}
 use Rattle.po_receipts.proofs.OneHistory.{stands-on}
 use Rattle.po_receipts.proofs.Told.{Told, told-ran}
+use mathlib.Core.List.{IsPrefix}
+use Rattle.po_receipts.proofs.OneHistory.{placed-on}
+use Rattle.po_object.proofs.Refusing.{run-refused}
 use Rattle.po_object.proofs.locked_core.LockedCore.run.Goals as goal
 
 pub invariant_of-self-2 : goal.invariant_of-self-2
@@ -21,6 +24,7 @@ invariant_of-self-2 g c =
     let k = c.in_ok-reply.ensures in
     let f = c.go_on.ensures in
     let goes : old.object.events ++ f.followed.0 ≡ new.object.events = ap (λ core. core.object.events ++ f.followed.0) (sym c.of-before.ensures) ∙ f.followed.1 in
+    let went : c.go_on.new.log ≡ c.self.inside.log ++ f.followed.0 = f.followed.2 ∙ ap (λ log. log ++ f.followed.0) c.show_to.ensures.same in
     record {
       counted = counted-ran g.U.Unit.meaning _ _ _ _ _ _ _ _ _ k.action (c.add.ensures.total ∙ ap (λ n. n + 1) c.audit.ensures.total) c.self.invariant.counted;
       parts = c.self.invariant.parts;
@@ -30,10 +34,10 @@ invariant_of-self-2 g c =
       bounded = c.self.invariant.bounded;
       room = room-same old new c.self.inside.reservations (ap (λ core. core.tickets) k.after) (ap (λ core. core.capacity) k.after) c.self.invariant.room;
       seats = c.self.invariant.seats;
-      asked = asked-on g.U.Unit.meaning _ old.object new.object c.self.inside.log f.followed.0 _ c.self.invariant.log (asked-action g.U.Unit.meaning _ _ _ _ k.action (omega (arith, c.pass.invariant.seat, c.self.invariant.seats))) goes f.followed.2 c.self.invariant.asked;
+      asked = asked-on g.U.Unit.meaning _ old.object new.object c.self.inside.log f.followed.0 _ c.self.invariant.log (asked-action g.U.Unit.meaning _ _ _ _ k.action (omega (arith, c.pass.invariant.seat, c.self.invariant.seats))) goes went c.self.invariant.asked;
       made = c.self.invariant.made ∙ sym (ap Some k.action.setup);
       ends = c.self.invariant.ends ∙ sym (ap (end_in g.U.Unit.meaning) k.action.setup);
-      log = subst (IsWholeLog g.U.Unit.meaning new.object) (sym f.followed.2) (whole-on g.U.Unit.meaning old.object new.object c.self.inside.log f.followed.0 k.volumes c.self.invariant.log goes);
+      log = subst (IsWholeLog g.U.Unit.meaning new.object) (sym went) (whole-on g.U.Unit.meaning old.object new.object c.self.inside.log f.followed.0 k.volumes c.self.invariant.log goes);
     }
 
 pub returns-in_err-make_room-clause-refused : goal.returns-in_err-make_room-clause-refused
@@ -47,6 +51,17 @@ returns-in_err-reply-clause-refused g c =
     rw (← c.self.view_is) (refused-either c.self.inside.core c.self.inside.reservations g.Q.Receipts.is_bounded g.R.Record.is_bounded c.self.invariant.bounded.0 c.self.invariant.bounded.1 c.self.invariant.room _ _ c.in_err-reply.ensures.refused) in
     search (rules, either)
 
+pub go_on-requires : goal.go_on-requires
+go_on-requires g c =
+    let old = c.self.inside.core in
+    let new = c.run.new.self in
+    let k = c.in_ok-reply.ensures in
+    let goes : IsPrefix old.object.events new.object.events = (_, sym k.action.events) in
+    record {
+      goes_on = subst (λ core. IsPrefix core.object.events new.object.events) (sym c.of-before.ensures) goes;
+      placed = placed-on g.U.Unit.meaning old.object new.object _ c.self.inside.log _ (ap (λ core. core.object) c.of-before.ensures) c.show_to.ensures.same k.volumes c.self.invariant.log goes;
+    }
+
 pub returns-clause-ran : goal.returns-clause-ran
 returns-clause-ran g c =
     let old = c.self.inside.core in
@@ -54,7 +69,8 @@ returns-clause-ran g c =
     let k = c.in_ok-reply.ensures in
     let f = c.go_on.ensures in
     let goes : old.object.events ++ f.followed.0 ≡ new.object.events = ap (λ core. core.object.events ++ f.followed.0) (sym c.of-before.ensures) ∙ f.followed.1 in
-    rw (← c.pass.view_is) (found-on g.U.Unit.meaning _ old.object new.object _ _ c.self.inside.log f.followed.0 _ c.self.invariant.made k.action c.headline-2.ensures.headline k.volumes c.self.invariant.log f.later goes (f.all ∙ f.followed.2))
+    let went : c.go_on.new.log ≡ c.self.inside.log ++ f.followed.0 = f.followed.2 ∙ ap (λ log. log ++ f.followed.0) c.show_to.ensures.same in
+    rw (← c.pass.view_is) (found-on g.U.Unit.meaning _ old.object new.object _ _ c.self.inside.log f.followed.0 _ c.self.invariant.made k.action c.headline-2.ensures.headline k.volumes c.self.invariant.log c.show_to.ensures.later goes (f.all ∙ went))
 
 pub invariant_of-pass-2 : goal.invariant_of-pass-2
 invariant_of-pass-2 g c =
@@ -64,7 +80,8 @@ invariant_of-pass-2 g c =
     let k = c.in_ok-reply.ensures in
     let f = c.go_on.ensures in
     let goes : old.object.events ++ f.followed.0 ≡ new.object.events = ap (λ core. core.object.events ++ f.followed.0) (sym c.of-before.ensures) ∙ f.followed.1 in
-    let stands = stands-on m old.object new.object _ _ c.self.inside.log f.followed.0 _ k.action c.headline-2.ensures.headline k.volumes c.self.invariant.log f.later goes (f.all ∙ f.followed.2) in
+    let went : c.go_on.new.log ≡ c.self.inside.log ++ f.followed.0 = f.followed.2 ∙ ap (λ log. log ++ f.followed.0) c.show_to.ensures.same in
+    let stands = stands-on m old.object new.object _ _ c.self.inside.log f.followed.0 _ k.action c.headline-2.ensures.headline k.volumes c.self.invariant.log c.show_to.ensures.later goes (f.all ∙ went) in
     let none = ap (λ p. p.pending) c.pass.view_is ∙ c.requires in
     let told = told-ran c.pass.inside.seat g.C.CallLedger.end_of c.pass.inside.pending (g.Q.Receipts.items c.pass.inside.receipts) c.args.op c.args.value c.in_ok-reply.reply c.pass.inside.front c.go_on.new.front none c.pass.invariant.told stands.happens in
     let filed : g.Q.Receipts.items c.file.new.self ≡ g.Q.Receipts.items c.pass.inside.receipts ++ Ran c.args.op c.args.value c.in_ok-reply.reply ∷ [] = c.file.ensures ∙ ap (λ receipts. receipts ++ Ran c.args.op c.args.value c.in_ok-reply.reply ∷ []) c.make_room.ensures.same in
@@ -77,3 +94,15 @@ invariant_of-pass-2 g c =
       reservation = search rules;
       seat = c.pass.invariant.seat;
     }
+
+pub returns-in_err-make_room-clause-refused_at : goal.returns-in_err-make_room-clause-refused_at
+returns-in_err-make_room-clause-refused_at g c =
+    let none = out-of-memory g.R.Record.is_bounded (sym c.self.invariant.bounded.1 ∙ c.in_err-make_room.ensures.refused) in
+    let held = run-refused g.U.Unit.meaning _ c.self.inside.core.object _ c.self.inside.log _ c.self.invariant.made c.headline.ensures.headline c.self.invariant.log c.show_to.ensures.later c.show_to.ensures.all g.R.Record.is_bounded c.args.op _ (inl none) in
+    rw (← c.pass.view_is) (search (rules, held))
+
+pub returns-in_err-reply-clause-refused_at : goal.returns-in_err-reply-clause-refused_at
+returns-in_err-reply-clause-refused_at g c =
+    let either = refused-either c.self.inside.core c.self.inside.reservations g.Q.Receipts.is_bounded g.R.Record.is_bounded c.self.invariant.bounded.0 c.self.invariant.bounded.1 c.self.invariant.room _ _ c.in_err-reply.ensures.refused in
+    let held = run-refused g.U.Unit.meaning _ c.self.inside.core.object _ c.self.inside.log _ c.self.invariant.made c.headline.ensures.headline c.self.invariant.log c.show_to.ensures.later c.show_to.ensures.all g.R.Record.is_bounded c.args.op _ either in
+    rw (← c.pass.view_is) (search (rules, held))
