@@ -26,6 +26,7 @@ use Rattle.po_history.specs.Histories.{VolumeView, joined}
 use Rattle.po_engine.proofs.Lists.{found_on}
 use Rattle.po_core.proofs.Runs.{replay-append, legal-append}
 use Rattle.po_engine.proofs.Absent.{All-without}
+use Rattle.po_receipts.proofs.OneHistory.{whole-history}
 use Rattle.po_laws.specs.Completed.{values_of, opening}
 use Rattle.po_laws.specs.Gathered.{issued}
 
@@ -37,24 +38,12 @@ module _ {S V : Type 0} (m : Meaning S V) where
   -- it is legal from the opening on
   pub whole_legal : (view : View S V) (volumes : List (VolumeView V)) → AreVolumes m view volumes → Headline m view
       → IsLegal m view.setup.max_queue (opening view.setup) (whole view volumes)
-  whole_legal view volumes are headline =
-      let limit = view.setup.max_queue in
-      legal-append m limit (opening view.setup) (joined volumes) view.events are.leads.legal
-      (subst (λ s. IsLegal m limit s view.events) (sym are.leads.to_there) headline.sound.replays.legal)
-
-  -- leads to the present state
-  pub whole_leads : (view : View S V) (volumes : List (VolumeView V)) → AreVolumes m view volumes → Headline m view
-      → replay m view.setup.max_queue (opening view.setup) (whole view volumes) ≡ view.state
-  whole_leads view volumes are headline =
-      let limit = view.setup.max_queue in
-      replay-append m limit (opening view.setup) (joined volumes) view.events
-      ∙ (ap (λ s. replay m limit s view.events) are.leads.to_there ∙ headline.sound.replays.leads)
+  whole_legal view volumes are headline = (whole-history m view (whole view volumes) headline (volumes, are, refl)).legal
 
   -- and ends at rest
   pub whole_rests : (view : View S V) (volumes : List (VolumeView V)) → AreVolumes m view volumes → Headline m view
       → IsAtRest m (replay m view.setup.max_queue (opening view.setup) (whole view volumes))
-  whole_rests view volumes are headline =
-      subst (IsAtRest m) (sym (whole_leads view volumes are headline)) headline.rest
+  whole_rests view volumes are headline = (whole-history m view (whole view volumes) headline (volumes, are, refl)).rest
 
   -- the first events of a legal history are one
   pub legal_front : (limit : Option ℕ) (s : ObjectState S V) (early late : List (Event V))

@@ -9,7 +9,7 @@ use Rattle.po_core.specs.View.{View}
 use Rattle.po_core.specs.ProtectedAction.{IsProtectedAction, IsAbortOfCall, without_event}
 use Rattle.po_core.specs.Cutting.{cut}
 use Rattle.po_core.proofs.Counting.{action-next, action-ran}
-use Rattle.po_object.specs.Holds.{IsCounted}
+use Rattle.po_object.specs.Counted.{IsCounted}
 
 module _ {S V : Type 0} (m : Meaning S V) where
   pub counted-issue : (old new : View S V) (n owner e : ℕ) (v : V) (d : Deadline) (calls more procedures : ℕ) → IsProtectedAction m old new (Issue n owner e v d) → more ≡ calls + 1 → IsCounted old calls procedures → IsCounted new more procedures

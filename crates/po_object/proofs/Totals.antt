@@ -12,7 +12,7 @@ use Rattle.po_receipts.specs.Told.{IsToldOf}
 use Rattle.po_receipts.proofs.Closing.{receipts-due}
 use Rattle.po_receipts.specs.Passes.{PassView}
 use Rattle.po_core.specs.Tickets.{CoreView}
-use Rattle.po_object.specs.Holds.{IsCounted}
+use Rattle.po_object.specs.Counted.{IsCounted}
 use Rattle.po_object.specs.Seats.{is_at, OneEach, ArePlaced}
 use Rattle.po_receipts.specs.Answers.{HasClosingTotals, AskedBySeats}
 use Rattle.po_object.specs.Closing.{IsClosed}

@@ -1,7 +1,7 @@
 pub mod Closing
+pub mod Counted
 pub mod Faults
 pub mod Filing
-pub mod Holds
 pub mod LatestCalls
 pub mod Refused
 pub mod Reservations

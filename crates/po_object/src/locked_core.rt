@@ -20,7 +20,7 @@ ghost use Rattle.po_receipts.specs.Passes.{PassView};
 ghost use Rattle.po_receipts.specs.Answers.{AskedBySeats};
 ghost use Rattle.po_receipts.specs.OneHistory.{IsWholeLog, Stands, HasEnded, IsTicked, IsReadAt, IsCountAt, IsAborted, IsCutOff, HoldsAt, end_in};
 ghost use Rattle.po_object.specs.Filing.{IsFinished, asking, running, seeing};
-ghost use Rattle.po_object.specs.Holds.{IsCounted};
+ghost use Rattle.po_object.specs.Counted.{IsCounted};
 ghost use Rattle.po_object.specs.Stories.{IsStory};
 ghost use Rattle.po_object.specs.Refused.{IsOutOfMemory, IsTickRefusalOf};
 ghost use Rattle.po_object.specs.LatestCalls.{NoneIssued};
@@ -90,7 +90,7 @@ impl<
     ghost use Rattle.std.specs.Prelude.{◌≡◌, ◌+◌, is_some, length, Some};
     ghost use Rattle.po_core.specs.Tickets.{CoreView};
     ghost use Rattle.po_receipts.specs.Answers.{AskedBySeats};
-    ghost use Rattle.po_object.specs.Holds.{IsCounted};
+    ghost use Rattle.po_object.specs.Counted.{IsCounted};
     ghost use Rattle.po_object.specs.LatestCalls.{KnowsLatest};
     ghost use Rattle.po_object.specs.Reservations.{HasRoomFor};
     ghost use Rattle.po_receipts.specs.OneHistory.{IsWholeLog, end_in};

@@ -6,7 +6,7 @@ use Rattle.std.specs.Prelude.{nat_lt, is_some}
 use Rattle.std.proofs.lemmas.Bool.{ltb-true}
 use Rattle.std.proofs.lemmas.Bool.Decides.{nat_tests}
 use Rattle.std.proofs.lemmas.List.{take_more, take_all}
-use Rattle.std.proofs.lemmas.List.Elements.{All-nil, All-cons, All-head, All-tail, All-append}
+use Rattle.std.proofs.lemmas.List.Elements.{All-nil, All-cons, All-head, All-tail}
 use Rattle.std.proofs.lemmas.List.Sums.{sum_by-append, sum_by-cons, length-filter}
 use Rattle.std.proofs.lemmas.Option.{slice_get-get_or}
 use Rattle.po_unit.specs.Meaning.{Meaning}
@@ -17,12 +17,9 @@ use Rattle.po_engine.specs.declared.ended.Ended.{Ended}
 use Rattle.po_core.specs.Base.{is_issue, is_ran}
 use Rattle.po_core.specs.View.{View}
 use Rattle.po_engine.specs.ObjectState.{ObjectState, opening_state}
-use Rattle.po_engine.specs.Step.{replay, IsLegal}
-use Rattle.po_core.specs.Public.{NamesPublic}
 use Rattle.po_core.specs.Tickets.{CoreView}
 use Rattle.po_core.specs.Cutting.{AreVolumes, Leads}
 use Rattle.po_core.specs.Headline.{Headline}
-use Rattle.po_core.proofs.Runs.{replay-append, legal-append}
 use Rattle.po_core.proofs.Counting.{replay-next}
 use Rattle.po_receipts.specs.declared.asked.Asked.{Asked}
 use Rattle.po_receipts.specs.declared.receipt.Receipt.{Receipt}
@@ -31,6 +28,8 @@ use Rattle.po_receipts.specs.Passes.{PassView, fresh, IsTallied, is_call, is_pro
 use Rattle.po_receipts.specs.Receipts.{is_asked_by}
 use Rattle.po_receipts.specs.Agreement.{AllAgree, history_of}
 use Rattle.po_receipts.specs.Answers.{asker_of, AskedBySeats, HasNoOthers, NonePending, HasClosingTotals}
+use Rattle.po_receipts.specs.OneHistory.{IsWholeLog}
+use Rattle.po_receipts.proofs.OneHistory.{whole-history, whole-leads}
 use Rattle.po_receipts.proofs.OwnAnswers.{as_many}
 
 -- what a test counts
@@ -285,15 +284,9 @@ module _ {S V : Type 0} (m : Meaning S V) (core : CoreView S V) (passes : List (
   pub whole_leads : AreVolumes m core.object volumes → Headline m core.object
       → Leads m core.object.setup (history_of core volumes) start core.object.state
   whole_leads are headline =
-      let view = core.object in
-      let limit = view.setup.max_queue in
-      let replays = headline.sound.replays in
-      let there = are.leads.to_there in
-      record {
-        legal = legal-append m limit start (joined volumes) view.events are.leads.legal (subst (λ s. IsLegal m limit s view.events) (sym there) replays.legal);
-        to_there = replay-append m limit start (joined volumes) view.events ∙ (ap (λ s. replay m limit s view.events) there ∙ replays.leads);
-        public = All-append (NamesPublic view.setup.shape) (joined volumes) view.events are.leads.public replays.public;
-      }
+      let w : IsWholeLog m core.object (history_of core volumes) = (volumes, are, refl) in
+      let h = whole-history m core.object (history_of core volumes) headline w in
+      record { legal = h.legal; to_there = whole-leads m core.object (history_of core volumes) headline w; public = h.public }
 
   -- the whole history has issued as many calls as were accepted
   pub calls_counted : AreVolumes m core.object volumes → Headline m core.object → HasClosingTotals core passes

@@ -26,6 +26,7 @@ pub trait Receipts<V: Copy>: Drop {
     fn make_room(&mut self) -> Result<(), AllocError>
         ensures same { items self.new ≡ items self.old }
         ensures room { OnOk result (HasRoom self.new) }
+        ensures kept { OnErr result (HasRoom self.old → HasRoom self.new) }
         ensures refused { OnErr result (is_bounded ≡ false) };
 
     /// Files a receipt as the last.

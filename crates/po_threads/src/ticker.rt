@@ -23,7 +23,7 @@ pub struct Ticker {
 }
 
 impl Ticker {
-    /// Starts the thread, which ticks at once and then every period.
+    /// Starts the thread, which ticks at once and then every period; after a period of zero it ticks again without a pause.
     ///
     /// Fails where memory runs out, no thread can be made, or the time can't be read.
     pub fn start<

@@ -95,6 +95,26 @@ fn one_call<U: Unit<Value = u64>, C: Story<U, u64>, P: Ledger, R: Abort + Wait>(
         answer: End::Completed(7),
     };
     same(rt, pass.receipts().last().copied(), Some(receipt));
+    look_behind(rt, object, pass);
+}
+
+/// A function and a count stand behind what the caller has seen, which then sees as far. So does a thread without a pass.
+fn look_behind<U: Unit<Value = u64>, C: Story<U, u64>, P: Ledger, R: Abort + Wait>(
+    rt: &R,
+    object: &Object<U, C, P>,
+    pass: &mut Pass<u64, C, P>,
+) {
+    let mut front = pass.front();
+    same(rt, object.function_after(rt, &mut front, 0, 0), Ok(Ok(1)));
+    same(rt, object.try_count_after(&mut front, GET), Ok(Some(0)));
+    pass.see(&front);
+    let mut other = object.front();
+    other.see(&front);
+    same(
+        rt,
+        object.function_after(rt, &mut other, 9, 0),
+        Err(Refusal::NoSuchOperation),
+    );
 }
 
 /// An empty buffer of 1 has nothing to get at once; what is put into it is seen, and got. The clock doesn't go back. Every

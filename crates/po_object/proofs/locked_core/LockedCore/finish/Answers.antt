@@ -1,7 +1,7 @@
 use Rattle.std.proofs.Common.{sym, subst, ◌∙◌, ap, length, Some}
 use Rattle.po_receipts.specs.OneHistory.{IsWholeLog, end_in}
 use Rattle.po_receipts.proofs.OneHistory.{ended-on, answered}
-use Rattle.po_object.specs.Holds.{IsCounted}
+use Rattle.po_object.specs.Counted.{IsCounted}
 use Rattle.po_receipts.specs.Answers.{AskedBySeats}
 use Rattle.po_object.proofs.LatestKept.{known-collected, ended-ticket}
 use Rattle.po_object.proofs.Rooms.{gives-free, room-collected}
