@@ -27,10 +27,10 @@ GLUE = (
 PROGRAMS = ("pobj_run", "pobj_check", "pobj_stress", "po_c")
 
 
-def headline():
-    """The definitions that the clauses of the headline cite, directly or through others."""
-    lines = (walk.CRATES / "po_core" / "src" / "object_core.rt").read_text().splitlines()
-    start = next(at for at, line in enumerate(lines) if line.startswith("    pub fn headline("))
+def rested_on(crate, file, method):
+    """The definitions that the clauses of a public method cite, directly or through others."""
+    lines = (walk.CRATES / crate / "src" / file).read_text().splitlines()
+    start = next(at for at, line in enumerate(lines) if line.startswith(f"    pub fn {method}("))
     end = next(at for at in range(start, len(lines)) if lines[at] == "    }")
     outer = walk.imports("\n".join(line for line in lines if line.startswith("ghost use ")))
     return walk.closure(walk.roots_in([], walk.contracts(walk.without_comments("\n".join(lines[start:end]), "//")), outer))
@@ -41,14 +41,19 @@ def table(head, rows):
     return [head, "|---" * (head.count("|") - 1) + "|"] + ["| " + " | ".join(row) + " |" for row in rows]
 
 
+def counts(pairs):
+    """How many definitions these are, and how many lines they have."""
+    return str(len(pairs)), str(sum(len(walk.definitions(path)[name]) for path, name in pairs))
+
+
 def of_headline():
-    """Of each file how many of its definitions the headline rests on, and how many lines they have."""
-    found = {}
-    for path, name in headline():
-        found.setdefault(path, []).append(len(walk.definitions(path)[name]))
-    rows = [(f"`{path.relative_to(walk.CRATES)}`", str(len(found[path])), str(sum(found[path]))) for path in sorted(found)]
-    counts = [count for counts in found.values() for count in counts]
-    return rows + [("all", str(len(counts)), str(sum(counts)))]
+    """Of each file how many of its definitions the headline rests on, and how many lines they have; and how many more the closing
+    theorem of objects rests on."""
+    headline = rested_on("po_core", "object_core.rt", "headline")
+    closing = rested_on("po_object", "closing.rt", "every_answer") - headline
+    files = sorted({path for path, _ in headline})
+    rows = [(f"`{file.relative_to(walk.CRATES)}`", *counts([it for it in headline if it[0] == file])) for file in files]
+    return rows + [("all", *counts(headline)), ("more, for `Closed::every_answer`", *counts(closing))]
 
 
 def lines_of(path, mark):
