@@ -2,7 +2,9 @@
 
 use crate::shared::Shared;
 use crate::stage::Stage;
-use crate::{answers, cancelled, company, cuts, finalized, held_lock, second_wait, side_by_side};
+use crate::{
+    answers, cancelled, company, cuts, finalized, held_lock, second_wait, side_by_side, traffic,
+};
 use po_core::Start;
 use po_unit::Shape;
 use std::io::{self, Print};
@@ -40,6 +42,8 @@ pub(crate) enum Scene {
     Company,
     /// Callers wait a second time.
     SecondWait,
+    /// Values are put and got.
+    Traffic,
     /// What one thread is answered.
     Answers,
     /// Nothing but that the passes are turned around: the highest seat comes first.
@@ -52,7 +56,7 @@ impl Scene {
         match self {
             Scene::SideBySide => 2,
             Scene::Cuts => 9,
-            Scene::Finalized | Scene::SecondWait => 8,
+            Scene::Finalized | Scene::SecondWait | Scene::Traffic => 8,
             _ => 1,
         }
     }
@@ -72,6 +76,7 @@ pub(crate) fn play<
         Scene::Cancelled => cancelled::play(rt, stage),
         Scene::Company => company::play(rt, stage),
         Scene::SecondWait => second_wait::play(rt, stage),
+        Scene::Traffic => traffic::play(rt, stage),
         Scene::Answers => answers::play(&rt, stage),
         Scene::Idle => {
             stage.passes.reverse();
