@@ -214,7 +214,8 @@ impl<
     ///
     /// Refused as `NoSuchEntry`, `PrivateEntry`, `BadIndex`, `Finalized` and `NumbersSpent`; where the number of calls isn't
     /// fixed also `OutOfMemory`, first where there is no room for a receipt.
-    /// There is room for it, so it is never refused as `TooManyCalls`.
+    /// There is room for it, so it is never refused as `TooManyCalls`. Accepted or refused, its caller has then seen the history
+    /// up to now.
     pub fn begin(
         &mut self,
         pass: &mut Pass<U::Value, C, P, F, Q>,

@@ -109,7 +109,7 @@ impl<
         self.cut_after(rt, &mut front)
     }
 
-    /// As `cut`, behind all that the front has seen. What it then sees is the history up to this cut.
+    /// As `cut`, behind all that the front has seen. What it then sees is the history up to this cut, or up to the refusal.
     ///
     /// Refused as `cut` is.
     pub fn cut_after<W: Wait>(
@@ -154,7 +154,8 @@ impl<
 
     /// Calls an entry (9.5.3), and waits for the end of the call.
     ///
-    /// Refused as `Core::issue` is. Where there is no room for a receipt, that is answered before the other refusals.
+    /// Refused as `Core::issue` is. Where there is no room for a receipt, that is answered before the other refusals. A refusal
+    /// leaves the pass as it was, but that its caller has seen the history up to then.
     pub fn call<W: Wait>(
         &self,
         rt: &W,
@@ -225,7 +226,8 @@ impl<
 
     /// Runs a protected procedure (9.5.1). The reply is a value, or the number of the exception that it propagates.
     ///
-    /// Refused as `Core::run` is. Where there is no room for a receipt, that is answered before the other refusals.
+    /// Refused as `Core::run` is. Where there is no room for a receipt, that is answered before the other refusals. A refusal
+    /// leaves the pass as it was, but that its caller has seen the history up to then.
     pub fn procedure<W: Wait>(
         &self,
         rt: &W,
@@ -269,7 +271,7 @@ impl<
         self.function_after(rt, &mut front, op, value)
     }
 
-    /// As `function`, behind all that the front has seen. What it then sees is the history up to the moment of the reply.
+    /// As `function`, behind all that the front has seen. What it then sees is the history up to the reply or the refusal.
     ///
     /// Refused as `Core::read` is.
     pub fn function_after<W: Wait>(
@@ -305,7 +307,7 @@ impl<
         self.tick_after(rt, &mut front, t)
     }
 
-    /// As `tick`, behind all that the front has seen. What it then sees is the history up to this tick.
+    /// As `tick`, behind all that the front has seen. What it then sees is the history up to this tick, or up to the refusal.
     ///
     /// Refused as `Core::tick` is.
     pub fn tick_after<W: Wait>(
@@ -340,7 +342,7 @@ impl<
         self.finalize_after(rt, &mut front)
     }
 
-    /// As `finalize`, behind all that the front has seen. What it then sees is the history up to this end.
+    /// As `finalize`, behind all that the front has seen. What it then sees is the history up to this end, or up to the refusal.
     ///
     /// Refused as `Core::finalize` is.
     pub fn finalize_after<W: Wait>(
@@ -373,7 +375,7 @@ impl<
         self.abort_seat_after(rt, &mut front, seat)
     }
 
-    /// As `abort_seat`, behind all that the front has seen. What it then sees is the history up to this attempt.
+    /// As `abort_seat`, behind all that the front has seen. What it then sees is the history up to this attempt, or up to the refusal.
     ///
     /// Refused as `NoCall`, where no call of the seat is queued.
     pub fn abort_seat_after<W: Wait>(
@@ -409,7 +411,8 @@ impl<
         self.try_count_after(&mut front, entry)
     }
 
-    /// As `try_count`, behind all that the front has seen. What it then sees is the history up to the moment of the count.
+    /// As `try_count`, behind all that the front has seen. What it then sees is the history up to the count; it sees no more if
+    /// there is none.
     ///
     /// Refused as `Core::count` is.
     pub fn try_count_after(
