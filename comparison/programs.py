@@ -72,7 +72,8 @@ def is_runtime(folder):
 def runtime_at(path):
     """The runtime folder at the path, as an absolute one. With another folder programs would run without the engine unseen."""
     if not is_runtime(pathlib.Path(path)):
-        raise Failed(f"{path} is no runtime folder; one is made by: ./pobj ada {path}")
+        made = "" if pathlib.Path(path).exists() else f"; one is made by: ./pobj ada {path}"
+        raise Failed(f"{path} is no runtime folder{made}")
     return pathlib.Path(path).resolve()
 
 

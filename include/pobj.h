@@ -92,7 +92,7 @@ bool pobj_make(pobj_object *object, uint64_t entries);
    call more is answered POBJ_NO_MEMORY. */
 bool pobj_make_fixed(pobj_object *object, uint64_t entries, size_t calls);
 
-/* Frees the object: it is none again. */
+/* Frees the object, which must have been made: it is none again. */
 void pobj_free(pobj_object *object);
 
 /* From now on at most so many calls may be queued on the entry (Max_Entry_Queue_Length, D.7); 0: any number. Calls that are

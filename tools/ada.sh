@@ -5,6 +5,7 @@
 # Carries out `pobj ada`: builds the library, where it isn't built, and does the rest in bindings/ada/.
 ada() {
   local room status=0
+  "$top/bindings/ada/ada.sh" - "${@:-}" || exit
   need_rt "the library has to be built"
   wait_for_turn
   build_library 9<&-

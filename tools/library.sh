@@ -49,9 +49,12 @@ library() {
     exit 2
   fi
   need_rt "the library has to be built"
+  if ! mkdir -p "$1" 2>/dev/null; then
+    say "there can be no folder $1"
+    exit 4
+  fi
   wait_for_turn
   build_library 9<&-
-  mkdir -p "$1"
   put_library "$(cd "$1" && pwd)"
   say "in $1 are lib/libpobj.a, include/pobj.h, include/pobj_threads.h and share/pobj/examples; docs/C.md says how to use them"
 }

@@ -13,7 +13,7 @@ if [ $# -ne 1 ]; then
   echo "pobj trace: it takes the file that POBJ_TRACE named" >&2
   exit 2
 fi
-[ -r "$1" ] || fail "there is no file $1 that can be read; a program that doesn't run over pobj writes none (docs/ADA.md)"
+[ -r "$1" ] || fail "there is no file $1 that can be read; only a program over pobj whose objects have entries writes one (docs/ADA.md)"
 head -n 1 "$1" | grep -q '^program [0-9a-f]* ' || fail "$1 isn't a record of a program over pobj"
 program=$(sed -n '1s/^program [0-9a-f]* //p' "$1")
 names=$(mktemp)
