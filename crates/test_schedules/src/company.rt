@@ -2,6 +2,7 @@
 
 use crate::ending::Ending;
 use crate::explorer::Explorer;
+use crate::handover::Handover;
 use crate::player::{Player, start};
 use crate::plays::Plays;
 use crate::scene::Scene;
@@ -32,9 +33,10 @@ fn start_all<
     scene: Scene,
 ) -> Result<Vec<JoinHandle<Player<P>>>, AllocError> {
     let mut handles = Vec::new(rt.alloc());
+    let handover = Arc::new(rt.alloc(), Handover::new())?;
     let mut number = 0usize;
     for pass in passes {
-        let player = Player::new(rt.alloc(), number, pass)?;
+        let player = Player::new(rt.alloc(), number, pass, Arc::try_clone(&handover)?)?;
         let (explorer, object) = (Arc::try_clone(explorer)?, Arc::try_clone(object)?);
         handles.push(start(rt, explorer, object, player, scene)?)?;
         number = number.saturating_add(1);
@@ -53,7 +55,9 @@ fn join_all<P: Drop, O: Drop, W: Threads>(
     let mut volumes = Vec::new(alloc);
     for handle in handles {
         let player = handle.join(rt);
-        passes.push(player.pass)?;
+        for pass in player.passes {
+            passes.push(pass)?;
+        }
         for volume in player.volumes {
             volumes.push(volume)?;
         }

@@ -12,6 +12,7 @@ mod ending;
 mod explore;
 mod explorer;
 mod gate;
+mod handover;
 mod next;
 mod objects;
 mod path;
@@ -96,8 +97,12 @@ impl Asked {
 
     /// Whether the plan's scene is played with sleeps that end for no reason too: else those with few schedules alone are.
     fn has_dozing(&self, plan: Plan) -> bool {
-        let is_short = !matches!(plan.scene, Scene::Twice | Scene::Again | Scene::Full);
-        plan.scene.threads() == 2 && (self.is_all || is_short && plan.kind == Kind::Recorded)
+        let is_long = matches!(
+            plan.scene,
+            Scene::Twice | Scene::Again | Scene::Full | Scene::HandAtOnce
+        );
+        let may_be_late = plan.scene.threads() == 2 || plan.scene == Scene::HandOn;
+        may_be_late && (self.is_all || !is_long && plan.kind == Kind::Recorded)
     }
 }
 

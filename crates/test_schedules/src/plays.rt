@@ -9,10 +9,11 @@ use po_unit::EntryRef;
 use std::sync::Wait;
 use std::sync::ledger::Ledger;
 
-/// An object that the threads of a scene share, each with a pass of this type.
+/// An object that the threads of a scene share, with passes of this type.
 pub(crate) trait Plays<P> {
-    /// Does what the act says, and answers what it cut off from the history, if it cut it.
-    fn play<W: Wait>(&self, rt: &W, pass: &mut P, act: Act) -> Option<Volume<u64>>;
+    /// Does what the act says, if the thread has a pass or needs none, and answers what it cut off from the history, if it
+    /// cut it.
+    fn play<W: Wait>(&self, rt: &W, pass: Option<&mut P>, act: Act) -> Option<Volume<u64>>;
 }
 
 /// What an object keeps of what has happened, which is cut where that is its history.
@@ -35,18 +36,21 @@ impl<C: Story<Station, u64>, P: Ledger, F: Ledger, R: Kept, Q: Receipts<u64>, S:
     fn play<W: Wait>(
         &self,
         rt: &W,
-        pass: &mut Pass<u64, C, P, F, Q>,
+        pass: Option<&mut Pass<u64, C, P, F, Q>>,
         act: Act,
     ) -> Option<Volume<u64>> {
         if matches!(act, Act::Cut) {
             return R::cut(rt, self);
         }
-        ask(rt, self, pass, act);
+        match pass {
+            Some(pass) if act.needs_pass() => call(rt, self, pass, act),
+            _ => ask(rt, self, act),
+        }
         None
     }
 }
 
-/// Asks what the act says. The answer is compared with the history in the end, and else of no interest.
+/// Asks what the act says, if that needs no pass. The answer is of no interest.
 fn ask<
     C: Story<Station, u64>,
     P: Ledger,
@@ -55,7 +59,7 @@ fn ask<
     Q: Receipts<u64>,
     S: Steps,
     W: Wait,
->(rt: &W, object: &Object<Station, C, P, F, R, Q, S>, pass: &mut Pass<u64, C, P, F, Q>, act: Act) {
+>(rt: &W, object: &Object<Station, C, P, F, R, Q, S>, act: Act) {
     match act {
         Act::Function => {
             let _reply = object.function(rt, 0, 0);
@@ -72,11 +76,11 @@ fn ask<
         Act::Abort(seat) => {
             let _aborted = object.abort_seat(rt, seat);
         }
-        _ => call(rt, object, pass, act),
+        _ => {}
     }
 }
 
-/// Makes the call, or runs the procedure, of the act.
+/// Makes the call, or runs the procedure, of the act. The answer is compared with the history in the end.
 fn call<
     C: Story<Station, u64>,
     P: Ledger,

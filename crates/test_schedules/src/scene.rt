@@ -20,6 +20,10 @@ pub(crate) enum Scene {
     Full,
     /// The history is cut beside a call that waits.
     Cut,
+    /// A pass whose call waited is handed to who ended the call, and waits again.
+    Hand,
+    /// A pass whose call didn't wait is handed over, and waits.
+    HandAtOnce,
     /// A timed call, one that may serve it, and the clock that comes to its deadline.
     Tick,
     /// Two put, and one gets twice.
@@ -36,6 +40,8 @@ pub(crate) enum Scene {
     AgainAbort,
     /// A barrier faults, and so ends two calls.
     Fault,
+    /// A pass is handed to a third thread, whose call waits while the first one's caller may yet be woken.
+    HandOn,
     /// Five callers whose calls one procedure ends.
     Five,
 }
@@ -68,6 +74,16 @@ const FULL: Script = &[
 ];
 
 const CUT: Script = &[&[Act::Call(GET, 0)], &[Act::Cut, Act::Call(PUT, 1)]];
+
+const HAND: Script = &[
+    &[Act::Call(GET, 0), Act::HandOver, Act::Tick(5)],
+    &[Act::Call(PUT, 1), Act::TakeOver, Act::Timed(GET, 5)],
+];
+
+const HAND_AT_ONCE: Script = &[
+    &[Act::Call(PUT, 1), Act::HandOver, Act::Tick(5)],
+    &[Act::Call(GET, 0), Act::TakeOver, Act::Timed(GET, 5)],
+];
 
 const TICK: Script = &[
     &[Act::Timed(GET, 5)],
@@ -117,6 +133,12 @@ const FAULT: Script = &[
     &[Act::Procedure(SPOIL)],
 ];
 
+const HAND_ON: Script = &[
+    &[Act::Call(GET, 0), Act::HandOver, Act::Tick(5)],
+    &[Act::TakeOver, Act::Timed(GET, 5)],
+    &[Act::Call(PUT, 1)],
+];
+
 const FIVE: Script = &[
     &[Act::Call(PASS, 1)],
     &[Act::Call(PASS, 2)],
@@ -127,7 +149,7 @@ const FIVE: Script = &[
 ];
 
 /// All scenes, those of two threads first.
-pub(crate) const SCENES: [Scene; 16] = [
+pub(crate) const SCENES: [Scene; 19] = [
     Scene::Pair,
     Scene::Twice,
     Scene::Requeue,
@@ -135,6 +157,8 @@ pub(crate) const SCENES: [Scene; 16] = [
     Scene::Again,
     Scene::Full,
     Scene::Cut,
+    Scene::Hand,
+    Scene::HandAtOnce,
     Scene::Tick,
     Scene::Three,
     Scene::Final,
@@ -143,6 +167,7 @@ pub(crate) const SCENES: [Scene; 16] = [
     Scene::RequeueTwo,
     Scene::AgainAbort,
     Scene::Fault,
+    Scene::HandOn,
     Scene::Five,
 ];
 
@@ -157,6 +182,8 @@ impl Scene {
             Scene::Again => "again",
             Scene::Full => "full",
             Scene::Cut => "cut",
+            Scene::Hand => "hand",
+            Scene::HandAtOnce => "hand_at_once",
             Scene::Tick => "tick",
             Scene::Three => "three",
             Scene::Final => "final",
@@ -165,6 +192,7 @@ impl Scene {
             Scene::RequeueTwo => "requeue_two",
             Scene::AgainAbort => "again_abort",
             Scene::Fault => "fault",
+            Scene::HandOn => "hand_on",
             Scene::Five => "five",
         }
     }
@@ -179,6 +207,8 @@ impl Scene {
             Scene::Again => AGAIN,
             Scene::Full => FULL,
             Scene::Cut => CUT,
+            Scene::Hand => HAND,
+            Scene::HandAtOnce => HAND_AT_ONCE,
             Scene::Tick => TICK,
             Scene::Three => THREE,
             Scene::Final => FINAL,
@@ -187,6 +217,7 @@ impl Scene {
             Scene::RequeueTwo => REQUEUE_TWO,
             Scene::AgainAbort => AGAIN_ABORT,
             Scene::Fault => FAULT,
+            Scene::HandOn => HAND_ON,
             Scene::Five => FIVE,
         }
     }
@@ -202,7 +233,8 @@ impl Scene {
             | Scene::Readers
             | Scene::RequeueTwo
             | Scene::AgainAbort
-            | Scene::Fault => 3,
+            | Scene::Fault
+            | Scene::HandOn => 3,
             _ => 2,
         }
     }
