@@ -6,18 +6,20 @@ use crate::handover::Handover;
 use crate::player::{Player, start};
 use crate::plays::Plays;
 use crate::scene::Scene;
+use crate::told::Told;
 use po_core::Volume;
 use std::alloc::{AllocError, Global};
 use std::sync::{Arc, Wait};
 use std::thread::{JoinHandle, Threads};
 use std::time::Clock;
 
-/// What is left of a schedule: the object, the passes, and what was cut off from the history.
+/// What is left of a schedule: the object, the passes, what was cut off from the history, and what each thread was told.
 #[derive(Drop)]
 pub(crate) struct Left<P: Drop, O: Drop> {
     pub(crate) object: O,
     pub(crate) passes: Vec<P>,
     pub(crate) volumes: Vec<Volume<u64>>,
+    pub(crate) told: Vec<Told>,
 }
 
 /// Starts a thread for each pass.
@@ -52,7 +54,7 @@ fn join_all<P: Drop, O: Drop, W: Threads>(
     handles: Vec<JoinHandle<Player<P>>>,
 ) -> Result<Option<Left<P, O>>, AllocError> {
     let mut passes = Vec::new(alloc);
-    let mut volumes = Vec::new(alloc);
+    let (mut volumes, mut told) = (Vec::new(alloc), Vec::new(alloc));
     for handle in handles {
         let player = handle.join(rt);
         for pass in player.passes {
@@ -61,6 +63,7 @@ fn join_all<P: Drop, O: Drop, W: Threads>(
         for volume in player.volumes {
             volumes.push(volume)?;
         }
+        told.push(player.told)?;
     }
     let Ok(object) = Arc::try_unwrap(object) else {
         return Ok(None);
@@ -69,6 +72,7 @@ fn join_all<P: Drop, O: Drop, W: Threads>(
         object,
         passes,
         volumes,
+        told,
     }))
 }
 

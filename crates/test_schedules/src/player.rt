@@ -6,18 +6,20 @@ use crate::handover::Handover;
 use crate::next::Next;
 use crate::plays::Plays;
 use crate::scene::Scene;
+use crate::told::Told;
 use po_core::Volume;
 use std::alloc::{AllocError, Global};
 use std::sync::{Arc, Wait};
 use std::thread::{self, JoinHandle, Threads};
 
-/// What a thread of a scene has: its number, its passes, and what it cut off from the history.
+/// What a thread of a scene has: its number, its passes, what it cut off from the history, and what it was told.
 #[derive(Drop)]
 pub(crate) struct Player<P: Drop> {
     pub(crate) number: usize,
     /// It calls from the last one.
     pub(crate) passes: Vec<P>,
     pub(crate) volumes: Vec<Volume<u64>>,
+    pub(crate) told: Told,
     /// Where it hands a pass over, or takes one.
     handover: Arc<Handover<P>>,
 }
@@ -38,6 +40,7 @@ impl<P: Drop> Player<P> {
             number,
             passes,
             volumes,
+            told: Told::new(alloc)?,
             handover,
         })
     }
@@ -52,14 +55,14 @@ impl<P: Drop> Player<P> {
     ) -> Player<P> {
         explorer.wait_for_turn(rt, self.number);
         for act in scene.acts(self.number) {
-            self.act(rt, explorer, object, *act);
+            self.perform(rt, explorer, object, *act);
         }
         explorer.finish(rt);
         self
     }
 
     /// Does what the act says.
-    fn act<O: Plays<P>, W: Wait>(&mut self, rt: &W, explorer: &Explorer, object: &O, act: Act) {
+    fn perform<O: Plays<P>, W: Wait>(&mut self, rt: &W, explorer: &Explorer, object: &O, act: Act) {
         match act {
             Act::HandOver => self.hand_over(rt, explorer),
             Act::TakeOver => self.take_over(rt, explorer),
@@ -69,7 +72,7 @@ impl<P: Drop> Player<P> {
 
     /// Asks the object what the act says.
     fn ask<O: Plays<P>, W: Wait>(&mut self, rt: &W, object: &O, act: Act) {
-        if let Some(volume) = object.play(rt, self.passes.last_mut(), act) {
+        if let Some(volume) = object.play(rt, self.passes.last_mut(), act, &mut self.told) {
             let _kept = self.volumes.push(volume);
         }
     }

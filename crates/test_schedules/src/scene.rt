@@ -20,6 +20,10 @@ pub(crate) enum Scene {
     Full,
     /// The history is cut beside a call that waits.
     Cut,
+    /// A cut of the history is refused for want of memory, beside a call that waits.
+    Uncut,
+    /// The places of the history are spent: what else is asked for beside a call that waits is refused.
+    Spent,
     /// A pass whose call waited is handed to who ended the call, and waits again.
     Hand,
     /// A pass whose call didn't wait is handed over, and waits.
@@ -74,6 +78,16 @@ const FULL: Script = &[
 ];
 
 const CUT: Script = &[&[Act::Call(GET, 0)], &[Act::Cut, Act::Call(PUT, 1)]];
+
+const UNCUT: Script = &[
+    &[Act::Call(OPEN, 1)],
+    &[Act::Cut, Act::Call(RELEASE, 2), Act::Cut],
+];
+
+const SPENT: Script = &[
+    &[Act::Timed(GET, 5)],
+    &[Act::Procedure(SIGNAL), Act::Tick(5), Act::Finalize],
+];
 
 const HAND: Script = &[
     &[Act::Call(GET, 0), Act::HandOver, Act::Tick(5)],
@@ -149,7 +163,7 @@ const FIVE: Script = &[
 ];
 
 /// All scenes, those of two threads first.
-pub(crate) const SCENES: [Scene; 19] = [
+pub(crate) const SCENES: [Scene; 21] = [
     Scene::Pair,
     Scene::Twice,
     Scene::Requeue,
@@ -157,6 +171,8 @@ pub(crate) const SCENES: [Scene; 19] = [
     Scene::Again,
     Scene::Full,
     Scene::Cut,
+    Scene::Uncut,
+    Scene::Spent,
     Scene::Hand,
     Scene::HandAtOnce,
     Scene::Tick,
@@ -182,6 +198,8 @@ impl Scene {
             Scene::Again => "again",
             Scene::Full => "full",
             Scene::Cut => "cut",
+            Scene::Uncut => "uncut",
+            Scene::Spent => "spent",
             Scene::Hand => "hand",
             Scene::HandAtOnce => "hand_at_once",
             Scene::Tick => "tick",
@@ -207,6 +225,8 @@ impl Scene {
             Scene::Again => AGAIN,
             Scene::Full => FULL,
             Scene::Cut => CUT,
+            Scene::Uncut => UNCUT,
+            Scene::Spent => SPENT,
             Scene::Hand => HAND,
             Scene::HandAtOnce => HAND_AT_ONCE,
             Scene::Tick => TICK,
@@ -244,6 +264,38 @@ impl Scene {
         match self.script().get(thread) {
             Some(acts) => *acts,
             None => &[],
+        }
+    }
+
+    /// How many times a thread asks for a call or for a procedure.
+    pub(crate) fn asks(self, thread: usize) -> usize {
+        self.acts(thread)
+            .iter()
+            .filter(|act| act.needs_pass())
+            .count()
+    }
+
+    /// Whether it is played where memory is refused too.
+    pub(crate) fn has_refusals(self) -> bool {
+        matches!(
+            self,
+            Scene::Pair
+                | Scene::Requeue
+                | Scene::Cancel
+                | Scene::Again
+                | Scene::Tick
+                | Scene::Three
+                | Scene::Abort
+                | Scene::Fault
+        )
+    }
+
+    /// The place of the first event in the history.
+    pub(crate) fn first_place(self) -> u64 {
+        if self == Scene::Spent {
+            u64::MAX - 1
+        } else {
+            0
         }
     }
 
