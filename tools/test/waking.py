@@ -39,6 +39,15 @@ LOOK_THEN_SET = """        if self.flag.load(Ordering::SeqCst) == ENDED {
         false
 """
 
+ISSUE = """        pass.receipts.make_room()?;
+        self.core.headline();
+        self.reservations.audit(&mut pass.reservation);
+        let idle = self.latest.is_idle(&self.core, pass.seat);
+        let before = Snapshot::of(&self.core);
+        let ticket = self.core.issue(pass.seat, entry, value, deadline)?;
+"""
+ROOM = "        pass.receipts.make_room()?;\n"
+
 # Of each bug: what is wrong, the file, its old and its new text, and the words by which the program plays a scene that shows it.
 BUGS = [
     ("a call says that it waits after the lock is left", "object.rt",
@@ -60,6 +69,8 @@ BUGS = [
     ("who ends a call leaves its flag", "seat.rt", SWAP, SWAP.replace("swap(ENDED, ", "load("), "pair recorded"),
     ("a caller looks and falls asleep in two steps", "seat.rt", FALL_ASLEEP, LOOK_THEN_SET, "pair recorded"),
     ("a caller that sleeps again takes its call for ended", "seat.rt", "            == Err(ENDED)\n", "            .is_err()\n", "requeue recorded"),
+    ("the same, with a pass that changes threads", "seat.rt", "            == Err(ENDED)\n", "            .is_err()\n", "hand recorded"),
+    ("a call is issued before there is room for its receipt", "locked_core.rt", ISSUE, ISSUE.replace(ROOM, "") + ROOM, "pair refused"),
     ("a seat is woken at another's place", "opening.rt", "    parkers.reverse();\n", "", "pair recorded"),
 ]
 

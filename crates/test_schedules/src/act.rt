@@ -3,7 +3,7 @@
 use crate::station::{CHANGE, GET, NEVER, OPEN, PASS, PUT, RELEASE, SIGNAL, STAY};
 use std::fmt;
 
-/// What a thread of a scene does. Each has a pass of its own.
+/// What a thread of a scene does. Each begins with a pass of its own.
 #[derive(Clone, Copy)]
 pub(crate) enum Act {
     /// Calls the entry with the value.
@@ -26,6 +26,20 @@ pub(crate) enum Act {
     Abort(u16),
     /// Cuts the history, where there is one.
     Cut,
+    /// Hands its pass over.
+    HandOver,
+    /// Takes over the pass that another thread hands over, and calls from it from then on.
+    TakeOver,
+}
+
+impl Act {
+    /// Whether it needs a pass.
+    pub(crate) fn needs_pass(self) -> bool {
+        matches!(
+            self,
+            Act::Call(..) | Act::Timed(..) | Act::Conditional(..) | Act::Procedure(..)
+        )
+    }
 }
 
 /// The name of an entry of the station.
@@ -65,6 +79,8 @@ impl fmt::Display for Act {
             Act::Finalize => f.write_str("finalizes"),
             Act::Abort(seat) => write!(f, "cancels the call of seat {seat}"),
             Act::Cut => f.write_str("cuts the history"),
+            Act::HandOver => f.write_str("hands its pass over"),
+            Act::TakeOver => f.write_str("takes a pass over"),
         }
     }
 }

@@ -2,21 +2,24 @@
 
 use crate::ending::Ending;
 use crate::explorer::Explorer;
+use crate::handover::Handover;
 use crate::player::{Player, start};
 use crate::plays::Plays;
 use crate::scene::Scene;
+use crate::told::Told;
 use po_core::Volume;
 use std::alloc::{AllocError, Global};
 use std::sync::{Arc, Wait};
 use std::thread::{JoinHandle, Threads};
 use std::time::Clock;
 
-/// What is left of a schedule: the object, the passes, and what was cut off from the history.
+/// What is left of a schedule: the object, the passes, what was cut off from the history, and what each thread was told.
 #[derive(Drop)]
 pub(crate) struct Left<P: Drop, O: Drop> {
     pub(crate) object: O,
     pub(crate) passes: Vec<P>,
     pub(crate) volumes: Vec<Volume<u64>>,
+    pub(crate) told: Vec<Told>,
 }
 
 /// Starts a thread for each pass.
@@ -32,9 +35,10 @@ fn start_all<
     scene: Scene,
 ) -> Result<Vec<JoinHandle<Player<P>>>, AllocError> {
     let mut handles = Vec::new(rt.alloc());
+    let handover = Arc::new(rt.alloc(), Handover::new())?;
     let mut number = 0usize;
     for pass in passes {
-        let player = Player::new(rt.alloc(), number, pass)?;
+        let player = Player::new(rt.alloc(), number, pass, Arc::try_clone(&handover)?)?;
         let (explorer, object) = (Arc::try_clone(explorer)?, Arc::try_clone(object)?);
         handles.push(start(rt, explorer, object, player, scene)?)?;
         number = number.saturating_add(1);
@@ -50,13 +54,16 @@ fn join_all<P: Drop, O: Drop, W: Threads>(
     handles: Vec<JoinHandle<Player<P>>>,
 ) -> Result<Option<Left<P, O>>, AllocError> {
     let mut passes = Vec::new(alloc);
-    let mut volumes = Vec::new(alloc);
+    let (mut volumes, mut told) = (Vec::new(alloc), Vec::new(alloc));
     for handle in handles {
         let player = handle.join(rt);
-        passes.push(player.pass)?;
+        for pass in player.passes {
+            passes.push(pass)?;
+        }
         for volume in player.volumes {
             volumes.push(volume)?;
         }
+        told.push(player.told)?;
     }
     let Ok(object) = Arc::try_unwrap(object) else {
         return Ok(None);
@@ -65,6 +72,7 @@ fn join_all<P: Drop, O: Drop, W: Threads>(
         object,
         passes,
         volumes,
+        told,
     }))
 }
 

@@ -4,7 +4,7 @@ use crate::ending::Ending;
 use crate::explorer::Explorer;
 use crate::plan::{Kind, Plan};
 use crate::report::print_schedule;
-use crate::{bounded, recorded};
+use crate::{bounded, recorded, refused};
 use std::alloc::AllocError;
 use std::io::{self, Print};
 use std::sync::{Arc, Wait};
@@ -31,6 +31,7 @@ fn agrees<W: Threads + Wait + Clock + AllocGlobal + Copy + Drop + Send + Sync + 
     match plan.kind {
         Kind::Recorded => recorded::agrees(rt, explorer, plan.scene),
         Kind::Bounded => bounded::agrees(rt, explorer, plan.scene),
+        Kind::Refused => refused::agrees(rt, explorer, plan.scene),
     }
 }
 

@@ -1,10 +1,10 @@
 //! What lets the threads of a scene go on, one at a time.
 
 use crate::ending::Ending;
+use crate::next::Next;
 use crate::path::Bound;
 use crate::schedule::Schedule;
 use crate::threads::MOST;
-use po_object::steps::Step;
 use std::alloc::{AllocError, Global};
 use std::sync::atomic::{AtomicU64, Ordering};
 use std::sync::{Condvar, CondvarTimeouts, Mutex, MutexGuard, Wait};
@@ -77,11 +77,11 @@ impl Explorer {
         }
     }
 
-    /// The thread whose turn it is comes to a step, and waits until it is to take it.
-    pub(crate) fn reach<W: Wait>(&self, rt: &W, step: Step) {
+    /// The thread whose turn it is comes to what it does next, and waits until it is to do it.
+    pub(crate) fn reach<W: Wait>(&self, rt: &W, next: Next) {
         let mut schedule = self.schedule.lock(rt);
         let thread = schedule.current();
-        schedule.reach(step);
+        schedule.reach(next);
         if schedule.ending().is_none() && schedule.current() == thread {
             return;
         }

@@ -1,6 +1,7 @@
 //! What an object asks before each step: here the explorer.
 
 use crate::explorer::Explorer;
+use crate::next::Next;
 use po_object::steps::{Step, Steps};
 use std::sync::{Arc, Wait};
 
@@ -17,11 +18,11 @@ impl<W: Wait + Drop> Steps for Gate<W> {
     const LOOKS: u32 = 1;
 
     fn reach(&self, step: Step) {
-        self.explorer.reach(&self.rt, step);
+        self.explorer.reach(&self.rt, Next::Take(step));
     }
 
     fn sleeps(&self, seat: u16) -> bool {
-        self.explorer.reach(&self.rt, Step::Sleep(seat));
+        self.explorer.reach(&self.rt, Next::Take(Step::Sleep(seat)));
         self.explorer.schedule(&self.rt).was_woken()
     }
 }

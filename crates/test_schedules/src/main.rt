@@ -2,7 +2,7 @@
 //!
 //! Without an argument each scene is played with up to one interruption, and the scenes of two threads in every order, some of
 //! them also with sleeps that end for no reason. With the argument `all` the scenes of three threads are played in every order
-//! too. A scene's name plays that scene alone, and `recorded` or `bounded` plays on objects of that kind alone.
+//! too. A scene's name plays that scene alone, and `recorded`, `bounded` or `refused` plays on objects of that kind alone.
 #![tactic(auto)]
 
 mod act;
@@ -12,6 +12,7 @@ mod ending;
 mod explore;
 mod explorer;
 mod gate;
+mod handover;
 mod next;
 mod objects;
 mod path;
@@ -20,11 +21,14 @@ mod plan;
 mod player;
 mod plays;
 mod recorded;
+mod refused;
+mod refusing;
 mod report;
 mod scene;
 mod schedule;
 mod station;
 mod threads;
+mod told;
 mod turn;
 
 use explore::explore;
@@ -69,6 +73,7 @@ impl Asked {
             "all" => self.is_all = true,
             "recorded" => self.kind = Some(Kind::Recorded),
             "bounded" => self.kind = Some(Kind::Bounded),
+            "refused" => self.kind = Some(Kind::Refused),
             _ => self.scene = scene_named(word),
         }
     }
@@ -89,15 +94,27 @@ impl Asked {
         }
     }
 
-    /// Whether the scene is played in every order.
-    fn has_every_order(&self, scene: Scene) -> bool {
-        scene.threads() == 2 || scene.threads() == 3 && self.is_all
+    /// Whether the plan's scene is played in every order: those of three threads and the longest one of two with `all` alone,
+    /// and those of three never where memory is refused.
+    fn has_every_order(&self, plan: Plan) -> bool {
+        let is_refused = plan.kind == Kind::Refused;
+        match plan.scene.threads() {
+            2 => self.is_all || !is_refused || plan.scene != Scene::Again,
+            3 => self.is_all && !is_refused,
+            _ => false,
+        }
     }
 
     /// Whether the plan's scene is played with sleeps that end for no reason too: else those with few schedules alone are.
     fn has_dozing(&self, plan: Plan) -> bool {
-        let is_short = !matches!(plan.scene, Scene::Twice | Scene::Again | Scene::Full);
-        plan.scene.threads() == 2 && (self.is_all || is_short && plan.kind == Kind::Recorded)
+        let is_long = matches!(
+            plan.scene,
+            Scene::Twice | Scene::Again | Scene::Full | Scene::HandAtOnce
+        );
+        let may_be_late = plan.scene.threads() == 2 || plan.scene == Scene::HandOn;
+        may_be_late
+            && plan.kind != Kind::Refused
+            && (self.is_all || !is_long && plan.kind == Kind::Recorded)
     }
 }
 
@@ -119,7 +136,7 @@ fn explore_scene<
     if !explore(rt, plan)? {
         return Ok(false);
     }
-    if !asked.has_every_order(scene) {
+    if !asked.has_every_order(plan) {
         return Ok(true);
     }
     explore_every_order(rt, plan, asked)
@@ -153,7 +170,7 @@ fn explore_all<
     W: Threads + Wait + Clock + Print + AllocGlobal + Copy + Drop + Send + Sync + 'static,
 >(rt: W, kind: Kind, asked: Asked) -> io::Result<bool> {
     for scene in SCENES {
-        if asked.has_scene(scene) && !explore_scene(rt, kind, scene, asked)? {
+        if asked.has_scene(scene) && kind.has(scene) && !explore_scene(rt, kind, scene, asked)? {
             return Ok(false);
         }
     }
@@ -162,7 +179,7 @@ fn explore_all<
 
 fn main(rt: HostRuntime) -> io::Result<ExitCode> {
     let asked = Asked::read(&rt)?;
-    for kind in [Kind::Recorded, Kind::Bounded] {
+    for kind in [Kind::Recorded, Kind::Bounded, Kind::Refused] {
         if asked.has_kind(kind) && !explore_all(rt, kind, asked)? {
             return Ok(ExitCode::from(1));
         }

@@ -7,15 +7,21 @@ use po_object::steps::Step;
 pub(crate) enum Next {
     /// It begins.
     Begin,
-    /// It takes a step.
+    /// It takes a step of the object.
     Take(Step),
+    /// It hands its pass over.
+    HandOver,
+    /// It takes over the pass that another one hands over.
+    TakeOver,
     /// Nothing more.
     Nothing,
 }
 
-/// What a step reads or changes.
+/// What a thread reads or changes.
 #[derive(Clone, Copy, PartialEq, Eq)]
 enum Touched {
+    /// Nothing.
+    Nothing,
     /// The lock.
     Lock,
     /// The lock, which stays as it is for others that take it for a look.
@@ -24,10 +30,12 @@ enum Touched {
     Flag(u16),
     /// The reason of a seat's caller not to sleep.
     Token(u16),
+    /// The pass that is handed over.
+    Pass,
 }
 
 /// What the step reads or changes.
-fn what_is_touched(step: Step) -> Touched {
+fn touched_by_step(step: Step) -> Touched {
     match step {
         Step::TryChange | Step::Change | Step::Changed | Step::Looked => Touched::Lock,
         Step::TryLook | Step::Look => Touched::LockForLook,
@@ -36,21 +44,23 @@ fn what_is_touched(step: Step) -> Touched {
     }
 }
 
-/// Whether it makes no difference which of two threads' steps comes first.
-fn are_apart(step: Step, other: Step) -> bool {
-    match (what_is_touched(step), what_is_touched(other)) {
-        (Touched::LockForLook, Touched::LockForLook) => true,
-        (Touched::Lock | Touched::LockForLook, Touched::Lock | Touched::LockForLook) => false,
-        (one, another) => one != another,
+/// What a thread reads or changes next.
+fn touched_by(next: Next) -> Touched {
+    match next {
+        Next::Take(step) => touched_by_step(step),
+        Next::HandOver | Next::TakeOver => Touched::Pass,
+        Next::Begin | Next::Nothing => Touched::Nothing,
     }
 }
 
 impl Next {
     /// Whether it makes no difference which of two threads does what it does next first.
     pub(crate) fn is_apart(self, other: Next) -> bool {
-        match (self, other) {
-            (Next::Take(step), Next::Take(other)) => are_apart(step, other),
-            _ => true,
+        match (touched_by(self), touched_by(other)) {
+            (Touched::Nothing, _) | (_, Touched::Nothing) => true,
+            (Touched::LockForLook, Touched::LockForLook) => true,
+            (Touched::Lock | Touched::LockForLook, Touched::Lock | Touched::LockForLook) => false,
+            (one, another) => one != another,
         }
     }
 }

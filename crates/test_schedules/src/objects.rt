@@ -6,6 +6,7 @@ use crate::gate::Gate;
 use crate::plays::Kept;
 use crate::scene::Scene;
 use crate::station::Station;
+use crate::told::Told;
 use po_core::{Record, Start, Volume};
 use po_object::{Closed, Object, Pass, Receipts, Story};
 use std::alloc::AllocError;
@@ -14,18 +15,19 @@ use std::sync::{Arc, Wait};
 use std::thread::Threads;
 use std::time::Clock;
 
-/// What is left of an object, and what was cut off from its history.
+/// What is left of an object, what was cut off from its history, and what each thread was told.
 #[derive(Drop)]
 pub(crate) struct Shelf<R: Record<Station>, Q: Receipts<u64>> {
     pub(crate) closed: Closed<Station, R, Q>,
     pub(crate) volumes: Vec<Volume<u64>>,
+    pub(crate) told: Vec<Told>,
 }
 
 /// From where the object of a scene starts.
 pub(crate) fn beginning(scene: Scene) -> Start {
     Start {
         first_number: 1,
-        first_place: 0,
+        first_place: scene.first_place(),
         max_queue: scene.max_queue(),
     }
 }
@@ -54,5 +56,6 @@ pub(crate) fn play_and_close<
     Ok(Some(Shelf {
         closed,
         volumes: left.volumes,
+        told: left.told,
     }))
 }

@@ -13,6 +13,8 @@ pub(crate) struct Places {
     /// Whether a sleep may end once at each seat for no reason.
     may_doze: bool,
     dozed: ThreadSet,
+    /// Whether a pass was handed over that nobody has taken.
+    is_handed_over: bool,
     /// Whether the last sleep had a reason to end.
     was_woken: bool,
 }
@@ -26,6 +28,7 @@ impl Places {
             woken: ThreadSet::new(),
             may_doze,
             dozed: ThreadSet::new(),
+            is_handed_over: false,
             was_woken: true,
         }
     }
@@ -47,6 +50,7 @@ impl Places {
             Next::Take(Step::Change) => !self.is_changed && self.looks == 0,
             Next::Take(Step::Look) => !self.is_changed,
             Next::Take(Step::Sleep(seat)) => self.woken.has(seat as usize),
+            Next::TakeOver => self.is_handed_over,
             _ => true,
         }
     }
@@ -59,8 +63,18 @@ impl Places {
         }
     }
 
+    /// A thread does what it does next.
+    pub(crate) fn go_on(&mut self, next: Next) {
+        match next {
+            Next::Take(step) => self.take(step),
+            Next::HandOver => self.is_handed_over = true,
+            Next::TakeOver => self.is_handed_over = false,
+            Next::Begin | Next::Nothing => {}
+        }
+    }
+
     /// A step is taken.
-    pub(crate) fn take(&mut self, step: Step) {
+    fn take(&mut self, step: Step) {
         match step {
             Step::TryChange | Step::Change => self.is_changed |= self.looks == 0,
             Step::Changed => self.is_changed = false,

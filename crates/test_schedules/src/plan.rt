@@ -11,6 +11,15 @@ pub(crate) enum Kind {
     Recorded,
     /// Its memory is fixed.
     Bounded,
+    /// It keeps its history, and memory for each call and each procedure is refused once.
+    Refused,
+}
+
+impl Kind {
+    /// Whether the scene is played on objects of this kind.
+    pub(crate) fn has(self, scene: Scene) -> bool {
+        self != Kind::Refused || scene.has_refusals()
+    }
 }
 
 impl fmt::Display for Kind {
@@ -18,6 +27,7 @@ impl fmt::Display for Kind {
         f.write_str(match self {
             Kind::Recorded => "recorded",
             Kind::Bounded => "bounded",
+            Kind::Refused => "refused",
         })
     }
 }

@@ -1,30 +1,47 @@
 //! A thread of a scene.
 
+use crate::act::Act;
 use crate::explorer::Explorer;
+use crate::handover::Handover;
+use crate::next::Next;
 use crate::plays::Plays;
 use crate::scene::Scene;
+use crate::told::Told;
 use po_core::Volume;
 use std::alloc::{AllocError, Global};
 use std::sync::{Arc, Wait};
 use std::thread::{self, JoinHandle, Threads};
 
-/// What a thread of a scene has: its number, its pass, and what it cut off from the history.
+/// What a thread of a scene has: its number, its passes, what it cut off from the history, and what it was told.
 #[derive(Drop)]
 pub(crate) struct Player<P: Drop> {
     pub(crate) number: usize,
-    pub(crate) pass: P,
+    /// It calls from the last one.
+    pub(crate) passes: Vec<P>,
     pub(crate) volumes: Vec<Volume<u64>>,
+    pub(crate) told: Told,
+    /// Where it hands a pass over, or takes one.
+    handover: Arc<Handover<P>>,
 }
 
 impl<P: Drop> Player<P> {
-    /// A thread with room for one volume.
-    pub(crate) fn new(alloc: Global, number: usize, pass: P) -> Result<Player<P>, AllocError> {
-        let mut volumes = Vec::new(alloc);
+    /// A thread with room for one volume and for one pass more.
+    pub(crate) fn new(
+        alloc: Global,
+        number: usize,
+        pass: P,
+        handover: Arc<Handover<P>>,
+    ) -> Result<Player<P>, AllocError> {
+        let (mut passes, mut volumes) = (Vec::new(alloc), Vec::new(alloc));
+        passes.reserve(2)?;
+        passes.push(pass)?;
         volumes.reserve(1)?;
         Ok(Player {
             number,
-            pass,
+            passes,
             volumes,
+            told: Told::new(alloc)?,
+            handover,
         })
     }
 
@@ -38,12 +55,42 @@ impl<P: Drop> Player<P> {
     ) -> Player<P> {
         explorer.wait_for_turn(rt, self.number);
         for act in scene.acts(self.number) {
-            if let Some(volume) = object.play(rt, &mut self.pass, *act) {
-                let _kept = self.volumes.push(volume);
-            }
+            self.perform(rt, explorer, object, *act);
         }
         explorer.finish(rt);
         self
+    }
+
+    /// Does what the act says.
+    fn perform<O: Plays<P>, W: Wait>(&mut self, rt: &W, explorer: &Explorer, object: &O, act: Act) {
+        match act {
+            Act::HandOver => self.hand_over(rt, explorer),
+            Act::TakeOver => self.take_over(rt, explorer),
+            _ => self.ask(rt, object, act),
+        }
+    }
+
+    /// Asks the object what the act says.
+    fn ask<O: Plays<P>, W: Wait>(&mut self, rt: &W, object: &O, act: Act) {
+        if let Some(volume) = object.play(rt, self.passes.last_mut(), act, &mut self.told) {
+            let _kept = self.volumes.push(volume);
+        }
+    }
+
+    /// Hands its pass over.
+    fn hand_over<W: Wait>(&mut self, rt: &W, explorer: &Explorer) {
+        explorer.reach(rt, Next::HandOver);
+        if let Some(pass) = self.passes.pop() {
+            self.handover.put(rt, pass);
+        }
+    }
+
+    /// Takes over the pass that another thread hands over, and calls from it from now on.
+    fn take_over<W: Wait>(&mut self, rt: &W, explorer: &Explorer) {
+        explorer.reach(rt, Next::TakeOver);
+        if let Some(pass) = self.handover.take(rt) {
+            let _kept = self.passes.push(pass);
+        }
     }
 }
 

@@ -2,17 +2,25 @@
 
 use crate::act::Act;
 use crate::station::Station;
-use po_core::{Record, Volume};
+use crate::told::{Answer, Told};
+use po_core::{Record, Refusal, Volume};
 use po_object::steps::Steps;
 use po_object::{Object, Pass, Receipts, Story};
 use po_unit::EntryRef;
 use std::sync::Wait;
 use std::sync::ledger::Ledger;
 
-/// An object that the threads of a scene share, each with a pass of this type.
+/// An object that the threads of a scene share, with passes of this type.
 pub(crate) trait Plays<P> {
-    /// Does what the act says, and answers what it cut off from the history, if it cut it.
-    fn play<W: Wait>(&self, rt: &W, pass: &mut P, act: Act) -> Option<Volume<u64>>;
+    /// Does what the act says, if the thread has a pass or needs none, notes what it is told, and answers what it cut off
+    /// from the history, if it cut it.
+    fn play<W: Wait>(
+        &self,
+        rt: &W,
+        pass: Option<&mut P>,
+        act: Act,
+        told: &mut Told,
+    ) -> Option<Volume<u64>>;
 }
 
 /// What an object keeps of what has happened, which is cut where that is its history.
@@ -35,18 +43,22 @@ impl<C: Story<Station, u64>, P: Ledger, F: Ledger, R: Kept, Q: Receipts<u64>, S:
     fn play<W: Wait>(
         &self,
         rt: &W,
-        pass: &mut Pass<u64, C, P, F, Q>,
+        pass: Option<&mut Pass<u64, C, P, F, Q>>,
         act: Act,
+        told: &mut Told,
     ) -> Option<Volume<u64>> {
         if matches!(act, Act::Cut) {
             return R::cut(rt, self);
         }
-        ask(rt, self, pass, act);
+        match pass {
+            Some(pass) if act.needs_pass() => call_again(rt, self, pass, act, told),
+            _ => ask(rt, self, act),
+        }
         None
     }
 }
 
-/// Asks what the act says. The answer is compared with the history in the end, and else of no interest.
+/// Asks what the act says, if that needs no pass. The answer is of no interest.
 fn ask<
     C: Story<Station, u64>,
     P: Ledger,
@@ -55,7 +67,7 @@ fn ask<
     Q: Receipts<u64>,
     S: Steps,
     W: Wait,
->(rt: &W, object: &Object<Station, C, P, F, R, Q, S>, pass: &mut Pass<u64, C, P, F, Q>, act: Act) {
+>(rt: &W, object: &Object<Station, C, P, F, R, Q, S>, act: Act) {
     match act {
         Act::Function => {
             let _reply = object.function(rt, 0, 0);
@@ -72,7 +84,40 @@ fn ask<
         Act::Abort(seat) => {
             let _aborted = object.abort_seat(rt, seat);
         }
-        _ => call(rt, object, pass, act),
+        _ => {}
+    }
+}
+
+/// What a refused call may not change of its pass.
+fn tally_of<C: Story<Station, u64>, P: Ledger, F: Ledger, Q: Receipts<u64>>(
+    pass: &Pass<u64, C, P, F, Q>,
+) -> (u64, u64, bool) {
+    (pass.calls(), pass.procedures(), pass.pending())
+}
+
+/// Makes the call, or runs the procedure, of the act, once more where memory was wanting, and notes what is answered.
+fn call_again<
+    C: Story<Station, u64>,
+    P: Ledger,
+    F: Ledger,
+    R: Record<Station>,
+    Q: Receipts<u64>,
+    S: Steps,
+    W: Wait,
+>(
+    rt: &W,
+    object: &Object<Station, C, P, F, R, Q, S>,
+    pass: &mut Pass<u64, C, P, F, Q>,
+    act: Act,
+    told: &mut Told,
+) {
+    for _ in 0..2 {
+        let before = tally_of(pass);
+        match call(rt, object, pass, act) {
+            Ok(answer) => return told.note(answer),
+            Err(Refusal::OutOfMemory) => told.note_refusal(before == tally_of(pass)),
+            Err(_) => return,
+        }
     }
 }
 
@@ -85,23 +130,29 @@ fn call<
     Q: Receipts<u64>,
     S: Steps,
     W: Wait,
->(rt: &W, object: &Object<Station, C, P, F, R, Q, S>, pass: &mut Pass<u64, C, P, F, Q>, act: Act) {
+>(
+    rt: &W,
+    object: &Object<Station, C, P, F, R, Q, S>,
+    pass: &mut Pass<u64, C, P, F, Q>,
+    act: Act,
+) -> Result<Answer, Refusal> {
     if pass.pending() {
-        return;
+        return Ok(Answer::Nothing);
     }
     match act {
-        Act::Call(entry, value) => {
-            let _end = object.call(rt, pass, single(entry), value);
-        }
+        Act::Call(entry, value) => Ok(Answer::Ended(object.call(rt, pass, single(entry), value)?)),
         Act::Timed(entry, time) => {
-            let _end = object.timed(rt, pass, single(entry), 0, time);
+            let end = object.timed(rt, pass, single(entry), 0, time)?;
+            Ok(Answer::Ended(end))
         }
         Act::Conditional(entry) => {
-            let _end = object.conditional(rt, pass, single(entry), 7);
+            let end = object.conditional(rt, pass, single(entry), 7)?;
+            Ok(Answer::Ended(end))
         }
         Act::Procedure(procedure) => {
-            let _reply = object.procedure(rt, pass, procedure, 0);
+            let reply = object.procedure(rt, pass, procedure, 0)?;
+            Ok(Answer::Replied(reply))
         }
-        _ => {}
+        _ => Ok(Answer::Nothing),
     }
 }

@@ -73,13 +73,18 @@ fn open_and_close<
     play_and_close(rt, explorer, object, passes, scene)
 }
 
-/// Plays the scene in the explorer's next schedule. Says whether all threads came to an end, and every answer is the
-/// history's.
-pub(crate) fn agrees<W: Threads + Wait + Clock + AllocGlobal + Copy + Drop + Send + Sync + 'static>(
+/// Plays the scene in the explorer's next schedule, on an object whose receipts are of this type. Gives what is left of the
+/// object, if all threads came to an end.
+pub(crate) fn open_and_play<
+    Q: Receipts<u64> + Send + Sync + 'static,
+    W: Threads + Wait + Clock + AllocGlobal + Copy + Drop + Send + Sync + 'static,
+>(
     rt: W,
     explorer: &Arc<Explorer>,
     scene: Scene,
-) -> Result<bool, AllocError> {
+) -> Result<Option<Shelf<Recorded<Station>, Q>>, AllocError>
+    requires { Q.is_bounded ≡ false }
+{
     let alloc = rt.alloc();
     let shape = Station::shape(alloc)?;
     let core = Core::start(
@@ -93,7 +98,7 @@ pub(crate) fn agrees<W: Threads + Wait + Clock + AllocGlobal + Copy + Drop + Sen
     let seats = scene.threads();
     let parts = u64::from(seats) + 1;
     let (calls, procedures) = (Blank::new(parts), Blank::new(parts));
-    let shelf = open_and_close::<Brand, Brand, Brand, Recorded<Station>, Vec<Receipt<u64>>, W>(
+    open_and_close::<Brand, Brand, Brand, Recorded<Station>, Q, W>(
         rt,
         explorer,
         core,
@@ -102,10 +107,20 @@ pub(crate) fn agrees<W: Threads + Wait + Clock + AllocGlobal + Copy + Drop + Sen
         procedures,
         Keeper::open(),
         scene,
-    )?;
+    )
+}
+
+/// Plays the scene in the explorer's next schedule. Says whether all threads came to an end, and every answer is the
+/// history's.
+pub(crate) fn agrees<W: Threads + Wait + Clock + AllocGlobal + Copy + Drop + Send + Sync + 'static>(
+    rt: W,
+    explorer: &Arc<Explorer>,
+    scene: Scene,
+) -> Result<bool, AllocError> {
+    let shelf = open_and_play::<Vec<Receipt<u64>>, W>(rt, explorer, scene)?;
     Ok(match shelf {
-        Some(Shelf { closed, volumes }) => {
-            closed.none_pending() && reconcile(&closed, &volumes).is_ok()
+        Some(shelf) => {
+            shelf.closed.none_pending() && reconcile(&shelf.closed, &shelf.volumes).is_ok()
         }
         None => false,
     })

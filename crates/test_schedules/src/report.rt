@@ -7,8 +7,8 @@ use po_object::steps::Step;
 use std::io::{self, Print};
 use std::sync::Wait;
 
-/// What a thread does in a step.
-fn words(step: Step) -> &'static str {
+/// What a thread does in a step of the object.
+fn words_of_step(step: Step) -> &'static str {
     match step {
         Step::TryChange => "tries to take the lock for a change",
         Step::Change => "takes the lock for a change",
@@ -22,16 +22,27 @@ fn words(step: Step) -> &'static str {
     }
 }
 
+/// What a thread does.
+fn words(next: Next) -> &'static str {
+    match next {
+        Next::Begin => "begins",
+        Next::Take(step) => words_of_step(step),
+        Next::HandOver => "hands its pass over",
+        Next::TakeOver => "takes over the pass of another",
+        Next::Nothing => "is at its end",
+    }
+}
+
 /// The seat of a step that is of one.
-fn seat_of(step: Step) -> Option<u16> {
-    match step {
-        Step::Flag(seat) | Step::Sleep(seat) | Step::Wake(seat) => Some(seat),
+fn seat_of(next: Next) -> Option<u16> {
+    match next {
+        Next::Take(Step::Flag(seat) | Step::Sleep(seat) | Step::Wake(seat)) => Some(seat),
         _ => None,
     }
 }
 
 /// Prints a step of a thread.
-fn print_step<W: Print>(rt: &W, thread: usize, verb: &str, step: Step) -> io::Result<()> {
+fn print_step<W: Print>(rt: &W, thread: usize, verb: &str, step: Next) -> io::Result<()> {
     print!(rt; "  thread {thread}{verb} {}", words(step))?;
     match seat_of(step) {
         Some(seat) => println!(rt; " {seat}"),
@@ -66,8 +77,8 @@ pub(crate) fn print_schedule<W: Wait + Print>(
     for thread in 0..usize::from(scene.threads()) {
         match schedule.next(thread) {
             Next::Begin => println!(rt; "  thread {thread} hasn't begun")?,
-            Next::Take(step) => print_step(rt, thread, " is at the step where it", step)?,
             Next::Nothing => {}
+            next => print_step(rt, thread, " is at the step where it", next)?,
         }
     }
     Ok(())

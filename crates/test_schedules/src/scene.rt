@@ -20,6 +20,14 @@ pub(crate) enum Scene {
     Full,
     /// The history is cut beside a call that waits.
     Cut,
+    /// A cut of the history is refused for want of memory, beside a call that waits.
+    Uncut,
+    /// The places of the history are spent: what else is asked for beside a call that waits is refused.
+    Spent,
+    /// A pass whose call waited is handed to who ended the call, and waits again.
+    Hand,
+    /// A pass whose call didn't wait is handed over, and waits.
+    HandAtOnce,
     /// A timed call, one that may serve it, and the clock that comes to its deadline.
     Tick,
     /// Two put, and one gets twice.
@@ -36,6 +44,8 @@ pub(crate) enum Scene {
     AgainAbort,
     /// A barrier faults, and so ends two calls.
     Fault,
+    /// A pass is handed to a third thread, whose call waits while the first one's caller may yet be woken.
+    HandOn,
     /// Five callers whose calls one procedure ends.
     Five,
 }
@@ -68,6 +78,26 @@ const FULL: Script = &[
 ];
 
 const CUT: Script = &[&[Act::Call(GET, 0)], &[Act::Cut, Act::Call(PUT, 1)]];
+
+const UNCUT: Script = &[
+    &[Act::Call(OPEN, 1)],
+    &[Act::Cut, Act::Call(RELEASE, 2), Act::Cut],
+];
+
+const SPENT: Script = &[
+    &[Act::Timed(GET, 5)],
+    &[Act::Procedure(SIGNAL), Act::Tick(5), Act::Finalize],
+];
+
+const HAND: Script = &[
+    &[Act::Call(GET, 0), Act::HandOver, Act::Tick(5)],
+    &[Act::Call(PUT, 1), Act::TakeOver, Act::Timed(GET, 5)],
+];
+
+const HAND_AT_ONCE: Script = &[
+    &[Act::Call(PUT, 1), Act::HandOver, Act::Tick(5)],
+    &[Act::Call(GET, 0), Act::TakeOver, Act::Timed(GET, 5)],
+];
 
 const TICK: Script = &[
     &[Act::Timed(GET, 5)],
@@ -117,6 +147,12 @@ const FAULT: Script = &[
     &[Act::Procedure(SPOIL)],
 ];
 
+const HAND_ON: Script = &[
+    &[Act::Call(GET, 0), Act::HandOver, Act::Tick(5)],
+    &[Act::TakeOver, Act::Timed(GET, 5)],
+    &[Act::Call(PUT, 1)],
+];
+
 const FIVE: Script = &[
     &[Act::Call(PASS, 1)],
     &[Act::Call(PASS, 2)],
@@ -127,7 +163,7 @@ const FIVE: Script = &[
 ];
 
 /// All scenes, those of two threads first.
-pub(crate) const SCENES: [Scene; 16] = [
+pub(crate) const SCENES: [Scene; 21] = [
     Scene::Pair,
     Scene::Twice,
     Scene::Requeue,
@@ -135,6 +171,10 @@ pub(crate) const SCENES: [Scene; 16] = [
     Scene::Again,
     Scene::Full,
     Scene::Cut,
+    Scene::Uncut,
+    Scene::Spent,
+    Scene::Hand,
+    Scene::HandAtOnce,
     Scene::Tick,
     Scene::Three,
     Scene::Final,
@@ -143,6 +183,7 @@ pub(crate) const SCENES: [Scene; 16] = [
     Scene::RequeueTwo,
     Scene::AgainAbort,
     Scene::Fault,
+    Scene::HandOn,
     Scene::Five,
 ];
 
@@ -157,6 +198,10 @@ impl Scene {
             Scene::Again => "again",
             Scene::Full => "full",
             Scene::Cut => "cut",
+            Scene::Uncut => "uncut",
+            Scene::Spent => "spent",
+            Scene::Hand => "hand",
+            Scene::HandAtOnce => "hand_at_once",
             Scene::Tick => "tick",
             Scene::Three => "three",
             Scene::Final => "final",
@@ -165,6 +210,7 @@ impl Scene {
             Scene::RequeueTwo => "requeue_two",
             Scene::AgainAbort => "again_abort",
             Scene::Fault => "fault",
+            Scene::HandOn => "hand_on",
             Scene::Five => "five",
         }
     }
@@ -179,6 +225,10 @@ impl Scene {
             Scene::Again => AGAIN,
             Scene::Full => FULL,
             Scene::Cut => CUT,
+            Scene::Uncut => UNCUT,
+            Scene::Spent => SPENT,
+            Scene::Hand => HAND,
+            Scene::HandAtOnce => HAND_AT_ONCE,
             Scene::Tick => TICK,
             Scene::Three => THREE,
             Scene::Final => FINAL,
@@ -187,6 +237,7 @@ impl Scene {
             Scene::RequeueTwo => REQUEUE_TWO,
             Scene::AgainAbort => AGAIN_ABORT,
             Scene::Fault => FAULT,
+            Scene::HandOn => HAND_ON,
             Scene::Five => FIVE,
         }
     }
@@ -202,7 +253,8 @@ impl Scene {
             | Scene::Readers
             | Scene::RequeueTwo
             | Scene::AgainAbort
-            | Scene::Fault => 3,
+            | Scene::Fault
+            | Scene::HandOn => 3,
             _ => 2,
         }
     }
@@ -212,6 +264,38 @@ impl Scene {
         match self.script().get(thread) {
             Some(acts) => *acts,
             None => &[],
+        }
+    }
+
+    /// How many times a thread asks for a call or for a procedure.
+    pub(crate) fn asks(self, thread: usize) -> usize {
+        self.acts(thread)
+            .iter()
+            .filter(|act| act.needs_pass())
+            .count()
+    }
+
+    /// Whether it is played where memory is refused too.
+    pub(crate) fn has_refusals(self) -> bool {
+        matches!(
+            self,
+            Scene::Pair
+                | Scene::Requeue
+                | Scene::Cancel
+                | Scene::Again
+                | Scene::Tick
+                | Scene::Three
+                | Scene::Abort
+                | Scene::Fault
+        )
+    }
+
+    /// The place of the first event in the history.
+    pub(crate) fn first_place(self) -> u64 {
+        if self == Scene::Spent {
+            u64::MAX - 1
+        } else {
+            0
         }
     }
 

@@ -5,16 +5,15 @@ use crate::next::Next;
 use crate::path::{Bound, MOST_TURNS, Path, next_of};
 use crate::places::Places;
 use crate::threads::{MOST, ThreadSet};
-use po_object::steps::Step;
 use std::alloc::{AllocError, Global};
 
-/// A step that a thread took.
+/// What a thread did.
 #[derive(Clone, Copy)]
 pub(crate) struct Taken {
     /// The thread.
     pub(crate) thread: usize,
     /// What it did.
-    pub(crate) step: Step,
+    pub(crate) step: Next,
 }
 
 /// The schedule that is tried, on the way to it.
@@ -95,9 +94,9 @@ impl Schedule {
         next_of(&self.next, thread)
     }
 
-    /// The thread that goes on comes to a step.
-    pub(crate) fn reach(&mut self, step: Step) {
-        self.set_next(self.current, Next::Take(step));
+    /// The thread that goes on comes to what it does next.
+    pub(crate) fn reach(&mut self, next: Next) {
+        self.set_next(self.current, next);
         self.pass_on(Some(self.current));
     }
 
@@ -132,11 +131,12 @@ impl Schedule {
         }
     }
 
-    /// The thread takes its next step.
+    /// The thread does what it does next.
     fn take(&mut self, thread: usize) {
         self.current = thread;
-        if let Next::Take(step) = next_of(&self.next, thread) {
-            self.places.take(step);
+        let step = next_of(&self.next, thread);
+        if !matches!(step, Next::Begin) {
+            self.places.go_on(step);
             let _noted = self.log.push(Taken { thread, step });
         }
     }

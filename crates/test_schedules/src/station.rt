@@ -254,7 +254,11 @@ impl Unit for Station {
         }
     }
 
+    /// No memory is there for a copy of a station that is open and whose calls on `STAY` wait.
     fn copy(&self) -> Result<Station, AllocError> {
+        if self.is_open && !self.is_released {
+            return Err(AllocError);
+        }
         Ok(Station {
             store: self.store,
             is_full: self.is_full,

@@ -1,7 +1,7 @@
 use Rattle.std.specs.Prelude.{Some}
 use Rattle.po_object.specs.Stories.{ends_by}
 use Rattle.test_schedules.specs.Station.{station_meaning}
-use Rattle.test_schedules.proofs.recorded.agrees.Given as goal
+use Rattle.test_schedules.proofs.recorded.open_and_play.Given as goal
 
 abbrev pub ghosts-open_and_close-C-Ledger : goal.ghosts-open_and_close-C-Ledger
 ghosts-open_and_close-C-Ledger g a = record { name = a.calls.name; parts = a.calls.parts }

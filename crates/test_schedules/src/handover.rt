@@ -1,0 +1,28 @@
+//! Where a pass lies between two threads that call from it, one after the other.
+
+use std::sync::{Mutex, Wait};
+
+/// The pass that one thread hands over to another, until that takes it.
+#[derive(Drop)]
+pub(crate) struct Handover<P: Drop> {
+    pass: Mutex<Option<P>>,
+}
+
+impl<P: Drop> Handover<P> {
+    /// No pass was handed over.
+    pub(crate) fn new() -> Handover<P> {
+        Handover {
+            pass: Mutex::new(None),
+        }
+    }
+
+    /// Hands the pass over.
+    pub(crate) fn put<W: Wait>(&self, rt: &W, pass: P) {
+        *self.pass.lock(rt) = Some(pass);
+    }
+
+    /// Takes the pass over, if there is one.
+    pub(crate) fn take<W: Wait>(&self, rt: &W) -> Option<P> {
+        self.pass.lock(rt).take()
+    }
+}

@@ -1,0 +1,47 @@
+//! What a thread of a scene was told.
+
+use po_core::End;
+use std::alloc::{AllocError, Global};
+
+/// What a thread is told by the object.
+#[derive(Clone, Copy, PartialEq, Eq)]
+pub(crate) enum Answer {
+    /// How its call ended.
+    Ended(End<u64>),
+    /// What its procedure replied.
+    Replied(Result<u64, u32>),
+    /// Nothing.
+    Nothing,
+}
+
+/// All that a thread was told, in that order, and how often memory was wanting.
+#[derive(Drop)]
+pub(crate) struct Told {
+    pub(crate) answers: Vec<Answer>,
+    /// How often memory was wanting, and the pass was as before.
+    pub(crate) refusals: usize,
+}
+
+impl Told {
+    /// Nothing yet, with room for some answers.
+    pub(crate) fn new(alloc: Global) -> Result<Told, AllocError> {
+        let mut answers = Vec::new(alloc);
+        answers.reserve(4)?;
+        Ok(Told {
+            answers,
+            refusals: 0,
+        })
+    }
+
+    /// Notes an answer.
+    pub(crate) fn note(&mut self, answer: Answer) {
+        let _noted = self.answers.push(answer);
+    }
+
+    /// Notes that memory was wanting, and whether the pass is as before.
+    pub(crate) fn note_refusal(&mut self, is_same: bool) {
+        if is_same {
+            self.refusals = self.refusals.saturating_add(1);
+        }
+    }
+}
