@@ -32,16 +32,16 @@ fn answer_to(core: &Core<Station>, event: Event<u64>, seat: u16) -> Option<Answe
 
 /// Whether the seat's caller was told what the history says, and no more.
 fn has_answers(core: &Core<Station>, told: &Told, seat: u16) -> bool {
-    let mut answers = told.answers.iter();
+    let mut given = 0usize;
     for event in core.events() {
         if let Some(answer) = answer_to(core, *event, seat) {
-            match answers.next() {
-                Some(next) if *next == answer => {}
-                _ => return false,
+            if told.answers.get(given).copied() != Some(answer) {
+                return false;
             }
+            given = given.saturating_add(1);
         }
     }
-    answers.next().is_none()
+    given == told.answers.len()
 }
 
 /// Whether all that the thread asked for was refused once, and then answered as the history says.
