@@ -27,7 +27,6 @@ mod sinks;
 mod stage;
 mod team;
 mod threads;
-mod traffic;
 
 use buffers::buffer;
 use scenes::Scene;
@@ -56,7 +55,6 @@ fn main(rt: HostRuntime) -> io::Result<()> {
     cancelled::run(rt)?;
     company::run(rt)?;
     show_both(rt, second_wait::SEATS, Scene::SecondWait)?;
-    show_both(rt, traffic::SEATS, Scene::Traffic)?;
     show_both(rt, cuts::CALLERS, Scene::Cuts)?;
     show_both(rt, 0, Scene::Idle)?;
     show_both(rt, u16::MAX, Scene::Idle)?;

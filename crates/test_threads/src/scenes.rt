@@ -2,9 +2,7 @@
 
 use crate::shared::Shared;
 use crate::stage::Stage;
-use crate::{
-    answers, cancelled, company, cuts, finalized, held_lock, second_wait, side_by_side, traffic,
-};
+use crate::{answers, cancelled, company, cuts, finalized, held_lock, second_wait, side_by_side};
 use po_core::Start;
 use po_unit::Shape;
 use std::io::{self, Print};
@@ -42,8 +40,6 @@ pub(crate) enum Scene {
     Company,
     /// Callers wait a second time.
     SecondWait,
-    /// Values are put and got.
-    Traffic,
     /// What one thread is answered.
     Answers,
     /// Nothing but that the passes are turned around: the highest seat comes first.
@@ -56,7 +52,7 @@ impl Scene {
         match self {
             Scene::SideBySide => 2,
             Scene::Cuts => 9,
-            Scene::Finalized | Scene::SecondWait | Scene::Traffic => 8,
+            Scene::Finalized | Scene::SecondWait => 8,
             _ => 1,
         }
     }
@@ -76,7 +72,6 @@ pub(crate) fn play<
         Scene::Cancelled => cancelled::play(rt, stage),
         Scene::Company => company::play(rt, stage),
         Scene::SecondWait => second_wait::play(rt, stage),
-        Scene::Traffic => traffic::play(rt, stage),
         Scene::Answers => answers::play(&rt, stage),
         Scene::Idle => {
             stage.passes.reverse();

@@ -14,44 +14,10 @@ pub(crate) const LOOKS: u32 = 10_000;
 /// How long it is slept between two of these looks, in milliseconds.
 pub(crate) const PAUSE: u64 = 1;
 
-/// Values that are added up in two ways.
-#[derive(Drop)]
-pub(crate) struct Sums {
-    sum: AtomicU64,
-    exclusive_or: AtomicU64,
-}
-
-impl Sums {
-    /// Those of no value.
-    fn new() -> Sums {
-        Sums {
-            sum: AtomicU64::new(0),
-            exclusive_or: AtomicU64::new(0),
-        }
-    }
-
-    /// Adds a value.
-    pub(crate) fn add(&self, value: u64) {
-        self.sum.fetch_add(value, Ordering::SeqCst);
-        self.exclusive_or.fetch_xor(value, Ordering::SeqCst);
-    }
-
-    /// The sum, and the exclusive or.
-    pub(crate) fn both(&self) -> (u64, u64) {
-        (
-            self.sum.load(Ordering::SeqCst),
-            self.exclusive_or.load(Ordering::SeqCst),
-        )
-    }
-}
-
-/// The line from which threads start together, how many of their calls had the answer that they were to have, and what values
-/// were put and got.
+/// The line from which threads start together, and how many of their calls had the answer that they were to have.
 #[derive(Drop)]
 pub(crate) struct Team {
     pub(crate) line: Barrier,
-    pub(crate) put: Sums,
-    pub(crate) got: Sums,
     answered: AtomicU64,
 }
 
@@ -60,8 +26,6 @@ impl Team {
     pub(crate) fn new(threads: usize) -> Team {
         Team {
             line: Barrier::new(threads),
-            put: Sums::new(),
-            got: Sums::new(),
             answered: AtomicU64::new(0),
         }
     }

@@ -1,6 +1,5 @@
 //! The threads that use an object.
 
-use crate::buffers::{GET, PUT};
 use crate::shared::Shared;
 use crate::team::{LOOKS, PAUSE, Team};
 use po_core::End;
@@ -21,10 +20,6 @@ pub(crate) enum Work {
     Calls(u16, u64),
     /// Calls this single entry once, with this value; the call is to end so.
     Call(u16, u64, End<u64>),
-    /// Puts so many values, from the first one on, and adds up those of the calls that completed.
-    Puts(u64, u64),
-    /// Gets so many values, and adds up what it got.
-    Gets(u64),
     /// Calls the function with this value, which is to give it back.
     Function(u64),
 }
@@ -51,31 +46,6 @@ pub(crate) fn sees_waiting<P, O: Shared<P>, R: Clock>(
     false
 }
 
-/// Puts so many values, from the first one on, and adds up those of the calls that completed.
-fn put_all<P, O: Shared<P>, R: Wait>(
-    rt: &R,
-    object: &O,
-    team: &Team,
-    pass: &mut P,
-    first: u64,
-    calls: u64,
-) {
-    for value in first..first.saturating_add(calls) {
-        if let Some(Ok(End::Completed(_))) = object.enter(rt, pass, single(PUT), value) {
-            team.put.add(value);
-        }
-    }
-}
-
-/// Gets so many values, and adds up what it got.
-fn get_all<P, O: Shared<P>, R: Wait>(rt: &R, object: &O, team: &Team, pass: &mut P, calls: u64) {
-    for _ in 0..calls {
-        if let Some(Ok(End::Completed(value))) = object.enter(rt, pass, single(GET), 0) {
-            team.got.add(value);
-        }
-    }
-}
-
 /// Does the work, counts what was answered as it should be, and gives the pass back.
 fn carry_out<P, O: Shared<P>, R: Wait>(
     rt: &R,
@@ -99,8 +69,6 @@ fn carry_out<P, O: Shared<P>, R: Wait>(
                 team.count();
             }
         }
-        Work::Puts(first, calls) => put_all(rt, object, team, &mut pass, first, calls),
-        Work::Gets(calls) => get_all(rt, object, team, &mut pass, calls),
         Work::Function(value) => {
             if object.ask_function(rt, 0, value) == Ok(Ok(value)) {
                 team.count();
