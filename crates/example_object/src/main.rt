@@ -50,6 +50,9 @@ const GET: EntryRef = EntryRef {
     index: None,
 };
 
+/// The function State of the buffer: how many values it holds.
+const STATE: u16 = 0;
+
 /// A core over an empty buffer, whose calls are numbered from 1.
 fn empty_buffer(alloc: Global) -> Result<Core<Buffer>> {
     let buffer = Buffer::new(alloc, CAPACITY)?;
@@ -182,6 +185,33 @@ fn call_all<
     Ok(())
 }
 
+/// How many values the buffer holds, behind all that these callers have seen.
+fn held<C: Story<Buffer, u64>, P: Ledger, R: Wait>(
+    rt: &R,
+    object: &Object<Buffer, C, P>,
+    passes: &[Pass<u64, C, P>],
+) -> Result<u64> {
+    let mut front = object.front();
+    for pass in passes {
+        front.see(&pass.front());
+    }
+    match object.function_after(rt, &mut front, STATE, 0) {
+        Ok(Ok(held)) => Ok(held),
+        _ => bail!("the buffer is finalized"),
+    }
+}
+
+/// Prints how many values the buffer holds.
+fn print_held<C: Story<Buffer, u64>, P: Ledger, R: Wait + Print>(
+    rt: &R,
+    object: &Object<Buffer, C, P>,
+    passes: &[Pass<u64, C, P>],
+) -> Result<()> {
+    let held = held(rt, object, passes)?;
+    println!(rt; "{held} values are left")?;
+    Ok(())
+}
+
 /// How many calls completed and how many were cancelled, as their callers were told.
 fn answers(closed: &Closed<Buffer>) -> (u64, u64) {
     let mut completed = 0u64;
@@ -222,7 +252,7 @@ fn close<C: Story<Buffer, u64>, P: Ledger>(
 fn use_object<
     C: Story<Buffer, u64> + Send + Sync + 'static,
     P: Ledger + Send + Sync + 'static,
-    R: Threads + Wait + Clock + AllocGlobal + Copy + Send + 'static,
+    R: Threads + Wait + Clock + Print + AllocGlobal + Copy + Send + 'static,
 >(
     rt: R,
     core: Core<Buffer>,
@@ -240,6 +270,7 @@ fn use_object<
     let (object, mut passes) = opened?;
     let object = Arc::new(rt.alloc(), object)?;
     call_all(rt, &object, &mut passes)?;
+    print_held(&rt, &object, &passes)?;
     close(object, passes)
 }
 

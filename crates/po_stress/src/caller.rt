@@ -6,7 +6,7 @@ ghost use Rattle.po_stress.specs.Ends.{AreEndsOf, all_of};
 
 use crate::ends::Ends;
 use crate::loaded::Loaded;
-use po_core::{Record, Refusal};
+use po_core::{End, Record, Refusal};
 use po_object::{CallLedger, Object, Pass, Receipts, Story};
 use po_unit::{EntryRef, Unit};
 use std::marker::Model;
@@ -92,11 +92,11 @@ impl<
         caller: &mut Caller<C, P, F, Q>,
         entry: EntryRef,
         value: u64,
-    ) -> Result<(), Refusal> {
+    ) -> Result<End<u64>, Refusal> {
         let end = self.call(rt, &mut caller.pass, entry, value)?;
         recall_room(&caller.pass);
         caller.ends.count(end);
-        Ok(())
+        Ok(end)
     }
 
     fn enter_before<W: Wait>(

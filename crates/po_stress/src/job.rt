@@ -1,9 +1,10 @@
 //! What the threads of a run do.
 
+use crate::balance::Balance;
 use crate::loaded::Loaded;
 use crate::progress::Progress;
 use crate::unit::StressUnit;
-use po_core::Refusal;
+use po_core::{End, Refusal};
 use po_unit::EntryRef;
 use std::sync::Wait;
 
@@ -32,7 +33,7 @@ pub(crate) struct Job {
 impl Job {
     /// The entry that a seat of a buffer calls, and the value of its call with this number, counted from 0.
     fn exchange(self, seat: u16, j: u32) -> (EntryRef, u64) {
-        if seat % 2 == 0 {
+        if is_putting(seat) {
             (
                 FIRST,
                 u64::from(seat) * u64::from(self.calls) + u64::from(j),
@@ -41,6 +42,30 @@ impl Job {
             (GET, 0)
         }
     }
+}
+
+/// Whether the seat of a buffer puts values. The others get them.
+fn is_putting(seat: u16) -> bool {
+    seat % 2 == 0
+}
+
+/// Puts a value, or gets one, as the seat does, and adds it up.
+fn exchange_once<O: Loaded, W: Wait>(
+    rt: &W,
+    object: &O,
+    caller: &mut O::Caller,
+    balance: &mut Balance,
+    job: Job,
+    j: u32,
+) -> Result<(), Refusal> {
+    let seat = O::seat_of(caller);
+    let (entry, value) = job.exchange(seat, j);
+    match object.enter(rt, caller, entry, value)? {
+        End::Completed(_) if is_putting(seat) => balance.put(value),
+        End::Completed(got) => balance.get(got),
+        _ => {}
+    }
+    Ok(())
 }
 
 /// How many pieces a seat's call with this number, counted from 0, asks an allocator for: 1 to 3.
@@ -53,21 +78,22 @@ fn call_once<O: Loaded, W: Wait>(
     rt: &W,
     object: &O,
     caller: &mut O::Caller,
+    balance: &mut Balance,
     job: Job,
     j: u32,
 ) -> Result<(), Refusal> {
     let seat = O::seat_of(caller);
     match job.unit {
-        StressUnit::Buffer => {
-            let (entry, value) = job.exchange(seat, j);
-            object.enter(rt, caller, entry, value)
-        }
+        StressUnit::Buffer => exchange_once(rt, object, caller, balance, job, j),
         StressUnit::Allocator => {
             let many = pieces(seat, j);
-            object.enter(rt, caller, FIRST, many)?;
+            let _end = object.enter(rt, caller, FIRST, many)?;
             object.run_procedure(rt, caller, RELEASE, many)
         }
-        StressUnit::Meeting => object.enter(rt, caller, FIRST, u64::from(j)),
+        StressUnit::Meeting => {
+            let _end = object.enter(rt, caller, FIRST, u64::from(j))?;
+            Ok(())
+        }
         StressUnit::Race => {
             let (entry, value) = job.exchange(seat, j);
             object.enter_before(rt, caller, entry, value, u64::from(j) + 1)
@@ -97,13 +123,15 @@ pub(crate) fn call_all<O: Loaded, W: Wait>(
     mut caller: O::Caller,
     job: Job,
 ) -> O::Caller {
+    let mut balance = Balance::new();
     for j in 0..job.calls {
-        if let Err(refusal) = call_once(rt, object, &mut caller, job, j) {
+        if let Err(refusal) = call_once(rt, object, &mut caller, &mut balance, job, j) {
             give_up(rt, object, progress, refusal);
             break;
         }
         progress.count();
     }
+    progress.add(balance);
     caller
 }
 

@@ -2,6 +2,7 @@
 //! history.
 #![tactic(auto)]
 
+mod balance;
 mod caller;
 mod counting;
 mod ends;

@@ -1,6 +1,6 @@
 //! What the threads of a run need of an object.
 
-use po_core::Refusal;
+use po_core::{End, Refusal};
 use po_unit::EntryRef;
 use std::sync::Wait;
 
@@ -22,7 +22,7 @@ pub(crate) trait Loaded {
         caller: &mut Self::Caller,
         entry: EntryRef,
         value: u64,
-    ) -> Result<(), Refusal>;
+    ) -> Result<End<u64>, Refusal>;
 
     /// Calls an entry, and gives the call up where it isn't selected before the deadline (9.7.2).
     fn enter_before<W: Wait>(

@@ -14,6 +14,9 @@ use std::io::{self, BufWriter, Eprint, Print, Write};
 use std::sync::{Arc, Wait};
 use std::thread::Threads;
 
+/// The status where what was got isn't what was put.
+const UNBALANCED: u8 = 3;
+
 /// What a run is asked to do.
 #[derive(Clone, Copy)]
 pub(crate) struct Load {
@@ -76,6 +79,15 @@ fn carry_out<R: Threads + Wait + AllocGlobal + Copy + Send + 'static>(
     }
 }
 
+/// The status, if the callers got what was put. Else standard error says so.
+fn balanced<R: Eprint>(rt: &R, progress: &Progress, status: u8) -> u8 {
+    if progress.is_balanced() {
+        return status;
+    }
+    let _told = eprintln!(rt; "pobj: what the threads got isn't what they put");
+    UNBALANCED
+}
+
 /// Carries the run out, writes its line, and gives the status. On a terminal it shows meanwhile how far the run has come.
 pub(crate) fn run<R: Print + Eprint + Threads + Wait + AllocGlobal + Copy + Send + 'static>(
     rt: R,
@@ -95,7 +107,7 @@ pub(crate) fn run<R: Print + Eprint + Threads + Wait + AllocGlobal + Copy + Send
         watch.stop(&rt);
     }
     match told {
-        Ok(told) => Ok(write(&rt, &told)?),
+        Ok(told) => Ok(balanced(&rt, &progress, write(&rt, &told)?)),
         Err(StressFault::OutOfMemory) => Err(Fault::Run(RunFault::Memory)),
         Err(fault) => {
             let reason = format!(in rt.alloc(); "{fault}")?;
