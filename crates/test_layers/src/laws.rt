@@ -29,7 +29,8 @@ fn fill<U: Unit<Value = u64>>(core: &mut Core<U>, calls: &[(u16, u64)]) -> Resul
     requires { AreVolumes U.meaning core.old.object [] }
     ensures { OnOk result (AreVolumes U.meaning core.new.object []) }
 {
-    issue_all(core, calls)
+    issue_all(core, calls)?;
+    Ok(())
 }
 
 #[test]
