@@ -40,7 +40,6 @@ LOOK_THEN_SET = """        if self.flag.load(Ordering::SeqCst) == ENDED {
 """
 
 ISSUE = """        pass.receipts.make_room()?;
-        self.core.headline();
         self.reservations.audit(&mut pass.reservation);
         let idle = self.latest.is_idle(&self.core, pass.seat);
         let before = Snapshot::of(&self.core);
