@@ -1,6 +1,6 @@
 //! An object that threads share: its core behind a lock, and where the callers of its seats wait.
 
-ghost use Rattle.std.specs.Prelude.{◌≡◌, ◌+◌, ◌≤◌, ◌⊎◌, List, [], None, Some, IfOk, IfErr, IfSome, OnOk, OnErr, IsSome, find, unwrap_or};
+ghost use Rattle.std.specs.Prelude.{◌≡◌, ◌+◌, ◌≤◌, ◌⊎◌, List, [], None, Some, IfOk, IfErr, IfSome, IfNone, OnOk, OnErr, IsSome, find, unwrap_or};
 ghost use Rattle.po_unit.specs.Numbering.{flat_number};
 ghost use Rattle.po_calls.specs.declared.call.Deadline.TheVariants.{Never, At};
 ghost use Rattle.po_history.specs.declared.event.Event.{Event};
@@ -424,6 +424,9 @@ impl<
             IsCountAt U.meaning setup (entry_of C.shape entry) n front.old front.new) C.setup)) }
         ensures allowed { IfOk result (λ count. IsSome count → if_unindexed (flat_number C.shape entry) None ≡ None) }
         ensures refused { IfErr result (λ r. if_unindexed (flat_number C.shape entry) None ≡ Some r) }
+        // It sees no more where nothing is counted.
+        ensures none { IfOk result (λ count. IfNone count (front.new ≡ front.old)) }
+        ensures unchanged { OnErr result (front.new ≡ front.old) }
     {
         match self.try_look() {
             Some(taken) => taken.locked.count(front, entry),
