@@ -9,17 +9,19 @@
 
    Threads call its entries, and an entry call waits while its barrier is closed. A mutex guards the object. Whoever holds it
    carries out all that has become possible, the bodies of other callers too, and behind the unlock it wakes exactly the
-   callers whose calls have ended. Each caller that waits has a condition variable of its own. No function here locks a mutex
-   while it holds another.
+   callers whose calls have ended. Each caller that waits has a condition variable of its own.
 
    Barriers, bodies, procedures and functions run under the mutex, in whichever thread carries them out. They end by their
    return alone: not by longjmp, an exception of C++ or the cancellation of their thread. They make no entry call, which is
-   potentially blocking (9.5.1). They may call procedures and functions of other objects, as long as locks are always taken in
-   the same order. An operation on the object itself is refused there, and pobj_entry_count may be asked everywhere. There are
-   no priorities and no ceilings (D.3). pthread_cancel doesn't end a call that waits: pobj_abort does.
+   potentially blocking (9.5.1). An operation on the object itself is refused there, but pobj_entry_count may be asked. There
+   are no priorities and no ceilings (D.3). pthread_cancel doesn't end a call that waits: pobj_abort does.
 
-   This is a header alone, of C11 or C++17, for POSIX.1-2008. Under -std=c11, define _POSIX_C_SOURCE as 200809L before the
-   first header. Names that begin with pobj_threads_ aren't for programs. */
+   A barrier reads its own object alone. Bodies, procedures and functions may also run procedures and functions of other
+   objects, and ask for counts there, as long as all threads lock objects in the same order. A requeue to another object
+   counts in this order: whoever carries it out locks that object, inside all objects that it is in.
+
+   This is a header alone, of C11 or C++17 with the atomics of GCC and Clang, for POSIX.1-2008. Under -std=c11, define
+   _POSIX_C_SOURCE as 200809L before the first header. Names that begin with pobj_threads_ aren't for programs. */
 #ifndef POBJ_THREADS_H
 #define POBJ_THREADS_H
 
@@ -32,7 +34,7 @@
 #include <stdlib.h>
 #include <time.h>
 
-#ifndef CLOCK_MONOTONIC
+#if !defined CLOCK_MONOTONIC || (defined _POSIX_C_SOURCE && _POSIX_C_SOURCE < 200809L)
 #error "pobj_threads.h is for POSIX.1-2008: define _POSIX_C_SOURCE as 200809L before the first header"
 #endif
 
@@ -45,10 +47,12 @@ typedef enum {
     POBJ_CALL_ERROR,         /* a body completed it by an error, whose number is in the call's record */
     POBJ_CALL_ABORTED,       /* it is cancelled by pobj_abort (9.5.3, 9.8) */
     POBJ_CALL_EXPIRED,       /* it is cancelled: its time has come, or it is conditional and would wait (9.7.2, 9.7.3) */
-    POBJ_CALL_PROGRAM_ERROR, /* the object is finalized (9.4), a barrier raised (9.5.3), or the queue was full (D.7) */
+    POBJ_CALL_PROGRAM_ERROR, /* the object is finalized (9.4), a barrier raised (9.5.3), another call's body answered
+                                POBJ_FAILED, or the queue was full (D.7) */
     POBJ_CALL_NO_MEMORY,     /* there was no memory to accept or to queue it; unless it was requeued, nothing has changed */
-    POBJ_CALL_MISUSE         /* no such entry or time, a record that is in use, a thread that is inside the object, or a body that
-                                answered none of its numbers */
+    POBJ_CALL_MISUSE         /* no such entry or time; a record that is in use; a thread that is inside the object, be it one
+                                that carries out a requeue to it; a body that answered none of its numbers, or one of another
+                                requeue than its last */
 } pobj_outcome;
 
 /* An entry (9.5.2). */
@@ -72,13 +76,15 @@ struct pobj_protected {
     pthread_mutex_t mutex;
 };
 
-/* The record of a call, which begins as {0}. A thread may use one for all of its calls, one after the other. It needs one only
-   to be told the number of an error, or to be aborted. A body reads the first four parts; the rest isn't for programs. */
+/* The record of a call, which begins as {0}, in C++ as {}. A thread may use one for all of its calls, one after the other. It
+   needs one only to be told the number of an error, or to be aborted. A body reads the first four parts; the rest isn't for
+   programs. */
 struct pobj_call {
-    pobj_protected *object;   /* that the call is on; NULL: none is under way */
+    pobj_protected *object;   /* that the call is on; NULL: none, or it has ended */
     uint64_t entry;           /* whose body runs */
     void *parameters;         /* what the caller passed */
     int error;                /* where the call ended by POBJ_CALL_ERROR: its number */
+    bool in_use;              /* from the beginning of a call until its thread goes on */
     bool aborted;
     bool due;                 /* it is conditional, or its time has come */
     bool without_abort;       /* its last requeue was without abort */
@@ -133,7 +139,8 @@ static inline int pobj_requeue_with_abort(pobj_call *call, uint64_t entry) {
 }
 
 /* Requeues the call without abort to an entry of another object. It is issued there as soon as this protected action is over
-   and its lock is left (9.5.4); its caller sleeps on. Required is that the object isn't destroyed before that. */
+   and its lock is left (9.5.4); its caller sleeps on. If that thread is inside the other object, as in a procedure of it, the
+   call ends by POBJ_CALL_MISUSE. Whoever destroys the other object joins the threads that can come there so before. */
 static inline int pobj_requeue_elsewhere(pobj_call *call, pobj_protected *object, uint64_t entry) {
     return pobj_threads_target(call, object, entry, POBJ_REQUEUED_ELSEWHERE, true);
 }
@@ -144,7 +151,7 @@ static inline int pobj_requeue_elsewhere_with_abort(pobj_call *call, pobj_protec
 }
 
 /* What carries out the calls. A call's record is guarded by the mutex of the object that the call is on, but for what is said
-   otherwise of a part; while a call is on its way to another object, it is of the thread that takes it there. */
+   otherwise of a part. A call that is requeued to another object is on that one from then on. */
 
 typedef struct {
     pobj_call *first, *last;
@@ -287,7 +294,7 @@ static inline uint64_t pobj_threads_move(pobj_threads_action *action, pobj_call 
 
 /* The body has requeued its call. */
 static inline uint64_t pobj_threads_requeue(pobj_threads_action *action, pobj_call *call, int how) {
-    if (call->target_entry >= call->target->number)
+    if (call->target_entry >= call->target->number || (how != POBJ_REQUEUED_ELSEWHERE && call->target != action->object))
         return pobj_threads_complete(action, call, POBJ_COMPLETED, POBJ_CALL_MISUSE);
     if (!pobj_threads_can_wait(call))
         return pobj_threads_complete(action, call, POBJ_COMPLETED, POBJ_CALL_NO_MEMORY);
@@ -482,8 +489,10 @@ static inline pobj_outcome pobj_threads_make(
 /* Takes the record for a call. False: it is in use. Either an abort finds the call then, or the call sees the abort: one
    writes where the call is and then reads whether it is aborted, the other in reverse, and all that in one order. */
 static inline bool pobj_threads_claim(pobj_call *call, pobj_protected *object) {
-    pobj_protected *none = NULL;
-    return __atomic_compare_exchange_n(&call->object, &none, object, false, __ATOMIC_SEQ_CST, __ATOMIC_SEQ_CST);
+    if (__atomic_exchange_n(&call->in_use, true, __ATOMIC_ACQUIRE))
+        return false;
+    __atomic_store_n(&call->object, object, __ATOMIC_SEQ_CST);
+    return true;
 }
 
 static inline pobj_outcome pobj_threads_call(
@@ -503,7 +512,9 @@ static inline pobj_outcome pobj_threads_call(
     call->due = due;
     call->without_abort = false;
     call->can_wait = false;
-    return pobj_threads_make(object, entry, call, until);
+    pobj_outcome outcome = pobj_threads_make(object, entry, call, until);
+    __atomic_store_n(&call->in_use, false, __ATOMIC_RELEASE);
+    return outcome;
 }
 
 static inline bool pobj_threads_make_mutex(pthread_mutex_t *mutex) {
@@ -557,8 +568,8 @@ static inline bool pobj_protected_limit(pobj_protected *object, uint64_t entry, 
     return is_set;
 }
 
-/* Finalizes the object: each queued call ends by POBJ_CALL_PROGRAM_ERROR, and each later operation is answered so (9.4).
-   False: this thread is inside the object. */
+/* Finalizes the object: each queued call ends by POBJ_CALL_PROGRAM_ERROR, and so does each later call, procedure and
+   function (9.4). False: this thread is inside the object. */
 static inline bool pobj_protected_finalize(pobj_protected *object) {
     pobj_threads_action action = pobj_threads_action_of(NULL);
     if (!pobj_threads_enter(&action, object))
@@ -572,14 +583,15 @@ static inline bool pobj_protected_finalize(pobj_protected *object) {
 }
 
 /* Frees what the object takes. Required is that no thread is in an operation on it, or comes to one: so finalize it, and join
-   the threads that call it or abort calls on it. */
+   the threads that call it, whose calls are requeued to it, that carry out such a requeue, or that abort such calls. */
 static inline void pobj_protected_destroy(pobj_protected *object) {
     pobj_free(&object->calls);
     pthread_mutex_destroy(&object->mutex);
 }
 
-/* How many calls are queued on the entry ('Count, 9.9); 0 where there is no such entry. It may be asked everywhere: in
-   barriers, bodies, procedures and functions it holds while they run, and elsewhere it may have changed when it is read. */
+/* How many calls are queued on the entry ('Count, 9.9); 0 where there is no such entry. In the object's own barriers, bodies,
+   procedures and functions it holds while they run. Elsewhere it may have changed when it is read, and the object is locked
+   for it. */
 static inline uint64_t pobj_entry_count(pobj_protected *object, uint64_t entry) {
     bool is_outside = pthread_mutex_lock(&object->mutex) == 0;
     uint64_t count = pobj_count(&object->calls, entry);
@@ -596,8 +608,8 @@ static inline pobj_outcome pobj_entry_call(pobj_protected *object, uint64_t entr
     return pobj_threads_call(object, entry, parameters, false, NULL, record);
 }
 
-/* A conditional entry call: it ends by POBJ_CALL_EXPIRED where it would wait (9.7.3). It waits only where a body requeued it
-   without abort (9.5.4). */
+/* A conditional entry call: it ends by POBJ_CALL_EXPIRED where it would wait (9.7.3), unless the queue is full (D.7). It waits
+   only where a body requeued it without abort (9.5.4). */
 static inline pobj_outcome pobj_conditional_call(pobj_protected *object, uint64_t entry, void *parameters, pobj_call *record) {
     return pobj_threads_call(object, entry, parameters, true, NULL, record);
 }

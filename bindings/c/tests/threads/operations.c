@@ -22,6 +22,7 @@ enum {
     MOVE_WITH_ABORT,
     LOSE,
     LOSE_ELSEWHERE,
+    MIX,
     BABBLE,
     ENTRIES
 };
@@ -84,6 +85,14 @@ static int lose_elsewhere(pobj_call *call) {
     return pobj_requeue_elsewhere(call, gate->other, UINT64_MAX);
 }
 
+/* Answers what one requeue told, after another one. */
+static int mix(pobj_call *call) {
+    const struct gate *gate = pobj_data(call);
+    int how = pobj_requeue(call, PASS);
+    pobj_requeue_elsewhere(call, gate->other, PASS);
+    return how;
+}
+
 static int babble(pobj_call *call) {
     return (int)call->entry + 1000;
 }
@@ -100,6 +109,7 @@ static const pobj_entry entries[ENTRIES] = {
     {"move with abort", NULL, move_with_abort},
     {"lose", NULL, lose},
     {"lose elsewhere", NULL, lose_elsewhere},
+    {"mix", NULL, mix},
     {"babble", NULL, babble},
 };
 
@@ -208,7 +218,8 @@ static void outcomes(void) {
     CHECK(pobj_timed_call(a, PASS, &count, &wrong, NULL) == POBJ_CALL_MISUSE);
     CHECK(pobj_timed_call(a, PASS, &count, NULL, NULL) == POBJ_CALL_MISUSE && count == 3);
     CHECK(try_call(a, LOSE, untimed) == POBJ_CALL_MISUSE && try_call(a, LOSE_ELSEWHERE, untimed) == POBJ_CALL_MISUSE);
-    CHECK(try_call(a, BABBLE, untimed) == POBJ_CALL_MISUSE && try_call(a, PASS, untimed) == POBJ_CALL_COMPLETED);
+    CHECK(try_call(a, BABBLE, untimed) == POBJ_CALL_MISUSE && try_call(a, MIX, untimed) == POBJ_CALL_MISUSE);
+    CHECK(try_call(a, PASS, untimed) == POBJ_CALL_COMPLETED);
     CHECK(!pobj_protected_limit(a, ENTRIES, 1) && pobj_entry_count(a, ENTRIES) == 0);
     finish();
     CHECK(!pobj_protected_make(a, NULL, entries, 65536) && !pobj_protected_make_fixed(a, NULL, entries, 65536, 1));
@@ -240,12 +251,51 @@ static void misuse(void) {
     finish();
 }
 
+/* A call that has ended, but whose thread isn't woken yet: its record is still in use. The lock is kept by a body meanwhile. */
+static pthread_mutex_t kept = PTHREAD_MUTEX_INITIALIZER;
+
+static int keep(pobj_call *call) {
+    int *count = call->parameters;
+    ++*count;
+    pthread_mutex_lock(&kept);
+    pthread_mutex_unlock(&kept);
+    return POBJ_COMPLETED;
+}
+
+static void *open_all(void *object) {
+    let_pass(object, POBJ_OPEN);
+    return NULL;
+}
+
+static void ended_in_use(void) {
+    static const pobj_entry two[] = {{"pass", passes, pass}, {"keep", passes, keep}};
+    struct gate gate = {POBJ_CLOSED, POBJ_CLOSED, b};
+    struct caller callers[2];
+    pthread_t opener;
+    begin();
+    pobj_protected_destroy(a);
+    CHECK(pobj_protected_make(a, &gate, two, 2));
+    start_waiting(&callers[0], a, 0, untimed, a, 0);
+    start_waiting(&callers[1], a, 1, untimed, a, 1);
+    pthread_mutex_lock(&kept);
+    start(&opener, open_all, a);
+    while (__atomic_load_n(&callers[0].record.object, __ATOMIC_ACQUIRE) != NULL)
+        pause_for(100000);
+    CHECK(pobj_entry_call(b, RAISE, NULL, &callers[0].record) == POBJ_CALL_MISUSE);
+    pthread_mutex_unlock(&kept);
+    pthread_join(opener, NULL);
+    CHECK(has_passed(&callers[0]) && has_passed(&callers[1]));
+    finish();
+}
+
 /* Program_Error by a barrier, a body that fails, a full queue. */
 static void program_errors(void) {
     struct caller callers[2];
     begin();
     start_waiting(&callers[0], a, PASS, untimed, a, PASS);
     CHECK(pobj_protected_limit(a, PASS, 1) && try_call(a, PASS, untimed) == POBJ_CALL_PROGRAM_ERROR);
+    CHECK(try_call(a, PASS, conditional) == POBJ_CALL_PROGRAM_ERROR);
+    CHECK(try_call(a, PASS, short_time) == POBJ_CALL_PROGRAM_ERROR);
     start_waiting(&callers[1], a, HOLD, untimed, a, HOLD);
     let_pass(a, POBJ_RAISED);
     CHECK(outcome_of(&callers[0]) == POBJ_CALL_PROGRAM_ERROR && outcome_of(&callers[1]) == POBJ_CALL_PROGRAM_ERROR);
@@ -451,6 +501,7 @@ static void sleepers(void) {
 void test_operations(void) {
     outcomes();
     misuse();
+    ended_in_use();
     program_errors();
     times();
     aborts();
