@@ -148,12 +148,13 @@ State = ObjectState ReadersWritersState ℕ
 abbrev many : Bool → State → State → ℕ
 many is_here s t = length (if is_here then values_between s t else [])
 
+none_completes : (s t : State) → Idles s t → (is_here : Bool) → many is_here s t ≡ 0
+none_completes s t idles true = rw idles.values refl
+none_completes s t idles false = refl
+
 -- nobody goes in where no body runs
 idles_moves : (s t : State) → Idles s t → (a b : Bool) → Moves s.unit t.unit (many a s t) 0 (many b s t) 0
-idles_moves s t idles true true = rw idles.values (moves_nothing s.unit t.unit idles.unit)
-idles_moves s t idles true false = rw idles.values (moves_nothing s.unit t.unit idles.unit)
-idles_moves s t idles false true = rw idles.values (moves_nothing s.unit t.unit idles.unit)
-idles_moves s t idles false false = moves_nothing s.unit t.unit idles.unit
+idles_moves s t idles a b = rw (none_completes s t idles a, none_completes s t idles b) (moves_nothing s.unit t.unit idles.unit)
 
 runs_moves : (s t : State) (e v turns : ℕ) → Runs readers_writers_meaning s t e v → e < 3
     → readers_writers_barrier s.unit e turns ≡ true

@@ -62,6 +62,17 @@ module _ {S V : Type 0} (m : Meaning S V) (made : Option (Setup S)) (view : View
   read-refused-by op (Ok reply) refused = tt
   read-refused-by op (Err why) refused = read-refused op why refused
 
+  -- both to one that has seen nothing before, by some history
+  pub first-given : (op : ℕ) (value : V) (r : Result (Result V ℕ) Refusal) → IfOk r (λ reply. reply ≡ m.function view.state.unit op value (counts_in m view.state)) → OnOk r (op < m.functions view.state.unit)
+      → IfOk r (λ reply. (l : List (Event V)) × IsFound (λ setup. IsReadAt m setup op value reply seen l) made)
+  first-given op value (Ok reply) at has = (after, read-given op value (Ok reply) at has)
+  first-given op value (Err why) at has = tt
+
+  pub first-refused : (op : ℕ) (r : Result (Result V ℕ) Refusal) → MatchResult r (λ _. read_refusal m view op ≡ None) (λ why. read_refusal m view op ≡ Some why)
+      → IfErr r (λ why. (l : List (Event V)) × IsFound (λ setup. HoldsAt m setup (λ v. read_refusal m v op ≡ Some why) seen l) made)
+  first-refused op (Ok reply) refused = tt
+  first-refused op (Err why) refused = (after, read-refused op why refused)
+
   -- a finalization
   pub final-refused : (r : Refusal) → finalized_refusal view ≡ Some r → IsFound (λ setup. HoldsAt m setup (λ v. finalized_refusal v ≡ Some r) seen after) made
   final-refused r refused =

@@ -477,6 +477,22 @@ impl<
         Some(read_now(&self.core, op, value))
     }
 
+    /// As `read`, by one that has seen nothing of the object before.
+    ///
+    /// Refused as `NoSuchOperation` and `Finalized`.
+    pub fn read_first(&self, op: u16, value: U::Value) -> Result<Result<U::Value, u32>, Refusal>
+        ensures read { IfOk result (λ reply. (log : List (Event U.Value))
+            × IsFound (λ setup. IsReadAt U.meaning setup op value reply [] log) C.setup) }
+        ensures refused { MatchResult result
+            (λ _. read_refusal U.meaning self.now.object op ≡ None)
+            (λ why. read_refusal U.meaning self.now.object op ≡ Some why) }
+        ensures refused_at { IfErr result (λ why. (log : List (Event U.Value))
+            × IsFound (λ setup. HoldsAt U.meaning setup (λ view. read_refusal U.meaning view op ≡ Some why) [] log) C.setup) }
+    {
+        self.core.headline();
+        read_now(&self.core, op, value)
+    }
+
     /// As `read`, by one that has the object alone, and so can tell that the front hasn't seen more.
     pub fn read_alone(
         &mut self,

@@ -267,8 +267,7 @@ impl<
         ensures refused_at { IfErr result (λ r. (log : List (Event U.Value))
             × IsFound (λ setup. HoldsAt U.meaning setup (λ view. read_refusal U.meaning view op ≡ Some r) [] log) C.setup) }
     {
-        let mut front = self.front();
-        self.function_after(rt, &mut front, op, value)
+        self.look(rt).locked.read_first(op, value)
     }
 
     /// As `function`, behind all that the front has seen. What it then sees is the history up to the reply or the refusal.
