@@ -19,6 +19,13 @@ package body System.Tasking.Protected_Objects.Actions is
    use Queues;
    use type Pobj.Word;
 
+   Locking_Policy : constant Character;
+   pragma Import (C, Locking_Policy, "__gl_locking_policy");
+
+   procedure Synchronize;
+   pragma Import (Intrinsic, Synchronize, "__sync_synchronize");
+   --  What this task wrote before is seen before it reads on
+
    --  A queued call keeps its ticket in Prev, the key, and Next, the number:
    --  that is never 0, so Next isn't null while the call is queued, as GNARL
    --  has it.
@@ -49,7 +56,8 @@ package body System.Tasking.Protected_Objects.Actions is
 
    function Attempted (Call : Entry_Call_Link) return Word;
    pragma Inline (Attempted);
-   --  The mark of a call for the cancellation that was attempted, if any
+   --  The mark of a call for the cancellation that was attempted, if any. A
+   --  call that is made while aborts are deferred isn't cancelled by one.
 
    function Marks_Of (Call : Entry_Call_Link) return Word;
    pragma Inline (Marks_Of);
@@ -79,7 +87,9 @@ package body System.Tasking.Protected_Objects.Actions is
       State   : Entry_Call_State);
    --  Ends the call of this task, and that of another one once the object's
    --  lock is given up. Until then its caller waits, whatever comes: the call
-   --  isn't queued, and hasn't ended.
+   --  isn't queued, and hasn't ended. Under Ceiling_Locking (D.3) the caller
+   --  is woken at once: else this task, which leaves the ceiling with the
+   --  lock, could be preempted before it wakes a more urgent one.
 
    procedure Raise_In_Caller (Call : Entry_Call_Link; Why : Exception_Id);
    --  The call ends by an exception of the runtime's own, without a message
@@ -96,6 +106,11 @@ package body System.Tasking.Protected_Objects.Actions is
    --  The call can be cancelled from now on. An abort may have come before,
    --  and the abortable part of an asynchronous select begins now (9.7.4):
    --  its caller looks again.
+
+   function Own_Raises (Self_ID : Task_Id) return Boolean;
+   pragma Inline (Own_Raises);
+   --  Whether this task's own call has ended by an exception. The task has
+   --  its occurrence, which bodies and barriers must not replace.
 
    function Is_Run
      (Object : Protection_Entries_Access;
@@ -128,6 +143,13 @@ package body System.Tasking.Protected_Objects.Actions is
    --  Runs the body of the entry, tells the engine how it ended, and gives
    --  the next answer.
 
+   function Next_Answer
+     (Self_ID : Task_Id;
+      Object  : Protection_Entries_Access;
+      Answer  : Word;
+      Told    : in out Step) return Word;
+   --  Does what the engine says, and gives the next answer
+
    procedure Carry_Out_Beside
      (Self_ID : Task_Id;
       Object  : Protection_Entries_Access;
@@ -146,7 +168,15 @@ package body System.Tasking.Protected_Objects.Actions is
 
    procedure Issue_To_Task (Self_ID : Task_Id; Call : Entry_Call_Link);
    --  A call that was requeued to a task arrives there. Where that task has
-   --  come to its end, Tasking_Error is raised in the caller (9.5.3).
+   --  come to its end, GNARL ends the call by Tasking_Error (9.5.3), and its
+   --  record is the caller's again.
+
+   procedure Issue_Beside
+     (Self_ID : Task_Id;
+      Object  : Protection_Entries_Access;
+      Call    : Entry_Call_Link);
+   --  As Issue, and keeps the exception that this task's own call is going
+   --  to raise, if there is one.
 
    procedure Issue_To_Object
      (Self_ID : Task_Id;
@@ -219,7 +249,9 @@ package body System.Tasking.Protected_Objects.Actions is
 
    function Attempted (Call : Entry_Call_Link) return Word is
    begin
-      return (if not Call.Cancellation_Attempted then 0
+      return (if not Call.Cancellation_Attempted
+                or else Call.State = Never_Abortable
+              then 0
               elsif Only_Expired (Call) then Due
               else Aborted);
    end Attempted;
@@ -275,16 +307,6 @@ package body System.Tasking.Protected_Objects.Actions is
    begin
       STPO.Write_Lock (Caller);
       Initialization.Wakeup_Entry_Caller (Self_ID, Call, State);
-
-      --  A caller that is being aborted waits for its trigger's end too, and
-      --  isn't woken by that (9.7.4, 9.8).
-
-      if Call.Mode = Asynchronous_Call
-        and then Caller.Common.State = Entry_Caller_Sleep
-      then
-         STPO.Wakeup (Caller, Entry_Caller_Sleep);
-      end if;
-
       STPO.Unlock (Caller);
    end End_Now;
 
@@ -300,13 +322,27 @@ package body System.Tasking.Protected_Objects.Actions is
    begin
       Take_Off (Call);
 
-      if Call.Self = Self_ID then
+      if Call.Self = Self_ID or else Locking_Policy = 'C' then
          End_Now (Self_ID, Call, State);
       else
          Call.Prev := To_Link (Entry_Call_State'Pos (State));
          Put_Off (Object, Call);
       end if;
    end End_Call;
+
+   ------------------
+   -- Drop_Message --
+   ------------------
+
+   procedure Drop_Message (Call : Entry_Call_Link) is
+   begin
+      --  Who waits raises nothing meanwhile, but an abortable part may
+
+      if Call.Mode /= Asynchronous_Call then
+         Save_Occurrence
+           (Call.Self.Common.Compiler_Data.Current_Excep, Null_Occurrence);
+      end if;
+   end Drop_Message;
 
    ---------------------
    -- Raise_In_Caller --
@@ -315,13 +351,7 @@ package body System.Tasking.Protected_Objects.Actions is
    procedure Raise_In_Caller (Call : Entry_Call_Link; Why : Exception_Id) is
    begin
       Call.Exception_To_Raise := Why;
-
-      --  Who waits raises nothing meanwhile, but an abortable part may
-
-      if Call.Mode /= Asynchronous_Call then
-         Save_Occurrence
-           (Call.Self.Common.Compiler_Data.Current_Excep, Null_Occurrence);
-      end if;
+      Drop_Message (Call);
    end Raise_In_Caller;
 
    ----------------
@@ -334,15 +364,24 @@ package body System.Tasking.Protected_Objects.Actions is
       STPO.Write_Lock (Call.Self);
       Sleep := Call.Self.Common.State;
 
-      if Sleep in Entry_Caller_Sleep | Async_Select_Sleep
-        and then (Call.Cancellation_Attempted
-                  or else Call.Mode = Asynchronous_Call)
-      then
+      if Sleep in Entry_Caller_Sleep | Async_Select_Sleep then
          STPO.Wakeup (Call.Self, Sleep);
       end if;
 
       STPO.Unlock (Call.Self);
    end Look_Again;
+
+   ----------------
+   -- Own_Raises --
+   ----------------
+
+   function Own_Raises (Self_ID : Task_Id) return Boolean is
+      Level : constant ATC_Level_Base := Self_ID.ATC_Nesting_Level;
+   begin
+      return Level in Self_ID.Entry_Calls'Range
+        and then Self_ID.Entry_Calls (Level).State = Done
+        and then Self_ID.Entry_Calls (Level).Exception_To_Raise /= Null_Id;
+   end Own_Raises;
 
    -----------------
    -- Note_Queued --
@@ -403,18 +442,9 @@ package body System.Tasking.Protected_Objects.Actions is
       Answer : constant Word :=
                  pobj_body_ended
                    (Engine_Of (Object.all), How, 0, 0, Told'Address);
-      Is_Own : constant Boolean :=
-                 Call.Self = Self_ID
-                   and then Call.Exception_To_Raise /= Null_Id;
    begin
       End_Call (Self_ID, Object, Call, Done);
-
-      if Is_Own and then Answer /= Rest then
-         Carry_Out_Beside (Self_ID, Object, Answer, Told);
-         return Rest;
-      else
-         return Answer;
-      end if;
+      return Answer;
    end Completed_Call;
 
    -------------------
@@ -474,6 +504,47 @@ package body System.Tasking.Protected_Objects.Actions is
       end if;
    end Body_Run;
 
+   -----------------
+   -- Next_Answer --
+   -----------------
+
+   function Next_Answer
+     (Self_ID : Task_Id;
+      Object  : Protection_Entries_Access;
+      Answer  : Word;
+      Told    : in out Step) return Word
+   is
+      E : constant Protected_Entry_Index := Entry_Of (Answer);
+   begin
+      case Action_Of (Answer) is
+         when Run =>
+            return Body_Run (Self_ID, Object, E, Told);
+
+         when Evaluate =>
+            return pobj_answer
+              (Engine_Of (Object.all), Barrier_Of (Object, E), Told'Address);
+
+         when Now_Queued =>
+            Note_Queued (Self_ID, Object, To_Link (Told.Caller), Told);
+            return pobj_answer
+              (Engine_Of (Object.all), Barrier_Of (Object, E), Told'Address);
+
+         when Now_Cancelled =>
+            Trace (Object, To_Link (Told.Caller), "cancelled");
+            End_Call (Self_ID, Object, To_Link (Told.Caller), Cancelled);
+            return pobj_next (Engine_Of (Object.all), Told'Address);
+
+         when Now_Broken =>
+            Trace (Object, To_Link (Told.Caller), "program_error");
+            Raise_In_Caller (To_Link (Told.Caller), Program_Error'Identity);
+            End_Call (Self_ID, Object, To_Link (Told.Caller), Done);
+            return pobj_next (Engine_Of (Object.all), Told'Address);
+
+         when others =>
+            Stop;
+      end case;
+   end Next_Answer;
+
    ----------------------
    -- Carry_Out_Beside --
    ----------------------
@@ -485,9 +556,14 @@ package body System.Tasking.Protected_Objects.Actions is
       Told    : in out Step)
    is
       Own : Exception_Occurrence;
+      Now : Word := Answer;
    begin
       Save_Occurrence (Own, Self_ID.Common.Compiler_Data.Current_Excep);
-      Carry_Out (Self_ID, Object, Answer, Told);
+
+      while Now /= Rest loop
+         Now := Next_Answer (Self_ID, Object, Now, Told);
+      end loop;
+
       Save_Occurrence (Self_ID.Common.Compiler_Data.Current_Excep, Own);
    end Carry_Out_Beside;
 
@@ -502,42 +578,14 @@ package body System.Tasking.Protected_Objects.Actions is
       Told    : in out Step)
    is
       Now : Word := Answer;
-      E   : Protected_Entry_Index;
-
    begin
       while Now /= Rest loop
-         E := Entry_Of (Now);
+         if Own_Raises (Self_ID) then
+            Carry_Out_Beside (Self_ID, Object, Now, Told);
+            return;
+         end if;
 
-         case Action_Of (Now) is
-            when Run =>
-               Now := Body_Run (Self_ID, Object, E, Told);
-
-            when Evaluate =>
-               Now := pobj_answer
-                 (Engine_Of (Object.all), Barrier_Of (Object, E),
-                  Told'Address);
-
-            when Now_Queued =>
-               Note_Queued (Self_ID, Object, To_Link (Told.Caller), Told);
-               Now := pobj_answer
-                 (Engine_Of (Object.all), Barrier_Of (Object, E),
-                  Told'Address);
-
-            when Now_Cancelled =>
-               Trace (Object, To_Link (Told.Caller), "cancelled");
-               End_Call (Self_ID, Object, To_Link (Told.Caller), Cancelled);
-               Now := pobj_next (Engine_Of (Object.all), Told'Address);
-
-            when Now_Broken =>
-               Trace (Object, To_Link (Told.Caller), "program_error");
-               Raise_In_Caller
-                 (To_Link (Told.Caller), Program_Error'Identity);
-               End_Call (Self_ID, Object, To_Link (Told.Caller), Done);
-               Now := pobj_next (Engine_Of (Object.all), Told'Address);
-
-            when others =>
-               Stop;
-         end case;
+         Now := Next_Answer (Self_ID, Object, Now, Told);
       end loop;
    end Carry_Out;
 
@@ -611,12 +659,33 @@ package body System.Tasking.Protected_Objects.Actions is
    -------------------
 
    procedure Issue_To_Task (Self_ID : Task_Id; Call : Entry_Call_Link) is
+      Is_Callable : Boolean;
+      pragma Unreferenced (Is_Callable);
    begin
-      if not Rendezvous.Task_Do_Or_Queue (Self_ID, Call) then
-         Raise_In_Caller (Call, Tasking_Error'Identity);
-         End_Now (Self_ID, Call, Done);
-      end if;
+      Is_Callable := Rendezvous.Task_Do_Or_Queue (Self_ID, Call);
    end Issue_To_Task;
+
+   ------------------
+   -- Issue_Beside --
+   ------------------
+
+   procedure Issue_Beside
+     (Self_ID : Task_Id;
+      Object  : Protection_Entries_Access;
+      Call    : Entry_Call_Link) is
+   begin
+      if Own_Raises (Self_ID) then
+         declare
+            Own : Exception_Occurrence;
+         begin
+            Save_Occurrence (Own, Self_ID.Common.Compiler_Data.Current_Excep);
+            Issue (Self_ID, Object, Call);
+            Save_Occurrence (Self_ID.Common.Compiler_Data.Current_Excep, Own);
+         end;
+      else
+         Issue (Self_ID, Object, Call);
+      end if;
+   end Issue_Beside;
 
    ---------------------
    -- Issue_To_Object --
@@ -644,7 +713,7 @@ package body System.Tasking.Protected_Objects.Actions is
          Raise_In_Caller (Call, Program_Error'Identity);
          End_Now (Self_ID, Call, Done);
       else
-         Issue (Self_ID, Object, Call);
+         Issue_Beside (Self_ID, Object, Call);
          Take_Put_Off (Object, Put_There);
          Join (Last, Put_There);
          Unlock_Entries (Object);
@@ -761,6 +830,30 @@ package body System.Tasking.Protected_Objects.Actions is
          return True;
       end if;
    end Is_Withdrawn;
+
+   -----------------------
+   -- Is_Aborted_Before --
+   -----------------------
+
+   function Is_Aborted_Before
+     (Self_ID : Task_Id;
+      Call    : Entry_Call_Link) return Boolean is
+   begin
+      if Call.Self = Self_ID
+        or else Call.Mode /= Simple_Call
+        or else not Call.With_Abort
+        or else Call.State = Never_Abortable
+      then
+         return False;
+      end if;
+
+      --  Either the caller, which an abort wakes, sees that the call can be
+      --  cancelled, or this task sees the abort.
+
+      Call.State := Now_Abortable;
+      Synchronize;
+      return Call.Self.Pending_ATC_Level < Call.Level;
+   end Is_Aborted_Before;
 
    -----------------
    -- Leave_Queue --

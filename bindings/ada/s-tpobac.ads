@@ -49,6 +49,18 @@ package System.Tasking.Protected_Objects.Actions is
    --  object (9.5.3, 9.7.2, 9.8). Holding the lock of the called object or
    --  task.
 
+   function Is_Aborted_Before
+     (Self_ID : Task_Id;
+      Call    : Entry_Call_Link) return Boolean;
+   --  Whether the caller of an entry call that is requeued with abort to a
+   --  task, and would be queued there, was aborted before: then the call is
+   --  cancelled (9.5.4). The caller has looked already, and sleeps. Holding
+   --  the called task's lock.
+
+   procedure Drop_Message (Call : Entry_Call_Link);
+   --  The exception that the call is going to raise is the runtime's own, and
+   --  has no message. The call hasn't ended.
+
    procedure Leave_Queue (Call : Entry_Call_Link);
    --  Takes a call that is withdrawn off a queue of GNARL's
 

@@ -10,6 +10,7 @@ package body System.Tasking.Protected_Objects.Traces is
    use System.Storage_Elements;
    use type Ada.Exceptions.Exception_Id;
    use type Interfaces.C.int;
+   use type Interfaces.C.long;
 
    Queuing_Policy : constant Character;
    pragma Import (C, Queuing_Policy, "__gl_queuing_policy");
@@ -46,8 +47,13 @@ package body System.Tasking.Protected_Objects.Traces is
    procedure Put_Program (L : in out Line);
    --  The running program's file, and where it stands in memory
 
-   procedure Write (L : in out Line; Where : Interfaces.C.int := File);
-   --  Writes the line at once, behind those of other tasks
+   function Is_Written
+     (L : in out Line; Where : Interfaces.C.int) return Boolean;
+   --  Writes the line at once, and says whether all of it is written
+
+   procedure Write (L : in out Line);
+   --  Writes the line to the record, behind those of other tasks. Where it
+   --  can't be written the record ends.
 
    procedure Say (Text : String);
    --  Tells on standard error what can't be recorded
@@ -164,20 +170,35 @@ package body System.Tasking.Protected_Objects.Traces is
       Put (L, " " & Path (1 .. Length));
    end Put_Program;
 
-   -----------
-   -- Write --
-   -----------
+   ----------------
+   -- Is_Written --
+   ----------------
 
-   procedure Write (L : in out Line; Where : Interfaces.C.int := File) is
-      procedure C_Write
+   function Is_Written
+     (L : in out Line; Where : Interfaces.C.int) return Boolean
+   is
+      function C_Write
         (File  : Interfaces.C.int;
          From  : System.Address;
-         Bytes : Interfaces.C.size_t);
+         Bytes : Interfaces.C.size_t) return Interfaces.C.long;
       pragma Import (C, C_Write, "write");
    begin
       L.Last := L.Last + 1;
       L.Text (L.Last) := ASCII.LF;
-      C_Write (Where, L.Text'Address, Interfaces.C.size_t (L.Last));
+      return C_Write (Where, L.Text'Address, Interfaces.C.size_t (L.Last))
+        = Interfaces.C.long (L.Last);
+   end Is_Written;
+
+   -----------
+   -- Write --
+   -----------
+
+   procedure Write (L : in out Line) is
+   begin
+      if Is_On and then not Is_Written (L, File) then
+         Is_On := False;
+         Say ("the file that POBJ_TRACE names takes no more: the record ends");
+      end if;
    end Write;
 
    ---------
@@ -190,7 +211,10 @@ package body System.Tasking.Protected_Objects.Traces is
       Begin_Line (L);
       Put (L, "pobj: ");
       Put (L, Text);
-      Write (L, 2);
+
+      if not Is_Written (L, 2) then
+         null;
+      end if;
    end Say;
 
    ---------------
@@ -205,16 +229,39 @@ package body System.Tasking.Protected_Objects.Traces is
          Mode : Interfaces.C.int) return Interfaces.C.int;
       pragma Import (C, C_Open, "open");
 
-      Anew : constant := 8#1# + 8#100# + 8#1000# + 8#2000# + 8#2000000#;
-      --  O_WRONLY, O_CREAT, O_TRUNC, O_APPEND, O_CLOEXEC
-      L    : Line;
+      function C_Lock
+        (File : Interfaces.C.int;
+         How  : Interfaces.C.int) return Interfaces.C.int;
+      pragma Import (C, C_Lock, "flock");
+
+      function C_Truncate
+        (File   : Interfaces.C.int;
+         Length : Interfaces.C.long) return Interfaces.C.int;
+      pragma Import (C, C_Truncate, "ftruncate");
+
+      To_Append : constant := 8#1# + 8#100# + 8#2000# + 8#2000000#;
+      --  O_WRONLY, O_CREAT, O_APPEND, O_CLOEXEC
+
+      At_Once   : constant := 2 + 4;
+      --  LOCK_EX, LOCK_NB
+
+      L : Line;
 
    begin
-      File := C_Open (Path, Anew, 8#666#);
+      File := C_Open (Path, To_Append, 8#666#);
 
       if File < 0 then
          Say ("the file that POBJ_TRACE names can't be written");
+      elsif C_Lock (File, At_Once) /= 0 then
+         Say ("another program writes the file that POBJ_TRACE names:"
+              & " nothing is traced here");
       else
+         --  What isn't a file can't be cut, and need not be
+
+         if C_Truncate (File, 0) /= 0 then
+            null;
+         end if;
+
          Is_On := True;
          Begin_Line (L);
          Put_Program (L);
@@ -285,6 +332,8 @@ package body System.Tasking.Protected_Objects.Traces is
          end if;
       end loop;
 
+      Put (L, " ");
+      Put_Number (L, Natural (Object.Num_Entries) + 1);
       Write (L);
    end Note_Made;
 

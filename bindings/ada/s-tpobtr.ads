@@ -16,7 +16,7 @@ package System.Tasking.Protected_Objects.Traces is
 
    procedure Note_Made (Object : Entries.Protection_Entries_Access);
    --  The object begins: its entries, of a family the first one, each with
-   --  the address of its body.
+   --  the address of its body, and behind them the number of all and one.
 
    procedure Note_Finalized (Object : Entries.Protection_Entries_Access);
    --  The object ends (9.4)

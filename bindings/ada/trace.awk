@@ -27,8 +27,9 @@ function learn(it,   short) {
 function make(   at, parts, symbol, words, count) {
     object = ++objects
     object_at[$1] = object
-    entries[object] = NF - 2
-    for (at = 3; at <= NF; at++) {
+    entries[object] = NF - 3
+    first[object, NF - 2] = $NF
+    for (at = 3; at < NF; at++) {
         split($at, parts, ":")
         first[object, at - 2] = parts[1]
         symbol = symbols[number_of(parts[2]) - shift]
@@ -47,8 +48,7 @@ function entry_of(object, number,   at, name) {
     for (at = entries[object]; at > 1 && first[object, at] + 0 > number; at--) {}
     name = entry_name[object, at]
     if (name == "") return "entry " number
-    if (at < entries[object] ? first[object, at + 1] - first[object, at] > 1 : 0) return name "(#" number - first[object, at] + 1 ")"
-    return number > first[object, at] + 0 ? name "(#" number - first[object, at] + 1 ")" : name
+    return first[object, at + 1] - first[object, at] > 1 ? name "(#" number - first[object, at] + 1 ")" : name
 }
 
 # One more line of the object.

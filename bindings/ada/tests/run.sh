@@ -13,7 +13,7 @@ trap 'rm -rf "$scratch"' EXIT
 dest=${2:-$scratch/runtime}
 cd "$(dirname "$0")" || exit 2
 include=$(cd ../../../include && pwd)
-passed=0 failed=0
+passed=0 failed=0 skipped=0
 
 # row NAME COMMAND..: a line, by the status of the command, and where it failed what it said.
 row() {
@@ -33,10 +33,33 @@ row() {
 linked() { (cd "$scratch" && gnatmake -q -f -gnat2022 "--RTS=$dest" "$OLDPWD/$1.adb" -o "$1-linked" -bargs -static "${@:2}"); }
 shared() { (cd "$scratch" && gnatmake -q -f -gnat2022 "$OLDPWD/$1.adb" -o "$1-shared" -bargs -shared); }
 
-# Whether a program writes what its .out says, in both ways.
+# The first processor that this may use.
+one=$(taskset -cp $$ | sed -E 's/.*: ([0-9]+).*/\1/')
+
+# Whether a program writes what its .out says, in both ways, on one processor.
 writes() {
-  linked "$1" && timeout 60 "$scratch/$1-linked" | diff "$1.out" - || return
-  shared "$1" && LD_LIBRARY_PATH=$dest/adalib timeout 60 "$scratch/$1-shared" | diff "$1.out" -
+  linked "$1" && timeout 60 taskset -c "$one" "$scratch/$1-linked" | diff "$1.out" - || return
+  shared "$1" && LD_LIBRARY_PATH=$dest/adalib timeout 60 taskset -c "$one" "$scratch/$1-shared" | diff "$1.out" -
+}
+
+# The same of one that needs real-time priorities.
+writes_urgently() {
+  if chrt -f 1 true 2>/dev/null; then
+    row "$1.adb" writes "$1"
+  else
+    echo "skipped: $1.adb: no real-time priorities"
+    skipped=$((skipped + 1))
+  fi
+}
+
+# Whether the record of a program isn't cut by one that it starts, and a file that takes no more is told of.
+records_alone() {
+  local said
+  linked two_programs || return
+  said=$(POBJ_TRACE=$scratch/both "$scratch/two_programs-linked" 2>&1) || return
+  [[ $said == *"another program writes the file"* ]] && ../trace.sh "$scratch/both" | diff two_programs.out - || return
+  said=$(POBJ_TRACE=/dev/full "$scratch/two_programs-linked" 2>&1) || return
+  [[ $said == *"takes no more"* ]]
 }
 
 # Whether each allocation of the library is refused in its turn, and the program says so.
@@ -105,15 +128,20 @@ leaves_others() {
 row "the runtime folder" ../make.sh "$dest" "$library"
 row "the runtime folder, made again" ../make.sh "$dest" "$library"
 row "pobj ada --check" ../check.sh "$dest"
-for name in priority_queuing queues_with_limits; do
+for name in priority_queuing queues_with_limits ended_once own_message deferred_call abort_before_call \
+  abort_before_requeue_to_task abort_at_open_trigger abort_while_trigger_is_served trigger_requeued_to_task; do
   row "$name.adb" writes "$name"
+done
+for name in urgent_caller_first ceiling_of_requeue; do
+  writes_urgently "$name"
 done
 row "refused_memory.adb" refused_memory
 row "POBJ_TRACE, and pobj trace" record
 row "POBJ_TRACE under Priority_Queuing" no_record
+row "POBJ_TRACE of two programs, and of a full disk" records_alone
 row "a step that is refused" ends_where_refused
 row "a GNAT of another version" refuses_gnat 13.1.0 "found is GNATLS 13.1.0"
 row "a GNAT with other sources" refuses_gnat 12.2.0 "Check_Pending_Actions_For_Entry_Call"
 row "a folder that is something else" leaves_others
-echo "$passed passed, $failed failed, 0 skipped"
+echo "$passed passed, $failed failed, $skipped skipped"
 [ "$failed" -eq 0 ]

@@ -1,0 +1,65 @@
+--  Two callers each raise the exception of their own body, with its message (9.5.2, 11.4.1), though the first of them
+--  carries out the second's body too, behind its own.
+
+with Ada.Exceptions; use Ada.Exceptions;
+with Ada.Text_IO;    use Ada.Text_IO;
+
+procedure Own_Message is
+
+   Own, Other : exception;
+
+   protected Q is
+      entry Fail;
+   end Q;
+
+   protected P is
+      entry Raise_It;
+      entry Wait;
+      function Waiting return Natural;
+   private
+      Is_Open : Boolean := False;
+   end P;
+
+   protected body Q is
+      entry Fail when True is
+      begin
+         raise Other with "other message";
+      end Fail;
+   end Q;
+
+   protected body P is
+      entry Raise_It when True is
+      begin
+         Is_Open := True;
+         raise Own with "own message";
+      end Raise_It;
+
+      entry Wait when Is_Open is
+      begin
+         requeue Q.Fail;
+      end Wait;
+
+      function Waiting return Natural is (Wait'Count);
+   end P;
+
+   task B;
+
+   task body B is
+   begin
+      P.Wait;
+   exception
+      when X : others =>
+         delay 0.05;
+         Put_Line ("B: " & Exception_Message (X));
+   end B;
+
+begin
+   while P.Waiting = 0 loop
+      delay 0.001;
+   end loop;
+
+   P.Raise_It;
+exception
+   when X : others =>
+      Put_Line ("A: " & Exception_Message (X));
+end Own_Message;
