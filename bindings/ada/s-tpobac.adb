@@ -364,7 +364,10 @@ package body System.Tasking.Protected_Objects.Actions is
       STPO.Write_Lock (Call.Self);
       Sleep := Call.Self.Common.State;
 
-      if Sleep in Entry_Caller_Sleep | Async_Select_Sleep then
+      if Sleep in Entry_Caller_Sleep | Async_Select_Sleep
+        and then (Call.Self.Pending_ATC_Level < Call.Level
+                  or else Call.Mode = Asynchronous_Call)
+      then
          STPO.Wakeup (Call.Self, Sleep);
       end if;
 
@@ -580,12 +583,12 @@ package body System.Tasking.Protected_Objects.Actions is
       Now : Word := Answer;
    begin
       while Now /= Rest loop
-         if Own_Raises (Self_ID) then
-            Carry_Out_Beside (Self_ID, Object, Now, Told);
-            return;
-         end if;
-
          Now := Next_Answer (Self_ID, Object, Now, Told);
+
+         if Now /= Rest and then Own_Raises (Self_ID) then
+            Carry_Out_Beside (Self_ID, Object, Now, Told);
+            Now := Rest;
+         end if;
       end loop;
    end Carry_Out;
 
