@@ -858,6 +858,15 @@ package body System.Tasking.Protected_Objects.Actions is
       return Call.Self.Pending_ATC_Level < Call.Level;
    end Is_Aborted_Before;
 
+   ------------
+   -- Cancel --
+   ------------
+
+   procedure Cancel (Self_ID : Task_Id; Call : Entry_Call_Link) is
+   begin
+      End_Now (Self_ID, Call, Cancelled);
+   end Cancel;
+
    -----------------
    -- Leave_Queue --
    -----------------

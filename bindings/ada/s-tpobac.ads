@@ -57,6 +57,9 @@ package System.Tasking.Protected_Objects.Actions is
    --  cancelled (9.5.4). The caller has looked already, and sleeps. Holding
    --  the called task's lock.
 
+   procedure Cancel (Self_ID : Task_Id; Call : Entry_Call_Link);
+   --  Ends such a call, which is on no queue. Holding no task's lock.
+
    procedure Drop_Message (Call : Entry_Call_Link);
    --  The exception that the call is going to raise is the runtime's own, and
    --  has no message. The call hasn't ended.

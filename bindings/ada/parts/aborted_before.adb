@@ -2,10 +2,7 @@
          then
             STPO.Unlock (Acceptor);
             STPO.Unlock (Parent);
-            STPO.Write_Lock (Entry_Call.Self);
-            Initialization.Wakeup_Entry_Caller
-              (Self_ID, Entry_Call, Cancelled);
-            STPO.Unlock (Entry_Call.Self);
+            Protected_Objects.Actions.Cancel (Self_ID, Entry_Call);
             return True;
          end if;
 
