@@ -22,6 +22,9 @@ package body System.Tasking.Protected_Objects.Actions is
    Locking_Policy : constant Character;
    pragma Import (C, Locking_Policy, "__gl_locking_policy");
 
+   Queuing_Policy : constant Character;
+   pragma Import (C, Queuing_Policy, "__gl_queuing_policy");
+
    procedure Synchronize;
    pragma Import (Intrinsic, Synchronize, "__sync_synchronize");
    --  What this task wrote before is seen before it reads on
@@ -237,8 +240,11 @@ package body System.Tasking.Protected_Objects.Actions is
          return False;
       end if;
 
+      --  While aborts are deferred, only its time can cancel the call
+
       STPO.Write_Lock (Call.Self);
-      Expired := Call.Self.Pending_ATC_Level = Call.Level - 1;
+      Expired := Call.Self.Pending_ATC_Level = Call.Level - 1
+        or else Call.Self.Deferral_Level > 1;
       STPO.Unlock (Call.Self);
       return Expired;
    end Only_Expired;
@@ -249,8 +255,11 @@ package body System.Tasking.Protected_Objects.Actions is
 
    function Attempted (Call : Entry_Call_Link) return Word is
    begin
-      return (if not Call.Cancellation_Attempted
-                or else Call.State = Never_Abortable
+      --  An abort that came before the call shows at the level alone
+
+      return (if Call.State = Never_Abortable
+                or else not (Call.Cancellation_Attempted
+                             or else Call.Self.Pending_ATC_Level < Call.Level)
               then 0
               elsif Only_Expired (Call) then Due
               else Aborted);
@@ -843,19 +852,26 @@ package body System.Tasking.Protected_Objects.Actions is
       Call    : Entry_Call_Link) return Boolean is
    begin
       if Call.Self = Self_ID
-        or else Call.Mode /= Simple_Call
         or else not Call.With_Abort
         or else Call.State = Never_Abortable
+        or else Queuing_Policy = 'P'
       then
          return False;
       end if;
 
-      --  Either the caller, which an abort wakes, sees that the call can be
-      --  cancelled, or this task sees the abort.
+      --  GNARL wakes the caller of a simple call no more. So either that one,
+      --  which an abort wakes, sees that the call can be cancelled, or this
+      --  task sees the abort.
 
-      Call.State := Now_Abortable;
-      Synchronize;
-      return Call.Self.Pending_ATC_Level < Call.Level;
+      if Call.Mode = Simple_Call then
+         Call.State := Now_Abortable;
+         Synchronize;
+      end if;
+
+      --  A timed call whose time has come may be accepted still
+
+      return Call.Self.Pending_ATC_Level
+        < (if Call.Mode = Timed_Call then Call.Level - 1 else Call.Level);
    end Is_Aborted_Before;
 
    ------------

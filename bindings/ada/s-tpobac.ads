@@ -53,9 +53,9 @@ package System.Tasking.Protected_Objects.Actions is
      (Self_ID : Task_Id;
       Call    : Entry_Call_Link) return Boolean;
    --  Whether the caller of an entry call that is requeued with abort to a
-   --  task, and would be queued there, was aborted before: then the call is
-   --  cancelled (9.5.4). The caller has looked already, and sleeps. Holding
-   --  the called task's lock.
+   --  task was aborted before: then the call is cancelled (9.5.4). Not under
+   --  Priority_Queuing, where GNARL has the calls. Holding the called task's
+   --  lock.
 
    procedure Cancel (Self_ID : Task_Id; Call : Entry_Call_Link);
    --  Ends such a call, which is on no queue. Holding no task's lock.

@@ -317,10 +317,18 @@ package body System.Tasking.Protected_Objects.Traces is
    begin
       Begin_Line (L);
       Put_Address (L, Object.all'Address);
-      Put (L, " made");
+      Put (L, " made ");
+      Put_Number (L, Natural (Object.Num_Entries));
 
       for E in Object.Entry_Queues'Range loop
          B := Object.Find_Body_Index (Object.Compiler_Info, E);
+
+         if L.Last > Room - 100 then
+            Write (L);
+            Begin_Line (L);
+            Put_Address (L, Object.all'Address);
+            Put (L, " more");
+         end if;
 
          if B /= Last then
             Put (L, " ");
@@ -332,8 +340,6 @@ package body System.Tasking.Protected_Objects.Traces is
          end if;
       end loop;
 
-      Put (L, " ");
-      Put_Number (L, Natural (Object.Num_Entries) + 1);
       Write (L);
    end Note_Made;
 

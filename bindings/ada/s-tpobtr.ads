@@ -15,8 +15,8 @@ package System.Tasking.Protected_Objects.Traces is
    --  error.
 
    procedure Note_Made (Object : Entries.Protection_Entries_Access);
-   --  The object begins: its entries, of a family the first one, each with
-   --  the address of its body, and behind them the number of all and one.
+   --  The object begins: how many entries it has, and then, in as many lines
+   --  as it takes, of a family the first one, each with its body's address.
 
    procedure Note_Finalized (Object : Entries.Protection_Entries_Access);
    --  The object ends (9.4)

@@ -24,19 +24,23 @@ function learn(it,   short) {
 }
 
 # The object that begins at this address: its number, and from the names of its bodies its type and its entries.
-function make(   at, parts, symbol, words, count) {
-    object = ++objects
-    object_at[$1] = object
-    entries[object] = NF - 3
-    first[object, NF - 2] = $NF
-    for (at = 3; at < NF; at++) {
+function make() {
+    object_at[$1] = ++objects
+    all[objects] = $3
+    add(objects, 4)
+}
+
+# Entries of the object, from this word of the line on.
+function add(object, from,   at, next_one, parts, symbol, words, count) {
+    for (at = from; at <= NF; at++) {
+        next_one = ++entries[object]
         split($at, parts, ":")
-        first[object, at - 2] = parts[1]
+        first[object, next_one] = parts[1]
         symbol = symbols[number_of(parts[2]) - shift]
         sub(/_E[0-9]+b(\.[0-9]+)?$/, "", symbol)
         count = split(symbol, words, "__")
         if (count > 0) {
-            entry_name[object, at - 2] = words[count]
+            entry_name[object, next_one] = words[count]
             type_name[object] = substr(symbol, 1, length(symbol) - length(words[count]) - 2)
         }
     }
@@ -44,11 +48,12 @@ function make(   at, parts, symbol, words, count) {
 }
 
 # The entry of the object: by its name, or by its number where the program has no names; of a family the position in it.
-function entry_of(object, number,   at, name) {
+function entry_of(object, number,   at, name, behind) {
     for (at = entries[object]; at > 1 && first[object, at] + 0 > number; at--) {}
     name = entry_name[object, at]
     if (name == "") return "entry " number
-    return first[object, at + 1] - first[object, at] > 1 ? name "(#" number - first[object, at] + 1 ")" : name
+    behind = at < entries[object] ? first[object, at + 1] : all[object] + 1
+    return behind - first[object, at] > 1 ? name "(#" number - first[object, at] + 1 ")" : name
 }
 
 # One more line of the object.
@@ -95,6 +100,7 @@ function show(object,   at, parts, some) {
 FILENAME != ARGV[2] { if ($1 == "headers") headers = number_of($2); else symbols[number_of($1)] = $2; next }
 $1 == "program" { shift = number_of($2) - headers; next }
 $2 == "made" { make() }
+$2 == "more" { add(object_at[$1], 3) }
 $2 == "procedure" { note(object_at[$1], $3, "", "procedure") }
 $2 == "call" { call() }
 $2 == "finalized" { note(object_at[$1], "", "", "finalized") }

@@ -52,6 +52,21 @@ writes_urgently() {
   fi
 }
 
+# Whether the record has all entries of an object with many of them.
+many_entries() {
+  local number
+  {
+    echo "procedure Many is protected P is"
+    for number in {1..150}; do echo "entry E$number;"; done
+    echo "end P; protected body P is"
+    for number in {1..150}; do echo "entry E$number when True is begin null; end E$number;"; done
+    echo "end P; begin P.E1; P.E149; P.E150; end Many;"
+  } >"$scratch/many.adb"
+  (cd "$scratch" && gnatmake -q -f "--RTS=$dest" many.adb -o many -bargs -static) || return
+  POBJ_TRACE=$scratch/many.record "$scratch/many" || return
+  [ "$(../trace.sh "$scratch/many.record" | grep -cE ' e(1|149|150) +done')" -eq 3 ]
+}
+
 # Whether the record of a program isn't cut by one that it starts, and a file that takes no more is told of.
 records_alone() {
   local said
@@ -128,8 +143,9 @@ leaves_others() {
 row "the runtime folder" ../make.sh "$dest" "$library"
 row "the runtime folder, made again" ../make.sh "$dest" "$library"
 row "pobj ada --check" ../check.sh "$dest"
-for name in priority_queuing queues_with_limits ended_once own_message deferred_call abort_before_call \
-  abort_before_requeue_to_task abort_at_open_trigger abort_while_trigger_is_served trigger_requeued_to_task; do
+for name in priority_queuing queues_with_limits ended_once ended_once_by_task own_message deferred_call expired_in_finalize \
+  abort_before_call abort_before_open_entry abort_before_requeue_to_task abort_before_open_accept abort_at_open_trigger \
+  abort_while_trigger_is_served trigger_requeued_to_task conditional_call_to_task; do
   row "$name.adb" writes "$name"
 done
 for name in urgent_caller_first ceiling_of_requeue; do
@@ -139,6 +155,7 @@ row "refused_memory.adb" refused_memory
 row "POBJ_TRACE, and pobj trace" record
 row "POBJ_TRACE under Priority_Queuing" no_record
 row "POBJ_TRACE of two programs, and of a full disk" records_alone
+row "POBJ_TRACE of an object with many entries" many_entries
 row "a step that is refused" ends_where_refused
 row "a GNAT of another version" refuses_gnat 13.1.0 "found is GNATLS 13.1.0"
 row "a GNAT with other sources" refuses_gnat 12.2.0 "Check_Pending_Actions_For_Entry_Call"
