@@ -8,6 +8,9 @@ procedure Own_Message is
 
    Own, Other : exception;
 
+   Is_Said : Boolean := False;
+   pragma Atomic (Is_Said);
+
    protected Q is
       entry Fail;
    end Q;
@@ -49,7 +52,10 @@ procedure Own_Message is
       P.Wait;
    exception
       when X : others =>
-         delay 0.05;
+         while not Is_Said loop
+            delay 0.001;
+         end loop;
+
          Put_Line ("B: " & Exception_Message (X));
    end B;
 
@@ -62,4 +68,5 @@ begin
 exception
    when X : others =>
       Put_Line ("A: " & Exception_Message (X));
+      Is_Said := True;
 end Own_Message;
