@@ -51,6 +51,7 @@ prove() {
   status=${PIPESTATUS[0]}
   count "$scratch/proofs" "rt ci"
   [ "$status" -eq 0 ] || fail "rt ci ended with status $status"
+  python3 tools/test/keep_libraries.py "$1" || fail "what rt ci built isn't noted"
   for name in "$1"/crates/*/out/; do
     name=$(basename "$(dirname "$name")")
     [ ! -x "$1/crates/$name/out/$name" ] || take_over "$1" "$name"
@@ -112,13 +113,20 @@ prove_changed() {
   refuse "$scratch/copy" $(changed_crates)
 }
 
-# All proofs, those of tests too, and all wrong bodies. What passed is noted.
+# All proofs, and all wrong bodies. What passed is noted.
 prove_all() {
   copy_crates "$scratch/copy"
+  leave_out_tests "$scratch/copy"
   prove "$scratch/copy"
   # shellcheck disable=SC2046
   refuse "$scratch/copy" $(crate_names)
   if [ "$failed" -eq 0 ]; then note_tested; fi
+}
+
+# All proofs, those of the crates that are tests alone too.
+prove_tests() {
+  copy_crates "$scratch/copy"
+  prove "$scratch/copy"
 }
 
 # Notes the crates as a full run has met them.

@@ -76,6 +76,6 @@ module _ {V : Type 0} where
     pub unknown : kept table ticket ≡ None
     pub reached : IsReached table.last ticket.number
 
-  -- ClosedPass tickets stay spent (this project's own).
+  -- Tickets that are spent stay so (this project's own).
   abbrev pub KeepsSpent : CallTable V → CallTable V → Type 0
   KeepsSpent old new = (ticket : Ticket) → IsSpent old ticket → IsSpent new ticket

@@ -27,7 +27,7 @@ module _ {S V : Type 0} where
   serviced_next m u queues order last =
       first_selection (turn_at m u queues) (examined order last queues.total (map (λ x. x.entry) queues.items))
 
-  -- A key is queued on the entry, whose gate is this.
+  -- A key is queued on the entry, whose barrier is this.
   pub record IsQueuedAt (m : Meaning S V) (u : S) (queues : QueuesView) (e : ℕ) (barrier : Result Bool ℕ) : Type 0 where
     pub within : e < queues.total
     pub queued : 0 < length (queue_of e queues.items)
