@@ -16,27 +16,93 @@ import tempfile
 TOP = pathlib.Path(__file__).resolve().parent.parent.parent
 
 
-def edited(edit, crate):
-    """The texts of the files that the edit changes, by their paths in the crate. A ValueError says why it can't be applied."""
-    texts, path, old = {}, None, None
+def changes_of(edit):
+    """The changes of the edit, each a file's path in the crate, the old text and the new one."""
+    changes, path, old = [], None, None
     for line in edit.read_text().split("\n"):
         if line.startswith("file: "):
             path = line[6:].strip()
-            texts.setdefault(path, (crate / path).read_text())
         elif line.startswith("old: "):
             old = line[5:]
         elif line.startswith("new:"):
-            if texts[path].count(old) != 1:
-                raise ValueError(f"its old text stands in {path} {texts[path].count(old)} times")
-            texts[path] = texts[path].replace(old, line[4:].removeprefix(" "))
+            changes.append((path, old, line[4:].removeprefix(" ")))
+    return changes
+
+
+def edited(edits, crate):
+    """The texts of the files that the edits change, by their paths in the crate. A ValueError says why they can't be applied."""
+    texts = {}
+    for path, old, new in (change for edit in edits for change in changes_of(edit)):
+        text = texts.get(path) or (crate / path).read_text()
+        if text.count(old) != 1:
+            raise ValueError(f"its old text stands in {path} {text.count(old)} times")
+        texts[path] = text.replace(old, new)
     return texts
 
 
-def only(path):
-    """The words by which `rt check` checks the module of this file alone. A method goes by the module of its type, so a folder's
-    file by that of the folder."""
+def module(path):
+    """The module of this file, as `rt check` names it. A method goes by the module of its type, so a folder's file by that of the
+    folder; the crate's own text has none."""
     parts = pathlib.PurePath(path).with_suffix("").parts
-    return ["--only", parts[1]] if parts[0] == "src" and parts[1:] not in (("lib",), ("main",)) else []
+    return [parts[1]] if parts[0] == "src" and parts[1:] not in (("lib",), ("main",)) else []
+
+
+def without_parameters(text):
+    """The text without what stands in angle brackets."""
+    while (shorter := re.sub(r"<[^<>]*>", "", text)) != text:
+        text = shorter
+    return text
+
+
+def owner(lines):
+    """The name of the type, with that of its trait behind it, whose methods stand behind these lines, or the empty name."""
+    tops = [number for number, line in enumerate(lines) if re.match(r"(unsafe )?impl\b", line)]
+    if not tops or "}" in lines[tops[-1] :]:
+        return ""
+    head = without_parameters(" ".join(lines[tops[-1] :]).split("{")[0].replace("->", ""))
+    names = re.findall(r"\w+", re.sub(r"^(unsafe )?impl|\bwhere\b.*", "", head))
+    return names[2] + names[0] if names[1:2] == ["for"] else names[0]
+
+
+def function(crate, change):
+    """The function that the change is in, by the end of its name as a check prints it, or None."""
+    path, old, _ = change
+    lines = (crate / path).read_text().split(old)[0].split("\n")
+    starts = [(number, found[1]) for number, line in enumerate(lines) if (found := re.match(r"(?: {4})?(?:[\w()\"]+ )*fn (\w+)", line))]
+    if not starts or re.search(r"\bfn \w", old):
+        return None
+    number, name = starts[-1]
+    file = "".join(module(path)) and pathlib.PurePath(path).stem
+    return "::".join(it for it in (owner(lines[: number + 1]) or file, name) if it)
+
+
+def functions(crate, edit):
+    """The functions that the edit is in, or none if one of its changes is in none."""
+    found = {function(crate, change) for change in changes_of(edit)}
+    return set() if None in found else found
+
+
+def check(crate, texts, words):
+    """The status of a check of the crate in this folder with these texts, and what it said."""
+    kept = {path: (crate / path).read_text() for path in texts}
+    try:
+        for path, text in texts.items():
+            (crate / path).write_text(text)
+        ran = subprocess.run(["rt", "check", *words], cwd=crate, stdin=subprocess.DEVNULL, capture_output=True, text=True, errors="replace")
+    finally:
+        for path, text in kept.items():
+            (crate / path).write_text(text)
+    return ran.returncode, ran.stdout + ran.stderr
+
+
+def only(names):
+    """The words by which a check is of these alone."""
+    return [word for name in sorted(names) for word in ("--only", name)]
+
+
+def not_proved(said):
+    """The functions of which a check says that they aren't proved, but for those that call one of which it says so."""
+    return re.findall(r"^fn ([\w:]+): (?:not proved|no proof: (?!it calls))", said, re.M)
 
 
 def says_refused(status, said):
@@ -50,30 +116,57 @@ def says_refused(status, said):
     return status == 1 and "logic=not-proved" in said and not re.search(r"\berror\[[\w-]+\]", said)
 
 
-def is_refused(crate, texts):
-    """Whether the prover refuses the crate in this folder with these texts, and what it said."""
-    kept = {path: (crate / path).read_text() for path in texts}
-    words = ["rt", "check", *(word for path in texts for word in only(path))]
-    try:
-        for path, text in texts.items():
-            (crate / path).write_text(text)
-        ran = subprocess.run(words, cwd=crate, stdin=subprocess.DEVNULL, capture_output=True, text=True, errors="replace")
-    finally:
-        for path, text in kept.items():
-            (crate / path).write_text(text)
-    said = ran.stdout + ran.stderr
-    return says_refused(ran.returncode, said), f"status {ran.returncode}: {said[-400:]}"
+def side_by_side(edits, crate):
+    """Some of the edits, each in functions of its own: what stands in one function is no matter to the proof of another, which
+    sees its contract alone."""
+    chosen, taken = [], set()
+    for edit in edits:
+        found = functions(crate, edit)
+        if found and not found & taken:
+            chosen.append(edit)
+            taken |= found
+    return chosen, taken
+
+
+def refused_together(edits, crate):
+    """Those of the edits that the prover refuses each in its own function, tried side by side, as many at once as there can be."""
+    refused, new = [], edits
+    while new:
+        chosen, names = side_by_side([edit for edit in edits if edit not in refused], crate)
+        if len(chosen) < 2:
+            break
+        status, said = check(crate, edited(chosen, crate), only(names))
+        wrong = [] if status != 1 else not_proved(said)
+        new = [edit for edit in chosen if any(f"::{it}".endswith(f"::{name}") for it in wrong for name in functions(crate, edit))]
+        refused += new
+    return refused
+
+
+def tell(edit, crate, refused, said=""):
+    """Prints what came of the edit, and answers whether it was refused."""
+    name = f"{crate.name}/{edit.stem}"
+    print(f"{name}: refused" if refused else f"FAILED: {name}: not refused, or not tried: {said}", flush=True)
+    return refused
 
 
 def try_edit(edit, crate):
     """Tries one wrong body in the copy of its crate, prints what came of it, and answers whether it was refused."""
     try:
-        refused, said = is_refused(crate, edited(edit, crate))
+        texts = edited([edit], crate)
+        status, said = check(crate, texts, only({name for path in texts for name in module(path)}))
     except (OSError, ValueError) as fault:
-        refused, said = False, str(fault)
-    name = f"{crate.name}/{edit.stem}"
-    print(f"{name}: refused" if refused else f"FAILED: {name}: not refused, or not tried: {said}", flush=True)
-    return refused
+        return tell(edit, crate, False, str(fault))
+    return tell(edit, crate, says_refused(status, said), f"status {status}: {said[-400:]}")
+
+
+def try_crate(edits, crate):
+    """Tries the wrong bodies of a crate in its copy: side by side, and each that this doesn't refuse alone. Answers of each whether
+    it was refused."""
+    try:
+        refused = refused_together(edits, crate)
+    except (OSError, ValueError):
+        refused = []
+    return [tell(edit, crate, True) if edit in refused else try_edit(edit, crate) for edit in edits]
 
 
 def copy_sources(to):
@@ -85,11 +178,8 @@ def copy_sources(to):
 
 def try_crates(names, room):
     """Tries the wrong bodies of these crates in the copy, and answers of each whether it was refused."""
-    return [
-        try_edit(edit, room / "crates" / name)
-        for name in names
-        for edit in sorted((TOP / "crates" / name / "must-fail").glob("*.edit"))
-    ]
+    found = {name: sorted((TOP / "crates" / name / "must-fail").glob("*.edit")) for name in names}
+    return [refused for name, edits in found.items() for refused in try_crate(edits, room / "crates" / name)]
 
 
 def main(names):
