@@ -31,6 +31,14 @@ put_archive() {
   rm -rf "$objects"
 }
 
+# Puts into the folder the file for pkg-config, which names the folder, with a backslash before each space.
+put_names() {
+  local text
+  text=$(<"$top/bindings/c/pobj.pc.in")
+  text=${text//@prefix@/"${1// /\\ }"}
+  printf '%s\n' "${text//@version@/"$(version)"}" >"$1/lib/pkgconfig/pobj.pc"
+}
+
 # Puts into the folder what a C program needs: library, headers, the file for pkg-config, and the examples.
 put_library() {
   local to=$1
@@ -39,7 +47,7 @@ put_library() {
   put_archive "$to/lib"
   cp "$top/include/pobj.h" "$top/bindings/c/pobj_threads.h" "$to/include/"
   cp -r "$top/bindings/c/examples" "$to/share/pobj/"
-  sed "s,@prefix@,$to,; s,@version@,$(version)," "$top/bindings/c/pobj.pc.in" >"$to/lib/pkgconfig/pobj.pc"
+  put_names "$to"
 }
 
 # Carries out `pobj c DEST`.

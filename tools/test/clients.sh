@@ -35,10 +35,10 @@ packed_picture() {
   if env -i "PATH=$2" "$1/bin/pobj" picture examples/relay.pobj | cmp -s - docs/pictures/relay.svg; then pass; else fail "the packed pobj draws another picture"; fi
 }
 
-# What `pobj dist` packs, in a folder of its own and with no toolchain in the path: it runs a script, its example is compiled, and an
-# Ada program runs over its runtime.
+# What `pobj dist` packs, in a folder with marks in its name and with no toolchain in the path: it runs a script, its example is
+# compiled, and an Ada program runs over its runtime.
 unpacked() {
-  local to=$scratch/dist bare=/usr/bin:/bin
+  local to="$scratch/dist, a&b" bare=/usr/bin:/bin
   put_all "$to"
   if env -i PATH=$bare "$to/bin/pobj" run <examples/allocator.pobj | cmp -s - examples/allocator.out; then pass; else fail "the packed pobj doesn't run a script"; fi
   if env -i PATH=$bare gcc -std=c11 "-I$to/include" "$to/share/pobj/examples/buffer.c" "-L$to/lib" -lpobj -lpthread -o "$scratch/buffer" \

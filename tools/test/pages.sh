@@ -2,8 +2,8 @@
 # What the pages say of the tree: each crate stands in the map, links and claims lead somewhere, definitions are listed, what must
 # be believed is counted, paragraphs are short, wrong bodies are few. Read by `test`, behind count.sh.
 
-# The most wrong bodies that the tree has: each costs half a minute of a full run (CONTRIBUTING.md).
-most_edits=142
+# The most wrong bodies that the tree has: each costs a quarter of a minute of a full run (CONTRIBUTING.md).
+most_edits=143
 
 # The most words that all pages together have, outside of code.
 most_words=20000

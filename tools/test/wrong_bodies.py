@@ -3,7 +3,8 @@
 crates. Prints a line for each, and at the end 'N passed, M failed'.
 
 They are tried in a copy of the sources, or with --in FOLDER in a copy that is there, over what the toolchain kept of proofs of
-these sources: half a minute each. `rt ci` tries them too, each crate from nothing."""
+these sources. Those of one crate stand in one check, if each has functions of its own, and each of these has to be refused: a
+quarter of a minute each. What is left is tried alone. `rt ci` tries each alone, and each crate from nothing."""
 
 import os
 import pathlib

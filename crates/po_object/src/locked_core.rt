@@ -1,6 +1,6 @@
 //! What lies behind an object's lock, with the pass by which callers come to it.
 
-ghost use Rattle.std.specs.Prelude.{ℕ, ◌≡◌, ◌<◌, ◌≤◌, ◌+◌, ◌⊎◌, ◌∷◌, ◌++◌, [], None, Some, find, is_some, length, unwrap_or, List, IfOk, IfErr, IfSome, IfNone, IsSome, OnOk, OnErr, OnSome, MatchResult};
+ghost use Rattle.std.specs.Prelude.{ℕ, ◌≡◌, ◌<◌, ◌≤◌, ◌+◌, ◌⊎◌, ◌∷◌, ◌++◌, [], None, Some, find, is_some, length, unwrap_or, List, IfOk, IfErr, IfSome, IfNone, IsSome, OnOk, OnErr, OnSome, MatchResult, slice_index};
 ghost use Rattle.po_engine.specs.Tickets.{number_at, SetsTicket};
 ghost use Rattle.po_engine.specs.WaitingCalls.{is_of};
 ghost use Rattle.po_engine.specs.Finding.{IsFound};
@@ -458,6 +458,8 @@ impl<
         op: u16,
         value: U::Value,
     ) -> Option<Result<Result<U::Value, u32>, Refusal>>
+        ensures reply { IfSome result (λ r. IfOk r (λ reply. reply ≡
+            U.meaning.function self.now.object.state.unit op value (counts_in U.meaning self.now.object.state))) }
         // It gives this where that history ends.
         ensures read { IfSome result (λ r. IfOk r (λ reply. IsFound (λ setup.
             IsReadAt U.meaning setup op value reply front.old front.new) C.setup)) }
@@ -481,6 +483,8 @@ impl<
     ///
     /// Refused as `NoSuchOperation` and `Finalized`.
     pub fn read_first(&self, op: u16, value: U::Value) -> Result<Result<U::Value, u32>, Refusal>
+        ensures reply { IfOk result (λ reply. reply ≡
+            U.meaning.function self.now.object.state.unit op value (counts_in U.meaning self.now.object.state)) }
         ensures read { IfOk result (λ reply. (log : List (Event U.Value))
             × IsFound (λ setup. IsReadAt U.meaning setup op value reply [] log) C.setup) }
         ensures refused { MatchResult result
@@ -500,6 +504,8 @@ impl<
         op: u16,
         value: U::Value,
     ) -> Result<Result<U::Value, u32>, Refusal>
+        ensures reply { IfOk result (λ reply. reply ≡
+            U.meaning.function self.old.object.state.unit op value (counts_in U.meaning self.old.object.state)) }
         ensures read { IfOk result (λ reply. IsFound (λ setup.
             IsReadAt U.meaning setup op value reply front.old front.new) C.setup) }
         ensures refused { MatchResult result
@@ -523,6 +529,8 @@ impl<
         front: &mut Front<U::Value, C>,
         entry: EntryRef,
     ) -> Result<Option<u64>, Refusal>
+        ensures number { IfOk result (λ count. IfSome count (λ n. n ≡
+            slice_index (counts_in U.meaning self.now.object.state) (entry_of C.shape entry))) }
         // So many are queued where that history ends.
         ensures count { IfOk result (λ count. IfSome count (λ n. IsFound (λ setup.
             IsCountAt U.meaning setup (entry_of C.shape entry) n front.old front.new) C.setup)) }

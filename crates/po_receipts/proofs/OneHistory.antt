@@ -170,26 +170,15 @@ module _ {S V : Type 0} (m : Meaning S V) where
       → IsPrefix seen log → after ≡ log → op < m.functions view.state.unit → reply ≡ m.function view.state.unit op value (counts_in m view.state)
       → IsFound (λ setup. IsReadAt m setup op value reply seen after) made
   read-on made view op value reply seen log after is h w later all has at =
-      let leads = sym (whole-leads view log h w) in
-      subst (λ (l : List (Event V)). IsFound (λ setup. IsReadAt m setup op value reply seen l) made) (sym all)
-      (subst (IsFound (λ setup. IsReadAt m setup op value reply seen log)) (sym is) (record {
-        later = later;
-        history = whole-history view log h w;
-        has = subst (λ (s : ObjectState S V). op < m.functions s.unit) leads has;
-        reply_is = at ∙ ap (λ (s : ObjectState S V). m.function s.unit op value (counts_in m s)) leads;
-      }))
+      held-on made view (λ v. (op < m.functions v.state.unit) × (reply ≡ m.function v.state.unit op value (counts_in m v.state))) seen log after is h w later all
+      (subst (λ (s : ObjectState S V). (op < m.functions s.unit) × (reply ≡ m.function s.unit op value (counts_in m s))) (sym (whole-leads view log h w)) (has, at))
 
   -- so many calls as are queued now are queued at the end of the log
   pub count-on : (made : Option (Setup S)) (view : View S V) (entry count : ℕ) (seen log after : List (Event V)) → made ≡ Some view.setup → Headline m view → IsWholeLog m view log
       → IsPrefix seen log → after ≡ log → count ≡ slice_index (counts_in m view.state) entry → IsFound (λ setup. IsCountAt m setup entry count seen after) made
   count-on made view entry count seen log after is h w later all at =
-      let leads = sym (whole-leads view log h w) in
-      subst (λ (l : List (Event V)). IsFound (λ setup. IsCountAt m setup entry count seen l) made) (sym all)
-      (subst (IsFound (λ setup. IsCountAt m setup entry count seen log)) (sym is) (record {
-        later = later;
-        history = whole-history view log h w;
-        count_is = at ∙ ap (λ (s : ObjectState S V). slice_index (counts_in m s) entry) leads;
-      }))
+      held-on made view (λ v. count ≡ slice_index (counts_in m v.state) entry) seen log after is h w later all
+      (subst (λ (s : ObjectState S V). count ≡ slice_index (counts_in m s) entry) (sym (whole-leads view log h w)) at)
 
   -- an attempt to cancel a waiting call leaves its event, or leaves the history as it is
   by_marks : (old new : View S V) (n : ℕ) (x : Call V) (log more : List (Event V)) (without_abort aborted : Bool) → x.without_abort ≡ without_abort → x.aborted ≡ aborted → IsAbortOfCall m old new n x → old.events ++ more ≡ new.events

@@ -82,18 +82,14 @@ module _ {S V : Type 0} (m : Meaning S V) (setup : Setup S) where
     pub history : IsWholeHistory after
     pub held : holds (view_after after)
 
-  -- The history is seen further, to a moment at which the function gives this (9.5.1).
-  pub record IsReadAt (op : ℕ) (value : V) (reply : Result V ℕ) (before after : List (Event V)) : Type 0 where
-    pub later : IsPrefix before after
-    pub history : IsWholeHistory after
-    pub has : op < m.functions (state_after after).unit
-    pub reply_is : reply ≡ m.function (state_after after).unit op value (counts_in m (state_after after))
+  -- The history is seen further, to a moment at which the unit has the function, and it gives this (9.5.1).
+  abbrev pub IsReadAt : ℕ → V → Result V ℕ → List (Event V) → List (Event V) → Type 0
+  IsReadAt op value reply before after =
+      HoldsAt (λ view. (op < m.functions view.state.unit) × (reply ≡ m.function view.state.unit op value (counts_in m view.state))) before after
 
   -- The history is seen further, to a moment at which so many calls are queued on the entry (9.9).
-  pub record IsCountAt (entry count : ℕ) (before after : List (Event V)) : Type 0 where
-    pub later : IsPrefix before after
-    pub history : IsWholeHistory after
-    pub count_is : count ≡ slice_index (counts_in m (state_after after)) entry
+  abbrev pub IsCountAt : ℕ → ℕ → List (Event V) → List (Event V) → Type 0
+  IsCountAt entry count before after = HoldsAt (λ view. count ≡ slice_index (counts_in m view.state) entry) before after
 
   -- At some moment behind all that was seen before, an attempt to cancel the seat's earliest queued call came to this
   -- (9.5.3, 9.5.4). The history is now seen beyond it.

@@ -3,9 +3,10 @@ use Rattle.std.specs.Prelude.{ℕ, ◌≡◌, ◌+◌, ◌*◌, All, count_by, l
 use Rattle.po_unit.specs.Meaning.{Meaning}
 use Rattle.po_core.specs.Base.{is_issue}
 use Rattle.po_core.specs.Headline.{Headline}
-use Rattle.po_classic_units.specs.Buffer.{buffer_meaning}
-use Rattle.po_classic_units.specs.Allocator.{allocator_meaning}
-use Rattle.po_classic_units.specs.Meeting.{meeting_meaning}
+use Rattle.po_core.specs.Setup.{Setup}
+use Rattle.po_classic_units.specs.Buffer.{buffer_meaning, buffer_unit}
+use Rattle.po_classic_units.specs.Allocator.{allocator_meaning, allocator_unit}
+use Rattle.po_classic_units.specs.Meeting.{meeting_meaning, meeting_unit}
 use Rattle.po_receipts.specs.Answers.{AnswersAreOwn, NonePending}
 use Rattle.po_receipts.specs.OneHistory.{IsWholeHistory}
 use Rattle.po_object.specs.Closing.{ClosedView, IsClosed}
@@ -14,6 +15,7 @@ use Rattle.po_stress.specs.declared.totals.Totals.{Totals}
 use Rattle.po_stress.specs.declared.unit.StressUnit.{StressUnit}
 use Rattle.po_stress.specs.declared.unit.StressUnit.TheVariants.{Buffer, Allocator, Meeting, Race}
 use Rattle.po_stress.specs.Ends.{filed_by_all}
+use Rattle.po_stress.specs.Starts.{started_new}
 use Rattle.po_stress.specs.Totals.{agree}
 
 -- As many calls were issued as the core's history issues. The other numbers are those of the receipts that were filed with
@@ -24,15 +26,16 @@ pub record AreTotalsOf {S : Type 0} (closed : ClosedView S ℕ) (t : Totals) : T
   pub cancelled : t.cancelled ≡ filed_by_all GivenUp closed.passes
   pub program_error : t.program_error ≡ filed_by_all Failed closed.passes
 
--- The totals are those of an object of a unit with this meaning that had so many seats and was closed: its history replays as
--- serial protected actions of one thread, and as many calls were issued as the passes counted. Each thread's pass counted all
--- calls that the thread was to make; so all of them were issued, and each of them ended in one of the three ways. So the totals
--- agree.
+-- The totals are those of an object of a unit with this meaning that was made so, had so many seats and was closed: its history
+-- replays as serial protected actions of one thread, and as many calls were issued as the passes counted. Each thread's pass
+-- counted all calls that the thread was to make; so all of them were issued, and each of them ended in one of the three ways. So
+-- the totals agree.
 --
 -- Each thread was answered what the object's whole history, which proofs alone know, gives to the thread's own calls, each once
 -- and in the thread's order; no call was left without its answer; and this history is serial (9.5.1).
-pub record IsBoundedRun {S : Type 0} (m : Meaning S ℕ) (threads calls : ℕ) (t : Totals) : Type 0 where
+pub record IsBoundedRun {S : Type 0} (m : Meaning S ℕ) (setup : Setup S) (threads calls : ℕ) (t : Totals) : Type 0 where
   pub closed : ClosedView S ℕ
+  pub made : closed.core.object.setup ≡ setup
   pub seats : length closed.passes ≡ threads
   pub tallies : All (λ pass. pass.calls ≡ calls) closed.passes
   pub totals : IsClosed m closed
@@ -46,9 +49,9 @@ pub record IsBoundedRun {S : Type 0} (m : Meaning S ℕ) (threads calls : ℕ) (
   pub agreed : agree t ≡ true
 
 -- The totals are those of an object of the unit that had so many seats, from each of which so many calls were made, and was
--- closed.
+-- closed: of the units that `IsRunOf` lists.
 abbrev pub IsBoundedRunOf : StressUnit → ℕ → ℕ → Totals → Type 0
-IsBoundedRunOf Buffer threads calls t = IsBoundedRun buffer_meaning threads calls t
-IsBoundedRunOf Race threads calls t = IsBoundedRun buffer_meaning threads calls t
-IsBoundedRunOf Allocator threads calls t = IsBoundedRun allocator_meaning threads calls t
-IsBoundedRunOf Meeting threads calls t = IsBoundedRun meeting_meaning threads calls t
+IsBoundedRunOf Buffer threads calls t = IsBoundedRun buffer_meaning (started_new buffer_unit 4) threads calls t
+IsBoundedRunOf Race threads calls t = IsBoundedRun buffer_meaning (started_new buffer_unit 2) threads calls t
+IsBoundedRunOf Allocator threads calls t = IsBoundedRun allocator_meaning (started_new allocator_unit 3) threads calls t
+IsBoundedRunOf Meeting threads calls t = IsBoundedRun meeting_meaning (started_new meeting_unit threads) threads calls t

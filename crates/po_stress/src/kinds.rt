@@ -155,7 +155,7 @@ pub(crate) fn run<
     requires log { (log.name ≡ C.log) × (log.items ≡ []) }
     requires calls { (calls.name ≡ C.name) × (calls.parts ≡ C.parts) × (calls.parts ≡ threads + 1) }
     requires procedures { (procedures.name ≡ P.name) × (procedures.parts ≡ P.parts) × (procedures.parts ≡ threads + 1) }
-    ensures report { IfOk result (IsRun U.meaning threads job.calls) }
+    ensures report { IfOk result (IsRun U.meaning (started unit shape) threads job.calls) }
     ensures fault { IfErr result (λ fault. fault ≡ StressFault.OutOfMemory) }
 {
     let core = Core::start(rt.alloc(), unit, shape, Order::Textual, START).map_err(|_| AllocError)?;
@@ -190,7 +190,7 @@ pub(crate) fn run_bounded<
     requires calls { (calls.name ≡ C.name) × (calls.parts ≡ C.parts) × (calls.parts ≡ threads + 1) }
     requires procedures { (procedures.name ≡ P.name) × (procedures.parts ≡ P.parts) × (procedures.parts ≡ threads + 1) }
     requires free { (free.name ≡ F.name) × (free.parts ≡ F.parts) × (free.parts ≡ threads + 1) }
-    ensures totals { IfOk result (IsBoundedRun U.meaning threads job.calls) }
+    ensures totals { IfOk result (IsBoundedRun U.meaning (started unit shape) threads job.calls) }
     ensures fault { IfErr result (λ fault. fault ≡ StressFault.OutOfMemory) }
 {
     let most = usize::from(threads);
@@ -220,7 +220,7 @@ pub(crate) fn run_bounded<
 fn report_on<U: Unit<Value = u64>>(closed: &Closed<U>, calls: u32) -> Report
     requires tallies { All (λ pass. pass.calls ≡ calls) closed.now.passes }
     requires pending { NonePending closed.now.passes }
-    ensures { IsRun U.meaning (length closed.now.passes) calls result }
+    ensures { IsRun U.meaning closed.now.core.object.setup (length closed.now.passes) calls result }
 {
     closed.closing_totals();
     closed.every_answer();
@@ -234,7 +234,7 @@ fn totals_of<U: Unit<Value = u64>>(closed: &BoundedClosed<U>, ends: Ends, calls:
     requires pending { NonePending closed.now.passes }
     requires ends { AreEndsOfAll closed.now.passes ends }
     requires all { all_of ends ≡ calls_of closed.now.passes }
-    ensures { IsBoundedRun U.meaning (length closed.now.passes) calls result }
+    ensures { IsBoundedRun U.meaning closed.now.core.object.setup (length closed.now.passes) calls result }
 {
     closed.closing_totals();
     closed.every_answer();

@@ -1,6 +1,6 @@
 //! A run over an object that was opened, from its first call to its closing.
 
-ghost use Rattle.std.specs.Prelude.{◌≡◌, ◌≤◌, All, IfOk, IfErr, OnOk, length, vec_len};
+ghost use Rattle.std.specs.Prelude.{◌≡◌, ◌≤◌, Some, All, IfOk, IfErr, OnOk, length, vec_len};
 ghost use Rattle.std.specs.Arc.{arc_value};
 ghost use Rattle.po_receipts.specs.Answers.{NonePending};
 ghost use Rattle.po_object.specs.Seats.{AreFresh, OneEach, AreBySeat};
@@ -132,6 +132,7 @@ fn close<
 ) -> Result<Closed<U, R, Q>, StressFault>
     ensures one_each { OnOk result (OneEach (arc_value object) passes.items × (length passes.items ≡ arc_value object)) }
     ensures by_seat { IfOk result (λ closed. AreBySeat (arc_value object) passes.items closed.passes) }
+    ensures made { IfOk result (λ closed. C.setup ≡ Some closed.core.object.setup) }
     ensures fault { IfErr result (λ fault. fault ≡ StressFault.OutOfMemory) }
 {
     let Ok(object) = Arc::try_unwrap(object) else {
@@ -163,6 +164,7 @@ pub(crate) fn run_over<
     requires seats { arc_value object ≡ threads }
     requires fresh { AreFresh threads passes.items }
     ensures seats { IfOk result (λ r. length r.0.passes ≡ threads) }
+    ensures made { IfOk result (λ r. C.setup ≡ Some r.0.core.object.setup) }
     ensures tallies { IfOk result (λ r. All (λ pass. pass.calls ≡ job.calls) r.0.passes) }
     ensures free { IfOk result (λ r. NonePending r.0.passes) }
     ensures ends { IfOk result (λ r. AreEndsOfAll r.0.passes r.1) }

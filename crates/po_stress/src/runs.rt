@@ -7,6 +7,7 @@ ghost use Rattle.po_classic_units.specs.Allocator.{allocator_meaning};
 ghost use Rattle.po_classic_units.specs.Meeting.{meeting_meaning};
 ghost use Rattle.po_stress.specs.Runs.{IsRun, IsRunOf};
 ghost use Rattle.po_stress.specs.BoundedRuns.{IsBoundedRun, IsBoundedRunOf};
+ghost use Rattle.po_stress.specs.Starts.{started};
 ghost use Rattle.po_stress.specs.Units.{is_paired};
 
 use crate::fault::StressFault;
@@ -45,7 +46,7 @@ fn run_recorded<
     U: ScriptUnit + Unit<Value = u64> + Send + Sync + Drop + 'static,
     W: Threads + Wait + AllocGlobal + Copy + Send + 'static,
 >(rt: W, unit: U, progress: &Arc<Progress>, job: Job, threads: u16) -> Result<Report, StressFault>
-    ensures report { IfOk result (IsRun U.meaning threads job.calls) }
+    ensures report { IfOk result (IsRun U.meaning (started unit (U.known.declarations unit)) threads job.calls) }
     ensures fault { IfErr result (λ fault. fault ≡ StressFault.OutOfMemory) }
 {
     let shape = unit.shape(rt.alloc()).map_err(|_| AllocError)?;
@@ -69,7 +70,7 @@ fn run_fixed<
     U: ScriptUnit + Unit<Value = u64> + Send + Sync + Drop + 'static,
     W: Threads + Wait + AllocGlobal + Copy + Send + 'static,
 >(rt: W, unit: U, progress: &Arc<Progress>, job: Job, threads: u16) -> Result<Totals, StressFault>
-    ensures totals { IfOk result (IsBoundedRun U.meaning threads job.calls) }
+    ensures totals { IfOk result (IsBoundedRun U.meaning (started unit (U.known.declarations unit)) threads job.calls) }
     ensures fault { IfErr result (λ fault. fault ≡ StressFault.OutOfMemory) }
 {
     let shape = unit.shape(rt.alloc()).map_err(|_| AllocError)?;

@@ -13,6 +13,7 @@ returns g c =
     let tallies : All (λ pass. pass.calls ≡ c.args.calls) passes = c.requires.tallies in
     record {
       closed = c.args.closed.now;
+      made = refl;
       seats = refl;
       tallies = tallies;
       totals = c.closing_totals.ensures;

@@ -23,6 +23,7 @@ returns g c =
     let closing = c.closing_totals.ensures.totals.calls in
     record {
       closed = c.args.closed.now;
+      made = refl;
       seats = refl;
       tallies = c.requires.tallies;
       totals = c.closing_totals.ensures;
