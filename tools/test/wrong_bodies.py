@@ -48,6 +48,11 @@ def module(path):
     return [parts[1]] if parts[0] == "src" and parts[1:] not in (("lib",), ("main",)) else []
 
 
+def modules(paths):
+    """The modules of these files."""
+    return {name for path in paths for name in module(path)}
+
+
 def without_parameters(text):
     """The text without what stands in angle brackets."""
     while (shorter := re.sub(r"<[^<>]*>", "", text)) != text:
@@ -55,14 +60,33 @@ def without_parameters(text):
     return text
 
 
+def split_parameters(text):
+    """The parameters in angle brackets that the text begins with, if it does, and what follows."""
+    depth = 0
+    for end, mark in enumerate(text, 1):
+        depth += (mark == "<") - (mark == ">")
+        if depth == 0:
+            break
+    return (text[1 : end - 1], text[end:]) if text.startswith("<") else ("", text)
+
+
+def name_of_type(head):
+    """How a check names the type of an `impl` with this head: with its trait behind it, or with what stands for its parameters."""
+    parameters, rest = split_parameters(re.sub(r"^(unsafe )?impl\s*", "", head.replace("->", "")))
+    trait, _, of = rest.rpartition(" for ")
+    names = re.findall(r"\w+", of)
+    if trait:
+        return names[0] + without_parameters(trait).strip().split("::")[-1]
+    declared = {it.split(":")[0].strip() for it in without_parameters(parameters).split(",")}
+    return names[0] if of.count("<") < 2 and declared.issuperset(names[1:]) else "+".join(names)
+
+
 def owner(lines):
-    """The name of the type, with that of its trait behind it, whose methods stand behind these lines, or the empty name."""
+    """The name of the type whose methods stand behind these lines, or the empty name."""
     tops = [number for number, line in enumerate(lines) if re.match(r"(unsafe )?impl\b", line)]
     if not tops or "}" in lines[tops[-1] :]:
         return ""
-    head = without_parameters(" ".join(lines[tops[-1] :]).split("{")[0].replace("->", ""))
-    names = re.findall(r"\w+", re.sub(r"^(unsafe )?impl|\bwhere\b.*", "", head))
-    return names[2] + names[0] if names[1:2] == ["for"] else names[0]
+    return name_of_type(" ".join(it.strip() for it in lines[tops[-1] :]).split("{")[0].split(" where ")[0])
 
 
 def function(crate, change):
@@ -103,7 +127,7 @@ def only(names):
 
 def not_proved(said):
     """The functions of which a check says that they aren't proved, but for those that call one of which it says so."""
-    return re.findall(r"^fn ([\w:]+): (?:not proved|no proof: (?!it calls))", said, re.M)
+    return re.findall(r"^fn (\S+): (?:not proved|no proof: (?!it calls))", said, re.M)
 
 
 def says_refused(status, said):
@@ -136,8 +160,12 @@ def refused_together(edits, crate):
         chosen, names = side_by_side([edit for edit in edits if edit not in refused], crate)
         if len(chosen) < 2:
             break
-        status, said = check(crate, edited(chosen, crate), only(names))
-        wrong = [] if status != 1 else not_proved(said)
+        texts = edited(chosen, crate)
+        status, said = check(crate, texts, only(names))
+        if status == 2:
+            # (a name that the check has otherwise)
+            status, said = check(crate, texts, only(modules(texts)))
+        wrong = not_proved(said) if status == 1 else []
         new = [edit for edit in chosen if any(f"::{it}".endswith(f"::{name}") for it in wrong for name in functions(crate, edit))]
         refused += new
     return refused
@@ -154,7 +182,7 @@ def try_edit(edit, crate):
     """Tries one wrong body in the copy of its crate, prints what came of it, and answers whether it was refused."""
     try:
         texts = edited([edit], crate)
-        status, said = check(crate, texts, only({name for path in texts for name in module(path)}))
+        status, said = check(crate, texts, only(modules(texts)))
     except (OSError, ValueError) as fault:
         return tell(edit, crate, False, str(fault))
     return tell(edit, crate, says_refused(status, said), f"status {status}: {said[-400:]}")
