@@ -1,8 +1,11 @@
-with Ada.Exceptions;
 with Ada.Unchecked_Conversion;
+with Ada.Unchecked_Deallocation;
+
+with Interfaces.C;
 
 with System.Task_Primitives.Operations;
 with System.Tasking.Initialization;
+with System.Tasking.Nested_Actions;
 with System.Tasking.Protected_Objects.Pobj;
 with System.Tasking.Protected_Objects.Queues;
 with System.Tasking.Protected_Objects.Traces;
@@ -29,6 +32,18 @@ package body System.Tasking.Protected_Objects.Actions is
    pragma Import (Intrinsic, Synchronize, "__sync_synchronize");
    --  What this task wrote before is seen before it reads on
 
+   subtype Occurrence_Access is Exception_Occurrence_Access;
+
+   procedure Free is new Ada.Unchecked_Deallocation
+     (Exception_Occurrence, Occurrence_Access);
+
+   With_Occurrence : constant := Null_Entry;
+   --  The entry of a call that has ended by an exception of a body: its
+   --  Uninterpreted_Data is the occurrence, until the caller takes it.
+
+   procedure Sleep_Shortly (Microseconds : Interfaces.C.unsigned);
+   pragma Import (C, Sleep_Shortly, "usleep");
+
    --  A queued call keeps its ticket in Prev, the key, and Next, the number:
    --  that is never 0, so Next isn't null while the call is queued, as GNARL
    --  has it.
@@ -38,6 +53,10 @@ package body System.Tasking.Protected_Objects.Actions is
      new Ada.Unchecked_Conversion (Word, Entry_Call_Link);
    function To_Word is
      new Ada.Unchecked_Conversion (Entry_Call_Link, Word);
+   function To_Occurrence is
+     new Ada.Unchecked_Conversion (Address, Occurrence_Access);
+   function To_Address is
+     new Ada.Unchecked_Conversion (Occurrence_Access, Address);
    pragma Warnings (On);
 
    function Action_Of (Answer : Word) return Word;
@@ -94,9 +113,6 @@ package body System.Tasking.Protected_Objects.Actions is
    --  is woken at once: else this task, which leaves the ceiling with the
    --  lock, could be preempted before it wakes a more urgent one.
 
-   procedure Raise_In_Caller (Call : Entry_Call_Link; Why : Exception_Id);
-   --  The call ends by an exception of the runtime's own, without a message
-
    procedure Note_Queued
      (Self_ID : Task_Id;
       Object  : Protection_Entries_Access;
@@ -109,11 +125,6 @@ package body System.Tasking.Protected_Objects.Actions is
    --  The call can be cancelled from now on. An abort may have come before,
    --  and the abortable part of an asynchronous select begins now (9.7.4):
    --  its caller looks again.
-
-   function Own_Raises (Self_ID : Task_Id) return Boolean;
-   pragma Inline (Own_Raises);
-   --  Whether this task's own call has ended by an exception. The task has
-   --  its occurrence, which bodies and barriers must not replace.
 
    function Is_Run
      (Object : Protection_Entries_Access;
@@ -153,14 +164,6 @@ package body System.Tasking.Protected_Objects.Actions is
       Told    : in out Step) return Word;
    --  Does what the engine says, and gives the next answer
 
-   procedure Carry_Out_Beside
-     (Self_ID : Task_Id;
-      Object  : Protection_Entries_Access;
-      Answer  : Word;
-      Told    : in out Step);
-   --  As Carry_Out, and keeps the exception that this task's own call is
-   --  going to raise.
-
    procedure Carry_Out
      (Self_ID : Task_Id;
       Object  : Protection_Entries_Access;
@@ -173,13 +176,6 @@ package body System.Tasking.Protected_Objects.Actions is
    --  A call that was requeued to a task arrives there. Where that task has
    --  come to its end, GNARL ends the call by Tasking_Error (9.5.3), and its
    --  record is the caller's again.
-
-   procedure Issue_Beside
-     (Self_ID : Task_Id;
-      Object  : Protection_Entries_Access;
-      Call    : Entry_Call_Link);
-   --  As Issue, and keeps the exception that this task's own call is going
-   --  to raise, if there is one.
 
    procedure Issue_To_Object
      (Self_ID : Task_Id;
@@ -339,29 +335,57 @@ package body System.Tasking.Protected_Objects.Actions is
       end if;
    end End_Call;
 
-   ------------------
-   -- Drop_Message --
-   ------------------
+   ---------------------
+   -- Keep_Occurrence --
+   ---------------------
 
-   procedure Drop_Message (Call : Entry_Call_Link) is
+   procedure Keep_Occurrence
+     (Call : Entry_Call_Link; Source : Exception_Occurrence) is
    begin
-      --  Who waits raises nothing meanwhile, but an abortable part may
+      Call.Uninterpreted_Data :=
+        To_Address (Occurrence_Access'(Save_Occurrence (Source)));
+      Call.E := With_Occurrence;
+   exception
+      when others =>
+         null;
+   end Keep_Occurrence;
 
-      if Call.Mode /= Asynchronous_Call then
+   ---------------------
+   -- Take_Occurrence --
+   ---------------------
+
+   procedure Take_Occurrence (Self_ID : Task_Id) is
+      Call : constant Entry_Call_Link :=
+               Self_ID.Entry_Calls (Self_ID.ATC_Nesting_Level)'Access;
+      Kept : Occurrence_Access;
+   begin
+      --  The level may be that of a delay: its record is that of a call
+      --  before, or new.
+
+      if Call.Exception_To_Raise /= Null_Id
+        and then Call.E = With_Occurrence
+        and then Call.Uninterpreted_Data /= Null_Address
+      then
+         Kept := To_Occurrence (Call.Uninterpreted_Data);
+         Call.Uninterpreted_Data := Null_Address;
+         Save_Occurrence
+           (Self_ID.Common.Compiler_Data.Current_Excep, Kept.all);
+         Free (Kept);
+      end if;
+   end Take_Occurrence;
+
+   -----------------
+   -- Set_Message --
+   -----------------
+
+   procedure Set_Message (Call : Entry_Call_Link) is
+   begin
+      if Call.Exception_To_Raise /= Null_Id and then Call.E /= With_Occurrence
+      then
          Save_Occurrence
            (Call.Self.Common.Compiler_Data.Current_Excep, Null_Occurrence);
       end if;
-   end Drop_Message;
-
-   ---------------------
-   -- Raise_In_Caller --
-   ---------------------
-
-   procedure Raise_In_Caller (Call : Entry_Call_Link; Why : Exception_Id) is
-   begin
-      Call.Exception_To_Raise := Why;
-      Drop_Message (Call);
-   end Raise_In_Caller;
+   end Set_Message;
 
    ----------------
    -- Look_Again --
@@ -382,18 +406,6 @@ package body System.Tasking.Protected_Objects.Actions is
 
       STPO.Unlock (Call.Self);
    end Look_Again;
-
-   ----------------
-   -- Own_Raises --
-   ----------------
-
-   function Own_Raises (Self_ID : Task_Id) return Boolean is
-      Level : constant ATC_Level_Base := Self_ID.ATC_Nesting_Level;
-   begin
-      return Level in Self_ID.Entry_Calls'Range
-        and then Self_ID.Entry_Calls (Level).State = Done
-        and then Self_ID.Entry_Calls (Level).Exception_To_Raise /= Null_Id;
-   end Own_Raises;
 
    -----------------
    -- Note_Queued --
@@ -548,7 +560,7 @@ package body System.Tasking.Protected_Objects.Actions is
 
          when Now_Broken =>
             Trace (Object, To_Link (Told.Caller), "program_error");
-            Raise_In_Caller (To_Link (Told.Caller), Program_Error'Identity);
+            To_Link (Told.Caller).Exception_To_Raise := Program_Error'Identity;
             End_Call (Self_ID, Object, To_Link (Told.Caller), Done);
             return pobj_next (Engine_Of (Object.all), Told'Address);
 
@@ -556,28 +568,6 @@ package body System.Tasking.Protected_Objects.Actions is
             Stop;
       end case;
    end Next_Answer;
-
-   ----------------------
-   -- Carry_Out_Beside --
-   ----------------------
-
-   procedure Carry_Out_Beside
-     (Self_ID : Task_Id;
-      Object  : Protection_Entries_Access;
-      Answer  : Word;
-      Told    : in out Step)
-   is
-      Own : Exception_Occurrence;
-      Now : Word := Answer;
-   begin
-      Save_Occurrence (Own, Self_ID.Common.Compiler_Data.Current_Excep);
-
-      while Now /= Rest loop
-         Now := Next_Answer (Self_ID, Object, Now, Told);
-      end loop;
-
-      Save_Occurrence (Self_ID.Common.Compiler_Data.Current_Excep, Own);
-   end Carry_Out_Beside;
 
    ---------------
    -- Carry_Out --
@@ -593,11 +583,6 @@ package body System.Tasking.Protected_Objects.Actions is
    begin
       while Now /= Rest loop
          Now := Next_Answer (Self_ID, Object, Now, Told);
-
-         if Now /= Rest and then Own_Raises (Self_ID) then
-            Carry_Out_Beside (Self_ID, Object, Now, Told);
-            Now := Rest;
-         end if;
       end loop;
    end Carry_Out;
 
@@ -629,7 +614,7 @@ package body System.Tasking.Protected_Objects.Actions is
 
       if Answer = No_Memory then
          Trace (Object, Call, "raised STORAGE_ERROR");
-         Raise_In_Caller (Call, Storage_Error'Identity);
+         Call.Exception_To_Raise := Storage_Error'Identity;
          End_Call (Self_ID, Object, Call, Done);
       else
          Carry_Out (Self_ID, Object, Answer, Told);
@@ -677,28 +662,6 @@ package body System.Tasking.Protected_Objects.Actions is
       Is_Callable := Rendezvous.Task_Do_Or_Queue (Self_ID, Call);
    end Issue_To_Task;
 
-   ------------------
-   -- Issue_Beside --
-   ------------------
-
-   procedure Issue_Beside
-     (Self_ID : Task_Id;
-      Object  : Protection_Entries_Access;
-      Call    : Entry_Call_Link) is
-   begin
-      if Own_Raises (Self_ID) then
-         declare
-            Own : Exception_Occurrence;
-         begin
-            Save_Occurrence (Own, Self_ID.Common.Compiler_Data.Current_Excep);
-            Issue (Self_ID, Object, Call);
-            Save_Occurrence (Self_ID.Common.Compiler_Data.Current_Excep, Own);
-         end;
-      else
-         Issue (Self_ID, Object, Call);
-      end if;
-   end Issue_Beside;
-
    ---------------------
    -- Issue_To_Object --
    ---------------------
@@ -722,10 +685,10 @@ package body System.Tasking.Protected_Objects.Actions is
       end;
 
       if Violation then
-         Raise_In_Caller (Call, Program_Error'Identity);
+         Call.Exception_To_Raise := Program_Error'Identity;
          End_Now (Self_ID, Call, Done);
       else
-         Issue_Beside (Self_ID, Object, Call);
+         Issue (Self_ID, Object, Call);
          Take_Put_Off (Object, Put_There);
          Join (Last, Put_There);
          Unlock_Entries (Object);
@@ -762,18 +725,39 @@ package body System.Tasking.Protected_Objects.Actions is
      (Self_ID : Task_Id;
       Object  : Protection_Entries_Access)
    is
+      pragma Unreferenced (Self_ID);
       Ring : Entry_Call_Link := null;
    begin
       if Serves (Object) then
          Take_Put_Off (Object, Ring);
+
+         if Ring /= null then
+            Join (Nested_Actions.Later, Ring);
+         end if;
       end if;
 
       Unlock_Entries (Object);
-
-      if Ring /= null then
-         Look_After (Self_ID, Ring);
-      end if;
    end Leave;
+
+   ----------------------
+   -- Look_After_Later --
+   ----------------------
+
+   procedure Look_After_Later is
+      Ring : Entry_Call_Link;
+   begin
+      --  What is put off meanwhile comes behind
+
+      Nested_Actions.Enter;
+
+      while Nested_Actions.Later /= null loop
+         Ring := Nested_Actions.Later;
+         Nested_Actions.Later := null;
+         Look_After (STPO.Self, Ring);
+      end loop;
+
+      Nested_Actions.Leave;
+   end Look_After_Later;
 
    --------------
    -- Finalize --
@@ -797,6 +781,64 @@ package body System.Tasking.Protected_Objects.Actions is
          Free (Object);
       end if;
    end Finalize;
+
+   ----------------------
+   -- Is_Server_Locked --
+   ----------------------
+
+   function Is_Server_Locked (Call : Entry_Call_Link) return Boolean is
+      Self_ID : constant Task_Id := Call.Self;
+      Object  : Protection_Entries_Access;
+
+   begin
+      if not Has_Own_Lock then
+         return False;
+      end if;
+
+      --  Who ends the call needs the caller's lock for that. So the object is
+      --  there as long as the caller has it, and the call hasn't ended.
+
+      loop
+         STPO.Write_Lock (Self_ID);
+
+         if Call.State >= Done then
+            Call.Called_PO := Null_Address;
+            Call.Called_Task := Self_ID;
+            return True;
+         end if;
+
+         --  A call on a task may have the object of a call before
+
+         Object := (if Call.Called_Task = null
+                    then To_Protection (Call.Called_PO) else null);
+
+         if Object = null then
+            STPO.Unlock (Self_ID);
+            return False;
+         end if;
+
+         exit when Is_Locked (Object);
+         STPO.Unlock (Self_ID);
+         Sleep_Shortly (20);
+      end loop;
+
+      STPO.Unlock (Self_ID);
+
+      Nested_Actions.Enter;
+
+      if Detect_Blocking then
+         Object.Owner := Self_ID;
+         Self_ID.Common.Protected_Action_Nesting :=
+           Self_ID.Common.Protected_Action_Nesting + 1;
+      end if;
+
+      if To_Address (Object) = Call.Called_PO then
+         return True;
+      else
+         Unlock_Entries (Object);
+         return Is_Server_Locked (Call);
+      end if;
+   end Is_Server_Locked;
 
    ------------------
    -- Is_Cancelled --

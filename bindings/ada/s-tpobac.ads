@@ -4,6 +4,8 @@
 --  Nothing is elaborated here, so that programs which are linked already can
 --  use it.
 
+with Ada.Exceptions;
+
 with System.Tasking.Protected_Objects.Entries;
 
 package System.Tasking.Protected_Objects.Actions is
@@ -34,7 +36,12 @@ package System.Tasking.Protected_Objects.Actions is
    --  Gives up the lock of an object at rest. Then it ends the calls of other
    --  tasks that have ended, and issues the calls that bodies requeued to
    --  other objects or to tasks (9.5.4), with no lock held in between: a
-   --  caller that is woken finds the object's lock free.
+   --  caller that is woken finds the object's lock free. A task that is inside
+   --  of other objects does this once it has left the last.
+
+   procedure Look_After_Later;
+   pragma Export (Ada, Look_After_Later, "pobj_ada_look_after");
+   --  What this task has put off: it is inside of no object any more
 
    procedure Finalize
      (Self_ID : Task_Id;
@@ -42,6 +49,12 @@ package System.Tasking.Protected_Objects.Actions is
    pragma Export (Ada, Finalize, "pobj_ada_finalize");
    --  Ends all queued calls by Program_Error (9.4), and frees the queues.
    --  Holding the object's lock.
+
+   function Is_Server_Locked (Call : Entry_Call_Link) return Boolean;
+   --  Its caller locks the object that the call is on, holding no lock before.
+   --  If the call has ended, the object may be gone: then the call is on the
+   --  caller itself, which is locked. False if the call is on a task, and
+   --  under a locking policy: then nothing is locked.
 
    function Is_Withdrawn (Call : Entry_Call_Link) return Boolean;
    --  Whether the call, whose caller was aborted or doesn't wait any longer,
@@ -60,9 +73,20 @@ package System.Tasking.Protected_Objects.Actions is
    procedure Cancel (Self_ID : Task_Id; Call : Entry_Call_Link);
    --  Ends such a call, which is on no queue. Holding no task's lock.
 
-   procedure Drop_Message (Call : Entry_Call_Link);
-   --  The exception that the call is going to raise is the runtime's own, and
-   --  has no message. The call hasn't ended.
+   procedure Keep_Occurrence
+     (Call   : Entry_Call_Link;
+      Source : Ada.Exceptions.Exception_Occurrence);
+   pragma Export (Ada, Keep_Occurrence, "pobj_ada_keep");
+   --  A body ends the call by this exception: keeps its occurrence with the
+   --  call. The caller may raise and handle others, until it takes it.
+
+   procedure Take_Occurrence (Self_ID : Task_Id);
+   --  This task leaves the call of its level, which has ended: takes the
+   --  occurrence that is kept with it, if there is one. No abort may come.
+
+   procedure Set_Message (Call : Entry_Call_Link);
+   --  Its caller raises the call's exception now, if it has one: that has no
+   --  message if it is the runtime's own.
 
    procedure Leave_Queue (Call : Entry_Call_Link);
    --  Takes a call that is withdrawn off a queue of GNARL's

@@ -49,6 +49,10 @@ package body System.Tasking.Protected_Objects.Queues is
    procedure Set_Limits (Object : Protection_Entries_Access);
    --  Tells the engine the longest queue of each entry that has one
 
+   function pthread_mutex_trylock
+     (Mutex : access pthread_mutex_t) return Interfaces.C.int;
+   pragma Import (C, pthread_mutex_trylock);
+
    procedure Make_Adaptive (Object : Protection_Entries_Access);
    --  Who finds the object's lock taken looks some hundred times whether it
    --  is free before it sleeps, as a protected action is short. Under a
@@ -134,7 +138,7 @@ package body System.Tasking.Protected_Objects.Queues is
       Result     : Interfaces.C.int := 0;
 
    begin
-      if Locking_Policy in 'C' | 'I' | 'R'
+      if not Has_Own_Lock
         or else pthread_mutexattr_init (Attributes'Access) /= 0
       then
          return;
@@ -153,6 +157,27 @@ package body System.Tasking.Protected_Objects.Queues is
          raise Storage_Error with "no memory for the lock of an object";
       end if;
    end Make_Adaptive;
+
+   ------------------
+   -- Has_Own_Lock --
+   ------------------
+
+   function Has_Own_Lock return Boolean is
+   begin
+      return Locking_Policy not in 'C' | 'I' | 'R';
+   end Has_Own_Lock;
+
+   ---------------
+   -- Is_Locked --
+   ---------------
+
+   function Is_Locked (Object : Protection_Entries_Access) return Boolean is
+      Lock : aliased Lock_Parts;
+      for Lock'Address use Object.L'Address;
+      pragma Import (Ada, Lock);
+   begin
+      return pthread_mutex_trylock (Lock.WO'Access) = 0;
+   end Is_Locked;
 
    ----------
    -- Make --

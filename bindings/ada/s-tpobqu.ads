@@ -28,6 +28,15 @@ package System.Tasking.Protected_Objects.Queues is
    --  where the engine serves it. Raises Storage_Error where there is no
    --  memory for them, or where the object has more than 65_535 entries.
 
+   function Has_Own_Lock return Boolean;
+   pragma Inline (Has_Own_Lock);
+   --  Whether the locks of objects are those that Make makes: under a locking
+   --  policy (D.3) they stay GNARL's.
+
+   function Is_Locked
+     (Object : Entries.Protection_Entries_Access) return Boolean;
+   --  Takes such a lock, if it is free
+
    procedure Free (Object : Entries.Protection_Entries_Access);
    --  Frees the queues of an object, where no call is queued any more
 
