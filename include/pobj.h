@@ -68,7 +68,7 @@ enum {
 /* What is known of a call that is issued or requeued; numbers to be added. A call that is due stays due. */
 enum {
     POBJ_DUE = 1,           /* it is conditional, or its time has come: cancelled once no barrier is open (9.7.2, 9.7.3) */
-    POBJ_WITHOUT_ABORT = 2, /* of pobj_issue alone: a requeue without abort brings it here: it isn't cancelled (9.5.4) */
+    POBJ_WITHOUT_ABORT = 2, /* of pobj_issue alone: the call comes by a requeue without abort, so it isn't cancelled (9.5.4) */
     POBJ_ABORTED = 4        /* its caller was aborted: cancelled, unless it is requeued without abort (9.5.3, 9.5.4, 9.8) */
 };
 

@@ -31,14 +31,6 @@ put_archive() {
   rm -rf "$objects"
 }
 
-# Puts into the folder the file for pkg-config, which names the folder, with a backslash before each space.
-put_names() {
-  local text
-  text=$(<"$top/bindings/c/pobj.pc.in")
-  text=${text//@prefix@/"${1// /\\ }"}
-  printf '%s\n' "${text//@version@/"$(version)"}" >"$1/lib/pkgconfig/pobj.pc"
-}
-
 # Puts into the folder what a C program needs: library, headers, the file for pkg-config, and the examples.
 put_library() {
   local to=$1
@@ -47,7 +39,7 @@ put_library() {
   put_archive "$to/lib"
   cp "$top/include/pobj.h" "$top/bindings/c/pobj_threads.h" "$to/include/"
   cp -r "$top/bindings/c/examples" "$to/share/pobj/"
-  put_names "$to"
+  sed "s,@version@,$(version)," "$top/bindings/c/pobj.pc.in" >"$to/lib/pkgconfig/pobj.pc"
 }
 
 # Carries out `pobj c DEST`.
@@ -79,7 +71,6 @@ put_all() {
   mkdir "$to/share/pobj/ada" "$to/share/pobj/picture" "$to/doc/pictures"
   cp -r "$top"/bindings/ada/*.* "$top/bindings/ada/parts" "$to/share/pobj/ada/"
   cp "$top"/tools/picture/{picture,story,timeline,marks,svg}.py "$to/share/pobj/picture/"
-  sed -i 's,^prefix=.*,prefix=${pcfiledir}/../..,' "$to/lib/pkgconfig/pobj.pc"
   cp "$top/README.md" "$top/CONTRIBUTING.md" "$top"/docs/*.md "$top"/docs/*.svg "$to/doc/"
   cp "$top"/docs/pictures/*.svg "$to/doc/pictures/"
   cp -r "$top/examples" "$to/examples"

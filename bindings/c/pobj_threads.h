@@ -46,7 +46,8 @@ typedef enum {
     POBJ_CALL_COMPLETED,     /* a body completed it (9.5.2) */
     POBJ_CALL_ERROR,         /* a body completed it by an error, whose number is in the call's record */
     POBJ_CALL_ABORTED,       /* it is cancelled by pobj_abort (9.5.3, 9.8) */
-    POBJ_CALL_EXPIRED,       /* it is cancelled: its time has come, or it is conditional and would wait (9.7.2, 9.7.3) */
+    POBJ_CALL_EXPIRED,       /* it is cancelled: its time has come, or it is conditional and would wait (9.7.2, 9.7.3); a body
+                                that requeued it with abort has run */
     POBJ_CALL_PROGRAM_ERROR, /* the object is finalized (9.4), a barrier raised (9.5.3), another call's body answered
                                 POBJ_FAILED, or the queue was full (D.7) */
     POBJ_CALL_NO_MEMORY,     /* there was no memory to accept or to queue it; unless it was requeued, nothing has changed */
@@ -59,9 +60,10 @@ typedef enum {
 typedef struct {
     const char *name;                        /* for the reader */
     bool (*barrier)(pobj_protected *object); /* whether it is open, or what pobj_raise_barrier answers; NULL: always open */
-    int (*body)(pobj_call *call);            /* POBJ_COMPLETED, or what pobj_raise or a requeue answers; or POBJ_FAILED: the
-                                                data can't be relied upon any more, and all queued calls end by Program_Error,
-                                                but the body's own call as pobj_raise said before, or completed */
+    int (*body)(pobj_call *call);            /* POBJ_COMPLETED, or what pobj_raise or a requeue answers; or POBJ_FAILED, where
+                                                the data can't be relied upon: its own call is completed, by the error if
+                                                pobj_raise was called before, all queued calls end by
+                                                POBJ_CALL_PROGRAM_ERROR, and later ones are taken as before */
 } pobj_entry;
 
 /* A protected object (9.4). Barriers, procedures and functions read the first two parts; the rest isn't for programs. */
@@ -644,7 +646,7 @@ static inline unsigned pobj_abort(pobj_call *record) {
 }
 
 /* A protected procedure (9.5.1): it runs under the lock, and then what it has made possible is carried out. The answer is
-   POBJ_CALL_COMPLETED, or POBJ_CALL_PROGRAM_ERROR or POBJ_CALL_MISUSE, and then it didn't run. */
+   POBJ_CALL_COMPLETED; or POBJ_CALL_PROGRAM_ERROR, if the object is finalized, or POBJ_CALL_MISUSE, and then it didn't run. */
 static inline pobj_outcome pobj_procedure(
     pobj_protected *object, void (*procedure)(pobj_protected *object, void *parameters), void *parameters) {
     pobj_threads_action action = pobj_threads_action_of(NULL);

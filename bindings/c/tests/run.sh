@@ -114,7 +114,7 @@ installed() {
   mkdir -p "$prefix/include" "$prefix/lib/pkgconfig"
   cp "$include/pobj.h" pobj_threads.h "$prefix/include"
   cp "$library/libpobj.a" "$prefix/lib"
-  sed "s|@prefix@|$prefix|; s|@version@|0|" pobj.pc.in > "$prefix/lib/pkgconfig/pobj.pc"
+  sed "s|@version@|0|" pobj.pc.in > "$prefix/lib/pkgconfig/pobj.pc"
   local flags
   flags=$(PKG_CONFIG_PATH=$prefix/lib/pkgconfig pkg-config --cflags --libs pobj) || return
   # shellcheck disable=SC2086
