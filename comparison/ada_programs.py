@@ -172,7 +172,7 @@ def all_programs(runtime):
     faults = sum(not plain for plain, _ in verdicts)
     wrong = [name for name, (_, engine) in zip(names(), verdicts) if not engine]
     print(f"{len(verdicts)} programs; plain GNAT differs in {faults}: comparison/programs/NAME.why says why")
-    print(f"over pobj these differ: {', '.join(wrong)}" if wrong else "over pobj each difference is explained")
+    print(f"over pobj these differ: {', '.join(wrong)}" if wrong else "over pobj none differs")
     return 1 if wrong else 0
 
 

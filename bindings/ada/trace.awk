@@ -37,7 +37,7 @@ function add(object, from,   at, next_one, parts, symbol, words, count) {
         split($at, parts, ":")
         first[object, next_one] = parts[1]
         symbol = symbols[number_of(parts[2]) - shift]
-        sub(/_E[0-9]+b(\.[0-9]+)?$/, "", symbol)
+        sub(/_E[0-9]+[bs](\.[0-9]+)?$/, "", symbol)
         count = split(symbol, words, "__")
         if (count > 0) {
             entry_name[object, next_one] = words[count]

@@ -21,6 +21,6 @@ trap 'rm -f "$names"' EXIT
 if [ -r "$program" ]; then
   # Where the program's headers are without a shift, and the bodies of entries.
   readelf -lW "$program" 2>/dev/null | awk '$1 == "PHDR" { print "headers", $3 }' >"$names"
-  nm "$program" 2>/dev/null | awk '$3 ~ /_E[0-9]+b(\.[0-9]+)?$/ { print $1, $3 }' >>"$names"
+  nm "$program" 2>/dev/null | awk '$3 ~ /_E[0-9]+[bs](\.[0-9]+)?$/ { print $1, $3 }' >>"$names"
 fi
 awk -f "$here/trace.awk" "$names" "$1"

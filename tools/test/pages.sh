@@ -3,7 +3,7 @@
 # be believed is counted, paragraphs are short, wrong bodies are few. Read by `test`, behind count.sh.
 
 # The most wrong bodies that the tree has: each costs a quarter of a minute of a full run (CONTRIBUTING.md).
-most_edits=143
+most_edits=141
 
 # The most words that all pages together have, outside of code.
 most_words=20000
@@ -94,10 +94,10 @@ pages_are_short() {
   if [ "$words" -le "$most_words" ]; then pass; else fail "the pages have $words words, at most $most_words are to be"; fi
 }
 
-# No more wrong bodies than a full run has time for.
+# No more wrong bodies of the product than a full run has time for.
 edits_are_few() {
   local number
-  number=$(find crates/*/must-fail -name '*.edit' | wc -l)
+  number=$(find crates/po_*/must-fail -name '*.edit' | wc -l)
   if [ "$number" -le "$most_edits" ]; then pass; else fail "$number wrong bodies, at most $most_edits are to be"; fi
 }
 

@@ -91,6 +91,13 @@ record() {
   ../trace.sh "$scratch/record" | diff hangs.out -
 }
 
+# Whether the record has the names of an object in the specification of a package.
+record_of_package() {
+  linked in_package || return
+  POBJ_TRACE=$scratch/package.record "$scratch/in_package-linked"
+  ../trace.sh "$scratch/package.record" | diff in_package.out -
+}
+
 # Whether a program without a record writes none, and under Priority_Queuing a line says why.
 no_record() {
   local said
@@ -155,6 +162,7 @@ for name in urgent_caller_first ceiling_of_requeue; do
 done
 row "refused_memory.adb" refused_memory
 row "POBJ_TRACE, and pobj trace" record
+row "POBJ_TRACE of an object in a package" record_of_package
 row "POBJ_TRACE under Priority_Queuing" no_record
 row "POBJ_TRACE of two programs, and of a full disk" records_alone
 row "POBJ_TRACE of an object with many entries" many_entries

@@ -1,0 +1,11 @@
+--  An object that is declared in the specification of a package.
+
+package Gates is
+
+   protected Gate is
+      entry Pass;
+   private
+      Is_Open : Boolean := False;
+   end Gate;
+
+end Gates;
