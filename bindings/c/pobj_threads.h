@@ -46,8 +46,8 @@ typedef enum {
     POBJ_CALL_COMPLETED,     /* a body completed it (9.5.2) */
     POBJ_CALL_ERROR,         /* a body completed it by an error, whose number is in the call's record */
     POBJ_CALL_ABORTED,       /* it is cancelled by pobj_abort (9.5.3, 9.8) */
-    POBJ_CALL_EXPIRED,       /* it is cancelled: its time has come, or it is conditional and would wait (9.7.2, 9.7.3); a body
-                                that requeued it with abort has run */
+    POBJ_CALL_EXPIRED,       /* it is cancelled: its time has come, or it is conditional and would wait (9.7.2, 9.7.3); if a body
+                                requeued it with abort, that body has run */
     POBJ_CALL_PROGRAM_ERROR, /* the object is finalized (9.4), a barrier raised (9.5.3), another call's body answered
                                 POBJ_FAILED, or the queue was full (D.7) */
     POBJ_CALL_NO_MEMORY,     /* there was no memory to accept or to queue it; unless it was requeued, nothing has changed */
