@@ -41,6 +41,13 @@ package body System.Tasking.Protected_Objects.Actions is
    --  The entry of a call that has ended by an exception of a body: its
    --  Uninterpreted_Data is the occurrence, until the caller takes it.
 
+   procedure Lock_Object_Of
+     (Call   : Entry_Call_Link;
+      Object : out Protection_Entries_Access;
+      Ended  : out Boolean);
+   --  Locks the object that the call is on; none, where it is on a task. Of a
+   --  call that has ended, the caller's lock is held instead.
+
    procedure Sleep_Shortly (Microseconds : Interfaces.C.unsigned);
    pragma Import (C, Sleep_Shortly, "usleep");
 
@@ -782,6 +789,40 @@ package body System.Tasking.Protected_Objects.Actions is
       end if;
    end Finalize;
 
+   --------------------
+   -- Lock_Object_Of --
+   --------------------
+
+   procedure Lock_Object_Of
+     (Call   : Entry_Call_Link;
+      Object : out Protection_Entries_Access;
+      Ended  : out Boolean)
+   is
+      Self_ID : constant Task_Id := Call.Self;
+
+   begin
+      --  Who ends the call needs the caller's lock for that. So the object is
+      --  there as long as the caller has it, and the call hasn't ended.
+
+      loop
+         STPO.Write_Lock (Self_ID);
+         Ended := Call.State >= Done;
+
+         --  A call on a task may have the object of a call before
+
+         Object := (if not Ended and then Call.Called_Task = null
+                    then To_Protection (Call.Called_PO) else null);
+
+         exit when Object = null or else Is_Locked (Object);
+         STPO.Unlock (Self_ID);
+         Sleep_Shortly (20);
+      end loop;
+
+      if not Ended then
+         STPO.Unlock (Self_ID);
+      end if;
+   end Lock_Object_Of;
+
    ----------------------
    -- Is_Server_Locked --
    ----------------------
@@ -789,40 +830,23 @@ package body System.Tasking.Protected_Objects.Actions is
    function Is_Server_Locked (Call : Entry_Call_Link) return Boolean is
       Self_ID : constant Task_Id := Call.Self;
       Object  : Protection_Entries_Access;
+      Ended   : Boolean;
 
    begin
       if not Has_Own_Lock then
          return False;
       end if;
 
-      --  Who ends the call needs the caller's lock for that. So the object is
-      --  there as long as the caller has it, and the call hasn't ended.
+      Lock_Object_Of (Call, Object, Ended);
 
-      loop
-         STPO.Write_Lock (Self_ID);
+      if Ended then
+         Call.Called_PO := Null_Address;
+         Call.Called_Task := Self_ID;
+         return True;
 
-         if Call.State >= Done then
-            Call.Called_PO := Null_Address;
-            Call.Called_Task := Self_ID;
-            return True;
-         end if;
-
-         --  A call on a task may have the object of a call before
-
-         Object := (if Call.Called_Task = null
-                    then To_Protection (Call.Called_PO) else null);
-
-         if Object = null then
-            STPO.Unlock (Self_ID);
-            return False;
-         end if;
-
-         exit when Is_Locked (Object);
-         STPO.Unlock (Self_ID);
-         Sleep_Shortly (20);
-      end loop;
-
-      STPO.Unlock (Self_ID);
+      elsif Object = null then
+         return False;
+      end if;
 
       Nested_Actions.Enter;
 

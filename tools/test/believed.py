@@ -24,13 +24,18 @@ GLUE = (
     ("C: include/pobj.h, which says to C what the library has", ("include/pobj.h",), "//"),
     ("C: pobj_threads.h, protected objects for threads over it (bindings/c)", ("bindings/c/pobj_threads.h",), "//"),
 )
+# The calls of an object whose answers are of its one history.
+ANSWERS = (
+    *("call", "conditional", "timed", "procedure", "function_after", "try_count_after"),
+    *("tick_after", "finalize_after", "abort_seat_after", "cut_after"),
+)
 PROGRAMS = ("pobj_run", "pobj_check", "pobj_stress", "po_c")
 
 
 def rested_on(crate, file, method):
     """The definitions that the clauses of a public method cite, directly or through others."""
     lines = (walk.CRATES / crate / "src" / file).read_text().splitlines()
-    start = next(at for at, line in enumerate(lines) if line.startswith(f"    pub fn {method}("))
+    start = next(at for at, line in enumerate(lines) if line.startswith((f"    pub fn {method}(", f"    pub fn {method}<")))
     end = next(at for at in range(start, len(lines)) if lines[at] == "    }")
     outer = walk.imports("\n".join(line for line in lines if line.startswith("ghost use ")))
     return walk.closure(walk.roots_in([], walk.contracts(walk.without_comments("\n".join(lines[start:end]), "//")), outer))
@@ -47,13 +52,15 @@ def counts(pairs):
 
 
 def of_headline():
-    """Of each file how many of its definitions the headline rests on, and how many lines they have; and how many more the closing
-    theorem of objects rests on."""
+    """Of each file how many of its definitions the headline rests on, and how many lines they have; how many more the closing
+    theorem of objects rests on; and how many more what threads are answered."""
     headline = rested_on("po_core", "object_core.rt", "headline")
     closing = rested_on("po_object", "closing.rt", "every_answer") - headline
+    answers = set().union(*(rested_on("po_object", "object.rt", method) for method in ANSWERS)) - headline - closing
     files = sorted({path for path, _ in headline})
     rows = [(f"`{file.relative_to(walk.CRATES)}`", *counts([it for it in headline if it[0] == file])) for file in files]
-    return rows + [("all", *counts(headline)), ("more, for `Closed::every_answer`", *counts(closing))]
+    more = [("more, for `Closed::every_answer`", *counts(closing)), ("more, for each answer over threads", *counts(answers))]
+    return [*rows, ("all", *counts(headline)), *more]
 
 
 def lines_of(path, mark):

@@ -8,6 +8,7 @@ ghost use Rattle.example_readers.specs.ReadersWriters.{new_readers_writers, read
 use crate::law::exclusion_law_of_log;
 use crate::readers_writers::{READ, READ_DONE, ReadersWriters, WRITE, WRITE_DONE};
 use anyhow::{Result, bail};
+use po_calls::End;
 use po_core::{Core, Event};
 use po_object::{Closed, Keeper, Object, Pass, Story};
 use po_threads::{Job, start};
@@ -42,7 +43,7 @@ const WRITER: Visitor = Visitor {
 
 /// Goes in and comes out so often, and gives the pass back.
 ///
-/// A visitor that is refused finalizes the object, so that no other waits for it.
+/// A visitor that isn't let in, or is refused, finalizes the object, so that no other waits for it.
 fn visit_often<C: Story<ReadersWriters, u64>, P: Ledger, W: Wait>(
     rt: &W,
     object: &Object<ReadersWriters, C, P>,
@@ -57,7 +58,8 @@ fn visit_often<C: Story<ReadersWriters, u64>, P: Ledger, W: Wait>(
         index: None,
     };
     for _ in 0..VISITS {
-        if object.call(rt, &mut pass, enter, 0).is_err()
+        let entered = object.call(rt, &mut pass, enter, 0);
+        if !matches!(entered, Ok(End::Completed(_)))
             || object.procedure(rt, &mut pass, visitor.leave, 0).is_err()
         {
             let _ended = object.finalize(rt);

@@ -17,10 +17,13 @@ use Rattle.po_core.specs.Base.{Base, opening_base, state_with, state_at, arrived
 use Rattle.po_core.specs.Public.{NamesPublic}
 use Rattle.po_engine.specs.Pick.{last_from}
 use Rattle.po_core.specs.View.{View, Replays, IsInOnePlace, base_state, next_place}
-use Rattle.po_engine.specs.Arrival.{Rises, AreAt}
+use Rattle.po_engine.specs.Arrival.{Rises, AreAt, arrivals}
 use Rattle.po_core.specs.Arrival.{arrival}
 use Rattle.po_core.specs.History.{IsBase, IsHistory}
-use Rattle.po_core.specs.Cutting.{present_base, cut, cut_off, Leads, AreVolumes, KeepsArrivals, procedures_run}
+use Rattle.po_core.specs.Cutting.{present_base, cut, cut_off, Leads, AreVolumes, KeepsArrivals, arrival_in, procedures_run}
+use Rattle.po_core.proofs.Joining.{arrivals_agree, arrivals_append, ends-at}
+use Rattle.po_core.proofs.PlacesKept.{arrivals_are_places}
+use Rattle.po_core.proofs.Settling.{last-append}
 use Rattle.po_core.proofs.Counting.{replay-next, counted-apart}
 use Rattle.po_core.proofs.Runs.{replay-append, legal-append}
 use Rattle.po_core.proofs.Wells.{well, well_base}
@@ -97,18 +100,43 @@ module _ {S V : Type 0} (m : Meaning S V) where
   pub leads_there : (view : View S V) → Replays m view → Leads m view.setup view.events (base_state view) (base_state (cut m view))
   leads_there view h = record { legal = h.legal; to_there = h.leads ∙ sym (present_state view); public = h.public }
 
+  -- A call that waits arrived, by all events since the opening, where it arrived by the base and the events behind it.
+  arrived_there : (view : View S V) → Replays m view → (volumes : List (VolumeView V)) → AreVolumes m view volumes → Agree (arrival m view) (arrival_in m view.setup (joined volumes ++ view.events)) view.state.waiting
+  arrived_there view h volumes are =
+      let limit = view.setup.max_queue in
+      let start = opening_state view.setup.opening view.setup.first_number in
+      let before = arrival_in m view.setup (joined volumes) in
+      let there = AreAt before view.base.waiting in
+      let based = agree_arrived before view.base.waiting view.base.arrivals (subst there (sym are.arrivals) (at_own before view.base.waiting)) in
+      let same = All-weaker (λ x. arrived view.base x.number ≡ before x.number) (λ x. before x.number ≡ arrived view.base x.number) (λ x is. sym is) view.base.waiting based in
+      let since = arrivals_agree m limit (arrived view.base) before view.base.place (base_state view) view.events same in
+      let at = sym (ends-at view.setup.first_place volumes view.base.place are.run_on) in
+      All-weaker (λ x. arrivals m limit (base_state view) view.base.place before view.events x.number ≡ arrival m view x.number)
+      (λ x. arrival_in m view.setup (joined volumes ++ view.events) x.number ≡ arrival m view x.number)
+      (λ x is. arrivals_append m limit start view.setup.first_place (λ k. 0) (joined volumes) view.events x.number
+      ∙ (ap (λ s. arrivals m limit s (view.setup.first_place + length (joined volumes)) before view.events x.number) are.leads.to_there
+      ∙ (ap (λ k. arrivals m limit (base_state view) k before view.events x.number) at ∙ is)))
+      view.state.waiting
+      (subst (λ s. All (λ x. arrivals m limit (base_state view) view.base.place before view.events x.number ≡ arrival m view x.number) s.waiting) h.leads since)
+
   pub joins : (view : View S V) → Replays m view → (volumes : List (VolumeView V)) → AreVolumes m view volumes → AreVolumes m (cut m view) (volumes ++ cut_off view ∷ [])
   joins view h volumes are =
       let limit = view.setup.max_queue in
       let start = opening_state view.setup.opening view.setup.first_number in
       let one = leads_there view h in
+      let joined_now = sym (joined-append volumes (cut_off view)) in
+      let whole = arrival_in m view.setup (joined volumes ++ view.events) in
+      let now = map (λ x. arrival m view x.number) view.state.waiting in
       let all : Leads m view.setup (joined volumes ++ view.events) start (base_state (cut m view)) = record {
         legal = legal-append m limit start (joined volumes) view.events are.leads.legal (subst (λ s. IsLegal m limit s view.events) (sym are.leads.to_there) one.legal);
         to_there = replay-append m limit start (joined volumes) view.events ∙ (ap (λ s. replay m limit s view.events) are.leads.to_there ∙ one.to_there);
         public = All-append (NamesPublic view.setup.shape) (joined volumes) view.events are.leads.public one.public;
       } in record {
         run_on = run_on-append view.setup.first_place volumes view.base.place (cut_off view) are.run_on refl;
-        leads = subst (λ events. Leads m view.setup events start (base_state (cut m view))) (sym (joined-append volumes (cut_off view))) all;
+        leads = subst (λ events. Leads m view.setup events start (base_state (cut m view))) joined_now all;
+        arrivals = subst (λ events. map (λ x. arrival m view x.number) view.state.waiting ≡ map (λ x. arrival_in m view.setup events x.number) view.state.waiting) joined_now
+            (sym (arrivals_are_places whole view.state.waiting now (at_by (arrival m view) whole view.state.waiting now (arrived_there view h volumes are) (at_own (arrival m view) view.state.waiting))));
+        last = ap (λ last. last_from last view.events) are.last ∙ (sym (last-append None (joined volumes) view.events) ∙ ap (last_from None) joined_now);
         ran = ap (λ n. n + count_by is_ran view.events) are.ran
             ∙ sym (ap (count_by is_ran) (joined-append volumes (cut_off view)) ∙ sum_by-append (λ event. cond (is_ran event) 1 0) (joined volumes) view.events);
       }

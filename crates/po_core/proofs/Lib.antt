@@ -7,6 +7,7 @@ pub mod Falls
 pub mod Finds
 pub mod FirstDue
 pub mod Histories
+pub mod Joining
 pub mod Keys
 pub mod Noted
 pub mod Orders

@@ -23,7 +23,7 @@ use Rattle.po_core.proofs.Wells.{IsWell, well_after}
 use Rattle.po_engine.proofs.Absent.{eq_self}
 use Rattle.po_engine.proofs.Absent.{IsAbsent, absent_from_count}
 
-noted_same : (places : ℕ → ℕ) (k n : ℕ) → noted places k (Some n) n ≡ k
+pub noted_same : (places : ℕ → ℕ) (k n : ℕ) → noted places k (Some n) n ≡ k
 noted_same places k n = rw (eq_self n) refl
 
 module _ {V : Type 0} where
@@ -82,7 +82,7 @@ module _ {V : Type 0} where
   marked_number true x = refl
   marked_number false x = refl
 
-  marked_all : (n : ℕ) (P : ℕ → Type 0) (xs : List (Call V)) → All (λ y. P y.number) xs → All (λ y. P y.number) (map (mark n) xs)
+  pub marked_all : (n : ℕ) (P : ℕ → Type 0) (xs : List (Call V)) → All (λ y. P y.number) xs → All (λ y. P y.number) (map (mark n) xs)
   marked_all n P xs h = All-map (λ y. P y.number) (mark n) xs (All-weaker (λ y. P y.number) (λ y. P (mark n y).number) (λ y q. subst P (sym (marked_number (has_number n y) y)) q) xs h)
 
   rises_marked : (places : ℕ → ℕ) (n : ℕ) (xs : List (Call V)) → Rises places xs → Rises places (map (mark n) xs)

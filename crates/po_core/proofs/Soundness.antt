@@ -1,11 +1,11 @@
 -- What a history makes true of what contracts see.
-use Rattle.std.proofs.Common.{◌≡◌, [], subst, ap, sym}
+use Rattle.std.proofs.Common.{◌≡◌, ◌∙◌, [], map, subst, ap, sym}
 use Rattle.std.proofs.lemmas.List.Elements.{All-nil}
 use Rattle.po_unit.specs.Meaning.{Meaning, IsLawful}
 use Rattle.po_core.specs.View.{View, base_state}
 use Rattle.po_core.specs.Base.{arrived, state_at}
 use Rattle.po_core.specs.Public.{NamesPublic}
-use Rattle.po_core.specs.Cutting.{AreVolumes}
+use Rattle.po_core.specs.Cutting.{AreVolumes, arrival_in}
 use Rattle.po_engine.specs.Arrival.{Rises}
 use Rattle.po_core.specs.Arrival.{arrival}
 use Rattle.po_core.specs.History.{IsHistory}
@@ -42,5 +42,7 @@ uncut m view sound at =
         to_there = sym (ap (λ b. state_at b view.state.ended) opened);
         public = All-nil (NamesPublic view.setup.shape);
       };
+      arrivals = ap (λ b. b.arrivals) opened ∙ sym (ap (λ b. map (λ x. arrival_in m view.setup [] x.number) b.waiting) opened);
       ran = ap (λ b. b.ran) opened;
+      last = ap (λ b. b.last) opened;
     }

@@ -32,7 +32,9 @@ module _ {S V : Type 0} (m : Meaning S V) where
           to_there = rw setup (are.leads.to_there ∙ there);
           public = rw setup are.leads.public;
         };
+        arrivals = rw (setup, base) are.arrivals;
         ran = rw base are.ran;
+        last = rw base are.last;
       }
 
   -- after a command's own event

@@ -1,11 +1,13 @@
 -- The history is cut: its events go off as a volume, and the present picture becomes the base (this project's own).
-use Rattle.std.specs.Prelude.{ℕ, ◌≡◌, ◌+◌, List, [], map, length, count_by, All}
+use Rattle.std.specs.Prelude.{ℕ, ◌≡◌, ◌+◌, List, [], map, length, count_by, All, None}
 use Rattle.po_unit.specs.Meaning.{Meaning}
 use Rattle.po_history.specs.declared.event.Event.{Event}
 use Rattle.po_history.specs.Histories.{VolumeView, RunOn, joined}
 use Rattle.po_core.specs.Setup.{Setup}
 use Rattle.po_engine.specs.ObjectState.{ObjectState, opening_state}
 use Rattle.po_engine.specs.Step.{replay, IsLegal}
+use Rattle.po_engine.specs.Arrival.{arrivals}
+use Rattle.po_engine.specs.Pick.{last_from}
 use Rattle.po_core.specs.Public.{AllPublic}
 use Rattle.po_core.specs.Base.{Base, is_ran}
 use Rattle.po_core.specs.Arrival.{arrival}
@@ -42,13 +44,22 @@ module _ {S V : Type 0} where
     pub to_there : replay m setup.max_queue from events ≡ to
     pub public : AllPublic setup.shape events
 
+  -- the place at which the call with number n arrived on its queue, by these events from the opening of the object on
+  abbrev pub arrival_in : Meaning S V → Setup S → List (Event V) → ℕ → ℕ
+  arrival_in m setup events n =
+      arrivals m setup.max_queue (opening_state setup.opening setup.first_number) setup.first_place (λ k. 0) events n
+
   -- These volumes are the history before the base: they run on from the first place, and joined they replay from the
   -- opening of the object to the base.
   pub record AreVolumes (m : Meaning S V) (view : View S V) (volumes : List (VolumeView V)) : Type 0 where
     pub run_on : RunOn view.setup.first_place volumes view.base.place
     pub leads : Leads m view.setup (joined volumes) (opening_state view.setup.opening view.setup.first_number) (base_state view)
+    -- each call that waited then stands at the place at which it arrived by them
+    pub arrivals : view.base.arrivals ≡ map (λ x. arrival_in m view.setup (joined volumes) x.number) view.base.waiting
     -- the base has counted their procedures
     pub ran : view.base.ran ≡ count_by is_ran (joined volumes)
+    -- and knows the entry that they served last
+    pub last : view.base.last ≡ last_from None (joined volumes)
 
   -- how many procedures have run, before the base and since
   abbrev pub procedures_run : View S V → ℕ

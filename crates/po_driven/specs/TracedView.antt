@@ -46,7 +46,8 @@ pub record IsTraced (t : TracedView) : Type 0 where
   pub placed : IsInOnePlace (led_by t)
   -- those that are queued or in service have a ticket, and no other has one
   pub tickets : HasTickets t.object
-  -- the queued calls stand in order of arrival, and all arrived before the present (9.5.3, D.4)
+  -- The places kept for the queued calls rise, up to the present one, as the engine wants. That the queues are in order of
+  -- arrival (9.5.3, D.4) isn't said by these, but by `leads`: a call that is queued goes behind the others.
   pub rises : Increases t.object.places
   pub later : All (λ k. k < t.place) t.object.places
 

@@ -55,5 +55,6 @@ module _ {S V : Type 0} where
         totals = totals;
         whole = whole;
         asked = others;
+        seen = λ i d lt. (each i (get_or qs i d) (slice_get-get_or qs i d lt)).1.1;
         due = receipts-due m core qs end_of log ends h whole (λ i d lt. (each i (get_or qs i d) (slice_get-get_or qs i d lt)).0) totals others (λ s q e. (by_seat s q e, (each s q e).1));
       }

@@ -5,7 +5,7 @@ ghost use Rattle.po_object.specs.Seats.{OneEach, IsMissing, AreBySeat, ArePlaced
 ghost use Rattle.po_object.specs.Faults.{KeepsAll};
 ghost use Rattle.po_object.specs.Closing.{IsClosed};
 ghost use Rattle.po_receipts.specs.Answers.{AnswersAreOwn, HasClosingTotals, HasNoOthers, NonePending};
-ghost use Rattle.po_receipts.specs.OneHistory.{IsWholeHistory, IsWholeLog};
+ghost use Rattle.po_receipts.specs.OneHistory.{IsWholeHistory, IsWholeLog, state_after};
 ghost use Rattle.po_receipts.specs.Told.{IsToldOf};
 
 use crate::fault::CloseFault;
@@ -77,8 +77,8 @@ impl<U: Unit, R: Record<U>, Q: Receipts<U::Value>> Closed<U, R, Q> {
     }
 
     /// What holds of every closed object: the pass of a seat stands at the seat's place; in the whole history as many calls
-    /// were issued, and as many procedures ran, as the passes counted; seats alone asked for them; and if no call is pending,
-    /// the receipts of each seat are those that the history gives it.
+    /// were issued, and as many procedures ran, as the passes counted; seats alone asked for them; each pass has seen a
+    /// beginning of it; and if no call is pending, the receipts of each seat are those that the history gives it.
     pub fn closing_totals(&self)
         ensures { IsClosed U.meaning self.now }
     {
@@ -92,7 +92,7 @@ impl<U: Unit, R: Record<U>, Q: Receipts<U::Value>> Closed<U, R, Q> {
     pub fn every_answer(&self)
         // `none_pending` tells: the calls of `Object` leave none behind.
         requires { NonePending self.now.passes }
-        ensures own { AnswersAreOwn self.now.core.object.state.ended self.now.log self.now.passes }
+        ensures own { AnswersAreOwn (state_after U.meaning self.now.core.object.setup self.now.log).ended self.now.log self.now.passes }
         ensures serial { IsWholeHistory U.meaning self.now.core.object.setup self.now.log }
         ensures none_other { HasNoOthers self.now.log self.now.passes }
         // It is what was cut off, in its order, and the events since.

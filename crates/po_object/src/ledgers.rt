@@ -28,7 +28,7 @@ impl<V> CallLedger<V> for Brand {
 }
 
 /// A ledger of accepted calls that says what its object was made with, so that an answer can speak of the object's whole
-/// history. Nothing is said where it doesn't.
+/// history. One that doesn't say so opens none.
 pub trait Story<U, V>: CallLedger<V> {
     ghost setup: { Option (Setup U) };
 }

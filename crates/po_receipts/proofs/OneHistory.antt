@@ -11,7 +11,7 @@ use Rattle.po_calls.specs.declared.end.End.{End}
 use Rattle.po_calls.specs.declared.end.CallStatus.TheVariants.{Unknown}
 use Rattle.po_history.specs.declared.event.Event.{Event}
 use Rattle.po_history.specs.declared.event.Event.TheVariants.{Issue, Tick, Abort}
-use Rattle.po_history.specs.Histories.{VolumeView, RunOn, joined}
+use Rattle.po_history.specs.Histories.{VolumeView, joined}
 use Rattle.po_history.proofs.Volumes.{joined-append}
 use Rattle.po_engine.specs.declared.ended.Ended.{Ended}
 use Rattle.po_engine.specs.Finding.{IsFound}
@@ -27,20 +27,13 @@ use Rattle.po_core.specs.View.{View, next_place}
 use Rattle.po_core.specs.Cutting.{AreVolumes, KeepsVolumes, cut, cut_off}
 use Rattle.po_core.specs.Headline.{Headline}
 use Rattle.po_core.specs.ProtectedAction.{IsProtectedAction, IsAbortOf, IsAbortOfCall, abort_answer, is_without_abort}
+use Rattle.po_core.proofs.Joining.{ends-at}
 use Rattle.po_core.proofs.Runs.{replay-append, legal-append}
 use Rattle.po_receipts.specs.declared.asked.Asked.{Asked}
 use Rattle.po_receipts.specs.Passes.{PassView}
 use Rattle.po_receipts.specs.Receipts.{answer_of}
 use Rattle.po_receipts.proofs.Told.{further}
 use Rattle.po_receipts.specs.OneHistory.{state_after, end_in, IsWholeHistory, Stands, HasEnded, IsAnswered, IsTicked, IsReadAt, IsCountAt, IsAborted, IsCutOff, HoldsAt, view_after, attempted, IsAttempt, IsWholeLog}
-
--- volumes that run on end where their events do
-ends-at : {V : Type 0} (from : ℕ) (volumes : List (VolumeView V)) (to : ℕ) → RunOn from volumes to → to ≡ from + length (joined volumes)
-ends-at from [] to run = omega (arith, run)
-ends-at from (volume ∷ volumes) to run =
-    let rest = ends-at (from + length volume.events) volumes to run.1 in
-    let both = length-append volume.events (joined volumes) in
-    omega (arith, rest, both)
 
 module _ {S V : Type 0} (m : Meaning S V) where
   abbrev from : View S V → ObjectState S V

@@ -8,7 +8,7 @@ use Rattle.po_classic_units.specs.Buffer.{buffer_meaning, buffer_unit}
 use Rattle.po_classic_units.specs.Allocator.{allocator_meaning, allocator_unit}
 use Rattle.po_classic_units.specs.Meeting.{meeting_meaning, meeting_unit}
 use Rattle.po_receipts.specs.Answers.{AnswersAreOwn, NonePending}
-use Rattle.po_receipts.specs.OneHistory.{IsWholeHistory}
+use Rattle.po_receipts.specs.OneHistory.{IsWholeHistory, state_after}
 use Rattle.po_object.specs.Closing.{ClosedView, IsClosed}
 use Rattle.po_stress.specs.declared.counting.Ending.TheVariants.{Done, GivenUp, Failed}
 use Rattle.po_stress.specs.declared.totals.Totals.{Totals}
@@ -41,7 +41,7 @@ pub record IsBoundedRun {S : Type 0} (m : Meaning S ℕ) (setup : Setup S) (thre
   pub totals : IsClosed m closed
   pub headline : Headline m closed.core.object
   pub pending : NonePending closed.passes
-  pub own : AnswersAreOwn closed.core.object.state.ended closed.log closed.passes
+  pub own : AnswersAreOwn (state_after m closed.core.object.setup closed.log).ended closed.log closed.passes
   pub serial : IsWholeHistory m closed.core.object.setup closed.log
   pub told : AreTotalsOf closed t
   pub issued : t.issued ≡ threads * calls

@@ -7,7 +7,7 @@ use Rattle.po_classic_units.specs.Buffer.{buffer_meaning, buffer_unit}
 use Rattle.po_classic_units.specs.Allocator.{allocator_meaning, allocator_unit}
 use Rattle.po_classic_units.specs.Meeting.{meeting_meaning, meeting_unit}
 use Rattle.po_receipts.specs.Answers.{AnswersAreOwn, NonePending}
-use Rattle.po_receipts.specs.OneHistory.{IsWholeHistory}
+use Rattle.po_receipts.specs.OneHistory.{IsWholeHistory, state_after}
 use Rattle.po_object.specs.Closing.{ClosedView, IsClosed}
 use Rattle.po_stress.specs.Reports.{IsReportOf, AddUpTo}
 use Rattle.po_stress.specs.Starts.{started_new}
@@ -29,7 +29,7 @@ pub record IsRun {S V : Type 0} (m : Meaning S V) (setup : Setup S) (threads cal
   pub totals : IsClosed m closed
   pub headline : Headline m closed.core.object
   pub pending : NonePending closed.passes
-  pub own : AnswersAreOwn closed.core.object.state.ended closed.log closed.passes
+  pub own : AnswersAreOwn (state_after m closed.core.object.setup closed.log).ended closed.log closed.passes
   pub serial : IsWholeHistory m closed.core.object.setup closed.log
   pub told : IsReportOf closed report
   pub sums : IsOk report.verdict → AddUpTo (threads * calls) report
