@@ -11,8 +11,8 @@
    A step answers an action, and the entry that it speaks of: see pobj_action_of and pobj_entry_of. Beside it, *step names the
    call. Entries are numbered from 0; the first entry with an open barrier is served first, and of an entry the call that was
    queued first (D.4). A step that isn't awaited, or speaks of an entry that there isn't, is answered POBJ_REFUSED and changes
-   nothing. Required is only this: an object was made by pobj_make or pobj_make_fixed and not freed since, and one call at a
-   time is made on it. */
+   nothing. Required is only this: an object is made, by pobj_make or pobj_make_fixed, where none is, used until it is freed,
+   and one call at a time is made on it. */
 #ifndef POBJ_H
 #define POBJ_H
 
@@ -109,8 +109,8 @@ uint64_t pobj_issue(pobj_object *object, uint64_t caller, uint64_t entry, uint64
 uint64_t pobj_answer(pobj_object *object, uint64_t barrier, pobj_step *step);
 
 /* The body that was run has ended so; entry and marks are of a requeue within the object. Answers of a requeued call
-   POBJ_QUEUED; POBJ_CANCELLED where it is requeued with abort, and was marked as aborted now or earlier; POBJ_PROGRAM_ERROR
-   where the queue is full. Else the next action. */
+   POBJ_QUEUED; POBJ_CANCELLED where it is requeued with abort, and is marked as aborted now or was by pobj_issue or
+   pobj_cancel; POBJ_PROGRAM_ERROR where the queue is full. Else the next action. */
 uint64_t pobj_body_ended(pobj_object *object, uint64_t how, uint64_t entry, uint64_t marks, pobj_step *step);
 
 /* The next action: behind the body of a procedure, and behind POBJ_CANCELLED, POBJ_PROGRAM_ERROR and POBJ_CANCEL_MADE. */

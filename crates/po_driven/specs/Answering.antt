@@ -48,7 +48,7 @@ Breaks ProgramError old new = new.phase ≡ Breaking
 Breaks Rest old new = old.calls.object.state.waiting ≡ []
 Breaks other old new = ⊥
 
--- whether a requeue cancels its call: one with abort, where an abort was tried now or earlier (9.5.4)
+-- whether a requeue cancels its call: one with abort, marked as aborted now, as the call came or while it was queued (9.5.4)
 abbrev pub is_cancelled : Requeue → Call ℕ → Bool
 is_cancelled r x = r.with_abort && (r.aborted || x.aborted)
 

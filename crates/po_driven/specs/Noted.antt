@@ -1,5 +1,5 @@
 -- What an answer says has happened, and whom it names (9.5.2 to 9.5.4, 9.7.2, D.7).
-use Rattle.std.specs.Prelude.{ℕ, ◌≡◌, ◌==◌, List, [], ◌∷◌, ◌++◌, max, Bool, true, false, Option, Some, None, find, count_by, IfSome, IsSome, IsSomeAnd, if◌then◌else◌}
+use Rattle.std.specs.Prelude.{ℕ, ◌≡◌, ◌==◌, List, [], ◌∷◌, ◌++◌, max, Bool, true, false, Option, Some, None, find, count_by, IsSome, IsSomeAnd, if◌then◌else◌}
 use Rattle.std.specs.List.{slice_get, slice_index}
 use Rattle.po_unit.specs.declared.outcome.Outcome.TheVariants.{Requeue as RequeueTo}
 use Rattle.po_calls.specs.declared.call.Call.{Call}
@@ -52,19 +52,19 @@ abbrev pub Notes : List Happening → DrivenView → DrivenView → Type 0
 Notes hs old new = new.calls.happened ≡ old.calls.happened ++ hs
 
 -- Whom an answer names: the caller of the call whose body runs, of the one that is queued with this ticket, of the one that was
--- due, or of the one that was queued first of all.
+-- due, or of the one that was queued first of all. There was such a call.
 abbrev pub Names : Action → Step → DrivenView → DrivenView → Type 0
-Names (Run e) step old new = IfSome new.calls.object.serving (λ x. (x.entry ≡ e) × (step.caller ≡ x.value))
-Names (Queued e) step old new = IfSome (find (has_number step.number) new.calls.object.state.waiting) (λ x. step.caller ≡ x.value)
-Names Cancelled step old new = IfSome (find (is_due old.calls.object.state.clock) old.calls.object.state.waiting) (λ x. step.caller ≡ x.value)
-Names ProgramError step old new = IfSome (slice_get old.calls.object.state.waiting 0) (λ x. step.caller ≡ x.value)
+Names (Run e) step old new = IsSomeAnd new.calls.object.serving (λ x. (x.entry ≡ e) × (step.caller ≡ x.value))
+Names (Queued e) step old new = IsSomeAnd (find (has_number step.number) new.calls.object.state.waiting) (λ x. step.caller ≡ x.value)
+Names Cancelled step old new = IsSomeAnd (find (is_due old.calls.object.state.clock) old.calls.object.state.waiting) (λ x. step.caller ≡ x.value)
+Names ProgramError step old new = IsSomeAnd (slice_get old.calls.object.state.waiting 0) (λ x. step.caller ≡ x.value)
 Names other step old new = Unit {0}
 
 -- Whom an answer to a call that is issued names: its caller, but where its barrier raised the one that was queued first of all.
 abbrev pub NamesCaller : Action → Arriving ℕ → Barrier → Step → DrivenView → Type 0
 NamesCaller NoMemory a barrier step old = Unit {0}
 NamesCaller Refused a barrier step old = Unit {0}
-NamesCaller ProgramError a HasRaised step old = IfSome (slice_get (old.calls.object.state.waiting ++ new_call old.calls.object.state.next a ∷ []) 0) (λ x. step.caller ≡ x.value)
+NamesCaller ProgramError a HasRaised step old = IsSomeAnd (slice_get (old.calls.object.state.waiting ++ new_call old.calls.object.state.next a ∷ []) 0) (λ x. step.caller ≡ x.value)
 NamesCaller (Queued e) a barrier step old = (step.caller ≡ a.value) × (step.number ≡ old.calls.object.state.next)
 NamesCaller other a barrier step old = step.caller ≡ a.value
 

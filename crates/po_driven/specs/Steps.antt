@@ -4,7 +4,7 @@ use Rattle.po_calls.specs.declared.call.Call.{Call}
 use Rattle.po_calls.specs.declared.ticket.Ticket.{Ticket}
 use Rattle.po_engine.specs.Tickets.{uncollected, waiting_among}
 use Rattle.po_engine.specs.declared.arriving.Arriving.{Arriving}
-use Rattle.po_driven.specs.Answering.{AnswersCall, Breaks, LooksOn, Moves, WaitsForNext}
+use Rattle.po_driven.specs.Answering.{AnswersCall, Breaks, LooksOn, MayRequeue, Moves, WaitsForNext}
 use Rattle.po_driven.specs.DrivenView.{DrivenView, Fresh, KeepsAll, KeepsSetup, MayIssue, Tells, closed_after}
 use Rattle.po_driven.specs.Noted.{Cancels, EndsWhereFull, IsNoRequeue, KeepsCalls, Names, NamesCaller, NamesTicket, Notes, attempted, finalized, issued, concluded, serviced}
 use Rattle.po_driven.specs.declared.action.Action.{Action}
@@ -58,6 +58,7 @@ pub record EndsBody (end : BodyEnd) (step : Step) (old new : DrivenView) (action
   pub fresh : Fresh action new
   pub noted : (x : Call ℕ) → old.calls.object.serving ≡ Some x → Notes (concluded end x action old) old new
   pub names : IsNoRequeue end → Names action step old new
+  pub unmoved : (requeue : Requeue) → end ≡ Requeued requeue → (MayRequeue old requeue → ⊥) → action ≡ Refused
   pub moves : (requeue : Requeue) (x : Call ℕ) → end ≡ Requeued requeue → old.calls.object.serving ≡ Some x → Moves action requeue x step old
   pub ticket : NamesTicket action step new
   pub full : (requeue : Requeue) → end ≡ Requeued requeue → EndsWhereFull action requeue.target old

@@ -11,7 +11,7 @@ ghost use Rattle.po_engine.specs.declared.arriving.Arriving.{Arriving};
 ghost use Rattle.po_driven.specs.AtRest.{AskedBelow, ToldBelow, told};
 ghost use Rattle.po_driven.specs.DrivenView.{DrivenView, IsDriven, KeepsSetup, Tells, Fresh, KeepsAll, MayIssue, at_opening, closed_after};
 ghost use Rattle.po_driven.specs.TracedView.{IsReady, opening_calls};
-ghost use Rattle.po_driven.specs.Answering.{AnswersCall, FollowsBarrier, LooksOn, Breaks, Moves, WaitsForNext};
+ghost use Rattle.po_driven.specs.Answering.{AnswersCall, FollowsBarrier, LooksOn, Breaks, MayRequeue, Moves, WaitsForNext};
 ghost use Rattle.po_driven.specs.Noted.{Notes, serviced, issued, concluded, attempted, Names, NamesCaller, NamesTicket, HasTicket, EndsWhereFull, IsNoRequeue, Cancels, KeepsCalls, longest_on};
 ghost use Rattle.po_driven.specs.declared.action.Action.TheVariants.{Run, ProgramError, NoMemory, Refused};
 ghost use Rattle.po_driven.specs.declared.happening.Happening.TheVariants.{Ended, Finalized, RequeuedElsewhere as HasRequeuedElsewhere};
@@ -387,6 +387,7 @@ impl DrivenObject {
         ensures leaves { IsSome self.old.calls.object.serving → end ≡ RequeuedElsewhere → LooksOn result self.old.calls.object.state.waiting self.new.closed }
         ensures breaks { IsSome self.old.calls.object.serving → end ≡ Failed → Breaks result self.old self.new }
         ensures names { IsNoRequeue end → Names result step.new self.old self.new }
+        ensures unmoved { (requeue : Requeue) → end ≡ Requeued requeue → (MayRequeue self.old requeue → ⊥) → result ≡ Refused }
         ensures moves { (requeue : Requeue) (x : Call ℕ) → end ≡ Requeued requeue → self.old.calls.object.serving ≡ Some x → Moves result requeue x step.new self.old }
         ensures setup { KeepsSetup self.old self.new }
     {
@@ -451,6 +452,7 @@ impl DrivenObject {
         ensures noted { Notes (concluded (Requeued requeue) call result self.old) self.old self.new }
         ensures ticket { NamesTicket result step.new self.new }
         ensures full { EndsWhereFull result requeue.target self.old }
+        ensures unmoved { (MayRequeue self.old requeue → ⊥) → result ≡ Refused }
         ensures moves { Moves result requeue call step.new self.old }
         ensures setup { KeepsSetup self.old self.new }
     {

@@ -1,5 +1,5 @@
 use Rattle.std.proofs.Common.{◌≡◌, ◌∙◌, ◌++◌, ◌∷◌, [], None, sym, subst, ap, append_assoc}
-use Rattle.std.specs.Prelude.{IfSome, IsSome}
+use Rattle.std.specs.Prelude.{IsSome, IsSomeAnd}
 use Rattle.std.specs.List.{slice_get}
 use Rattle.po_engine.specs.Driving.{new_call}
 use Rattle.po_driven.specs.Noted.{issued, NamesCaller}
@@ -21,5 +21,5 @@ returns-clause-names c =
     let i = c.self.inside in let a = c.args.arriving in let b = c.break_one.ensures in
     let waiting = ap (λ s. s.waiting) c.accept_closed.ensures.state in
     let breaks = b.first (subst (λ l. IsSome (slice_get l 0)) (sym waiting) (one_waits i.calls.object.state.waiting (new_call i.calls.object.state.next a))) in
-    let named = subst (λ l. IfSome (slice_get l 0) (λ x. c.break_one.new.step.caller ≡ x.value)) waiting (rw breaks at b.names) in
+    let named = subst (λ l. IsSomeAnd (slice_get l 0) (λ x. c.break_one.new.step.caller ≡ x.value)) waiting (rw breaks at b.names) in
     subst (λ v. NamesCaller c.break_one.result a Raised c.break_one.new.step v) c.self.view_is (rw breaks named)
