@@ -2,7 +2,7 @@
    which call is queued, whose barrier is evaluated next, which call is served, cancelled or ended, and when the protected
    action is over. The client has the lock, the barriers, the bodies, and the callers that sleep.
 
-   Under its lock, a client begins by one of four commands: pobj_issue (an entry call), pobj_next (behind the body of a
+   Under its lock, a client begins by one of four commands: pobj_issue (an entry call), pobj_next (after the body of a
    procedure, 9.5.1), pobj_cancel (a queued call is to be cancelled) or pobj_finalize. It then does what each step answers,
    until the answer is POBJ_REST: then the protected action is over, and the client leaves its lock. At that point no body
    runs, and of each queued call the client has answered that its barrier is closed since anything changed that a barrier may
@@ -11,8 +11,8 @@
    A step answers an action, and the entry that it speaks of: see pobj_action_of and pobj_entry_of. Beside it, *step names the
    call. Entries are numbered from 0; the first entry with an open barrier is served first, and of an entry the call that was
    queued first (D.4). A step that isn't awaited, or speaks of an entry that there isn't, is answered POBJ_REFUSED and changes
-   nothing. Required is only this: an object is made, by pobj_make or pobj_make_fixed, where none is, used until it is freed,
-   and one call at a time is made on it. */
+   nothing. Three things are required: pobj_make and pobj_make_fixed take an object that is none, all other functions one that
+   was made and isn't freed, and no two run on one object at the same time. */
 #ifndef POBJ_H
 #define POBJ_H
 
@@ -92,39 +92,39 @@ bool pobj_make(pobj_object *object, uint64_t entries);
    call more is answered POBJ_NO_MEMORY. */
 bool pobj_make_fixed(pobj_object *object, uint64_t entries, size_t calls);
 
-/* Frees the object, which must have been made: it is none again. */
+/* Frees the object, which must have been made and not be freed yet: then it is none again. */
 void pobj_free(pobj_object *object);
 
 /* From now on at most so many calls may be queued on the entry (Max_Entry_Queue_Length, D.7); 0: any number. Calls that are
    queued already stay. False: there is no such entry. */
 bool pobj_limit(pobj_object *object, uint64_t entry, uint64_t longest);
 
-/* A command: caller issues a call of the entry, whose barrier the client has just evaluated (9.5.3). Answers POBJ_RUN where it
-   is open; POBJ_QUEUED where it is closed; POBJ_PROGRAM_ERROR where it is closed and the queue is full, and where the barrier
-   raised: then of each queued call, and of this one last. Before the barrier is looked at: POBJ_CANCELLED where the call is
-   marked as aborted and may be cancelled, POBJ_NO_MEMORY where there is no memory for it. */
+/* A command: caller issues a call of the entry, whose barrier the client has just evaluated (9.5.3). Answers POBJ_RUN if it is
+   open; POBJ_QUEUED if it is closed; POBJ_PROGRAM_ERROR if it is closed and the queue is full, and if the barrier raised: then
+   for each queued call, and for this one last. Before the barrier is looked at: POBJ_CANCELLED if the call is marked as aborted
+   and may be cancelled, POBJ_NO_MEMORY if there is no memory for it. */
 uint64_t pobj_issue(pobj_object *object, uint64_t caller, uint64_t entry, uint64_t marks, uint64_t barrier, pobj_step *step);
 
 /* The barrier that was asked for says so. Answers the next action. */
 uint64_t pobj_answer(pobj_object *object, uint64_t barrier, pobj_step *step);
 
-/* The body that was run has ended so; entry and marks are of a requeue within the object. Answers of a requeued call
-   POBJ_QUEUED; POBJ_CANCELLED where it is requeued with abort, and is marked as aborted now or was by pobj_issue or
-   pobj_cancel; POBJ_PROGRAM_ERROR where the queue is full. Else the next action. */
+/* The body that was run has ended so; entry and marks are of a requeue within the object. Answers for a requeued call
+   POBJ_QUEUED; POBJ_CANCELLED if it is requeued with abort, and is marked as aborted now or was by pobj_issue or pobj_cancel;
+   POBJ_PROGRAM_ERROR if the queue is full. Else the next action. */
 uint64_t pobj_body_ended(pobj_object *object, uint64_t how, uint64_t entry, uint64_t marks, pobj_step *step);
 
-/* The next action: behind the body of a procedure, and behind POBJ_CANCELLED, POBJ_PROGRAM_ERROR and POBJ_CANCEL_MADE. */
+/* The next action: after the body of a procedure, and after POBJ_CANCELLED, POBJ_PROGRAM_ERROR and POBJ_CANCEL_MADE. */
 uint64_t pobj_next(pobj_object *object, pobj_step *step);
 
 /* A command: the queued call of the ticket is to be cancelled, since its time has come (expired is not 0), or since its caller
    was aborted (9.5.3, 9.7.2, 9.8). */
 uint64_t pobj_cancel(pobj_object *object, size_t key, uint64_t number, uint64_t expired);
 
-/* A command: the object is finalized. Answers POBJ_PROGRAM_ERROR of each queued call, then POBJ_REST. Each further pobj_issue
+/* A command: the object is finalized. Answers POBJ_PROGRAM_ERROR for each queued call, then POBJ_REST. Each further pobj_issue
    is answered POBJ_REFUSED (9.4). */
 uint64_t pobj_finalize(pobj_object *object, pobj_step *step);
 
-/* How many calls are queued on the entry (9.9); 0 where there is no such entry. It takes the same time always. */
+/* How many calls are queued on the entry (9.9); 0 if there is no such entry. It always takes the same time. */
 uint64_t pobj_count(pobj_object *object, uint64_t entry);
 
 #ifdef __cplusplus

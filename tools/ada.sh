@@ -1,8 +1,8 @@
 # shellcheck shell=bash
-# The runtime folder for Ada programs of GNAT 12.2, and its check. Read by `pobj`, behind library.sh. In the archive for machines
+# The runtime folder for Ada programs of GNAT 12.2, and its check. Read by `pobj`, after library.sh. In the archive for machines
 # without the toolchain bin/pobj does the same with the library that is there.
 
-# Carries out `pobj ada`: builds the library, where it isn't built, and does the rest in bindings/ada/.
+# Carries out `pobj ada`: builds the library, if it isn't built, and does the rest in bindings/ada/.
 ada() {
   local room status=0
   "$top/bindings/ada/ada.sh" - "${@:-}" || exit

@@ -120,7 +120,7 @@ wait_for_turn() {
   fi
 }
 
-# Carries out `pobj build` with the words behind it.
+# Carries out `pobj build` with the words after it.
 build() {
   local program names
   case "$*" in
@@ -128,7 +128,7 @@ build() {
     run | check | stress) names=$1 ;;
     all) names="run check stress" ;;
     *)
-      say "pobj build takes run, check, stress or all, and run where nothing is named"
+      say "pobj build takes run, check, stress or all; without a word it builds run"
       exit 2
       ;;
   esac

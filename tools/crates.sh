@@ -1,7 +1,7 @@
 # shellcheck shell=bash
 # The crates on which a program stands, and whether it is built of the sources as they are. Read by `pobj`, which sets `top`.
 
-# The program that carries out the words: the one that the first of them names, or the second where the first asks for help.
+# The program that carries out the words: the one that the first of them names, or the second if the first asks for help.
 program_of() {
   local word=${1-}
   [ "$word" != help ] || word=${2-}
@@ -25,7 +25,7 @@ minutes_of() {
   esac
 }
 
-# Collects a crate in `crates`, behind those that it stands on; `needs` has the lines of crates.txt.
+# Collects a crate in `crates`, after those that it stands on; `needs` has the lines of crates.txt.
 collect() {
   local dep
   [[ -v "needs[$1]" && " ${crates[*]-} " != *" $1 "* ]] || return 0

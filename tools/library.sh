@@ -1,5 +1,5 @@
 # shellcheck shell=bash
-# The library for C, proved and built, and the archive for machines without the toolchain. Read by `pobj`, behind crates.sh and
+# The library for C, proved and built, and the archive for machines without the toolchain. Read by `pobj`, after crates.sh and
 # build.sh.
 
 # The version of the programs, and of the library.
@@ -12,7 +12,7 @@ build_library() {
   is_older "$(built_of po_c)" "$top/crates.txt" "${crates[@]}" || return 0
   SECONDS=0
   : >"$log"
-  say "the library for C: ${#crates[@]} crates are proved, in 8 to 12 minutes on 4 processors, less where some are proved already"
+  say "the library for C: ${#crates[@]} crates are proved, in 8 to 12 minutes on 4 processors, less if some are proved already"
   if ! build_crates po_c || [ ! -e "$top/crates/po_c/out/libpo_c.a" ]; then
     [ ! -t 2 ] || echo >&2
     say "the library could not be built: $failed; see $log"

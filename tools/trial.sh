@@ -65,7 +65,7 @@ run_trial() {
   trial=
 }
 
-# What the program wrote on standard error: the toolchain's lines stand behind it.
+# What the program wrote on standard error: the toolchain's lines come after it.
 errors_of_program() {
   awk '{ line[NR] = $0 } !/^(checked|races|interpreter|run|rt)[:=]/ { last = NR } END { for (n = 1; n <= last; n++) print line[n] }' "$room/said"
 }

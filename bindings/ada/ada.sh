@@ -10,7 +10,7 @@ shift
 
 say() { echo "pobj ada: $*" >&2; }
 
-# Ends where the words aren't those that are taken.
+# Ends if the words aren't those that are taken.
 take_words() {
   case "$#${1-}" in
     1--check | 2--check) ;;

@@ -25,8 +25,8 @@ package System.Tasking.Protected_Objects.Queues is
    procedure Make (Object : Entries.Protection_Entries_Access);
    pragma Export (Ada, Make, "pobj_ada_make");
    --  Makes the queues of a new object, with the longest that each may get,
-   --  where the engine serves it. Raises Storage_Error where there is no
-   --  memory for them, or where the object has more than 65_535 entries.
+   --  if the engine serves it. Raises Storage_Error if there is no memory for
+   --  them, or if the object has more than 65_535 entries.
 
    function Has_Own_Lock return Boolean;
    pragma Inline (Has_Own_Lock);
@@ -38,7 +38,7 @@ package System.Tasking.Protected_Objects.Queues is
    --  Takes such a lock, if it is free
 
    procedure Free (Object : Entries.Protection_Entries_Access);
-   --  Frees the queues of an object, where no call is queued any more
+   --  Frees the queues of an object, in which no call is queued any more
 
    function Count
      (Object : Entries.Protection_Entries'Class;

@@ -19,7 +19,7 @@ program=$(sed -n '1s/^program [0-9a-f]* //p' "$1")
 names=$(mktemp)
 trap 'rm -f "$names"' EXIT
 if [ -r "$program" ]; then
-  # Where the program's headers are without a shift, and the bodies of entries.
+  # Where the program's headers are, without a shift, and the bodies of entries.
   readelf -lW "$program" 2>/dev/null | awk '$1 == "PHDR" { print "headers", $3 }' >"$names"
   nm "$program" 2>/dev/null | awk '$3 ~ /_E[0-9]+[bs](\.[0-9]+)?$/ { print $1, $3 }' >>"$names"
 fi

@@ -8,7 +8,7 @@
        pobj_entry_call(&object, GET, &item, NULL);
 
    Threads call its entries, and an entry call waits while its barrier is closed. A mutex guards the object. Whoever holds it
-   carries out all that has become possible, the bodies of other callers too, and behind the unlock it wakes exactly the
+   carries out all that has become possible, the bodies of other callers too, and after the unlock it wakes exactly the
    callers whose calls have ended. Each caller that waits has a condition variable of its own.
 
    Barriers, bodies, procedures and functions run under the mutex, in whichever thread carries them out. They end by their
@@ -60,8 +60,8 @@ typedef enum {
 typedef struct {
     const char *name;                        /* for the reader */
     bool (*barrier)(pobj_protected *object); /* whether it is open, or what pobj_raise_barrier answers; NULL: always open */
-    int (*body)(pobj_call *call);            /* POBJ_COMPLETED, or what pobj_raise or a requeue answers; or POBJ_FAILED, where
-                                                the data can't be relied upon: its own call is completed, by the error if
+    int (*body)(pobj_call *call);            /* POBJ_COMPLETED, or what pobj_raise or a requeue answers; or POBJ_FAILED, if the
+                                                data can't be relied upon: its own call is completed, by the error if
                                                 pobj_raise was called before, all queued calls end by
                                                 POBJ_CALL_PROGRAM_ERROR, and later ones are taken as before */
 } pobj_entry;
@@ -85,7 +85,7 @@ struct pobj_call {
     pobj_protected *object;   /* that the call is on; NULL: none, or it has ended */
     uint64_t entry;           /* whose body runs */
     void *parameters;         /* what the caller passed */
-    int error;                /* where the call ended by POBJ_CALL_ERROR: its number */
+    int error;                /* if the call ended by POBJ_CALL_ERROR: its number */
     bool in_use;              /* from the beginning of a call until its thread goes on */
     bool aborted;
     bool due;                 /* it is conditional, or its time has come */
@@ -244,7 +244,7 @@ static inline void pobj_threads_wake(pobj_call *call) {
     pthread_mutex_unlock(&call->mutex);
 }
 
-/* What is known of the call where it is issued or requeued. */
+/* What is known of the call when it is issued or requeued. */
 static inline uint64_t pobj_threads_marks(const pobj_call *call) {
     uint64_t due = call->due ? (uint64_t)POBJ_DUE : 0;
     return pobj_threads_is_aborted(call) ? due | POBJ_ABORTED : due;
@@ -356,7 +356,7 @@ static inline void pobj_threads_drive(pobj_threads_action *action, uint64_t answ
         case POBJ_PROGRAM_ERROR:
             answer = pobj_threads_unserved(action, POBJ_CALL_PROGRAM_ERROR);
             break;
-        default: /* a step of this header is refused only where something has written into the object */
+        default: /* a step of this header is refused only if something has written into the object */
             abort();
         }
 }
@@ -374,7 +374,7 @@ static inline void pobj_threads_unlock(pobj_threads_action *action) {
         pobj_threads_wake(call);
 }
 
-/* Issues the call on the object of the action. Whether it can wait is looked at first, where it may come to that. */
+/* Issues the call on the object of the action. If it may come to wait, whether it can is looked at first. */
 static inline uint64_t pobj_threads_accept(pobj_threads_action *action, pobj_call *call, uint64_t entry) {
     pobj_protected *object = action->object;
     uint64_t barrier = pobj_threads_barrier(object, entry);
@@ -416,7 +416,7 @@ static inline void pobj_threads_leave(pobj_threads_action *action) {
         pobj_threads_go_on(action, call);
 }
 
-/* Cancels the call, which is on the object of the action, where it is queued and may be cancelled. */
+/* Cancels the call, which is on the object of the action, if it is queued and may be cancelled. */
 static inline unsigned pobj_threads_withdraw(pobj_threads_action *action, pobj_call *call, bool expired) {
     pobj_object *calls = &action->object->calls;
     uint64_t made = POBJ_CANCEL_UNKNOWN;
@@ -499,7 +499,7 @@ static inline bool pobj_threads_claim(pobj_call *call, pobj_protected *object) {
 
 static inline pobj_outcome pobj_threads_call(
     pobj_protected *object, uint64_t entry, void *parameters, bool due, const struct timespec *until, pobj_call *record) {
-    pobj_call own; /* most of it is written only where the call waits */
+    pobj_call own; /* most of it is written only if the call waits */
     pobj_call *call = record == NULL ? &own : record;
     if (entry >= object->number)
         return POBJ_CALL_MISUSE;
@@ -591,7 +591,7 @@ static inline void pobj_protected_destroy(pobj_protected *object) {
     pthread_mutex_destroy(&object->mutex);
 }
 
-/* How many calls are queued on the entry ('Count, 9.9); 0 where there is no such entry. In the object's own barriers, bodies,
+/* How many calls are queued on the entry ('Count, 9.9); 0 if there is no such entry. In the object's own barriers, bodies,
    procedures and functions it holds while they run. Elsewhere it may have changed when it is read, and the object is locked
    for it. */
 static inline uint64_t pobj_entry_count(pobj_protected *object, uint64_t entry) {
@@ -610,14 +610,14 @@ static inline pobj_outcome pobj_entry_call(pobj_protected *object, uint64_t entr
     return pobj_threads_call(object, entry, parameters, false, NULL, record);
 }
 
-/* A conditional entry call: it ends by POBJ_CALL_EXPIRED where it would wait (9.7.3), unless the queue is full (D.7). It waits
-   only where a body requeued it without abort (9.5.4). */
+/* A conditional entry call: it ends by POBJ_CALL_EXPIRED if it would wait (9.7.3), unless the queue is full (D.7). It waits
+   only if a body requeued it without abort (9.5.4). */
 static inline pobj_outcome pobj_conditional_call(pobj_protected *object, uint64_t entry, void *parameters, pobj_call *record) {
     return pobj_threads_call(object, entry, parameters, true, NULL, record);
 }
 
-/* A timed entry call: it ends by POBJ_CALL_EXPIRED where it still waits at this time of CLOCK_MONOTONIC (9.7.2). Where a body
-   requeued it without abort it waits on (9.5.4). */
+/* A timed entry call: it ends by POBJ_CALL_EXPIRED if it still waits at this time of CLOCK_MONOTONIC (9.7.2). If a body
+   requeued it without abort, it waits on (9.5.4). */
 static inline pobj_outcome pobj_timed_call(
     pobj_protected *object, uint64_t entry, void *parameters, const struct timespec *until, pobj_call *record) {
     if (until == NULL || until->tv_sec < 0 || until->tv_nsec < 0 || until->tv_nsec > 999999999)
@@ -637,7 +637,7 @@ static inline struct timespec pobj_time_from_now(uint64_t nanoseconds) {
 
 /* Aborts the caller of the record (9.8). A queued call ends by POBJ_CALL_ABORTED, and the answer is POBJ_CANCEL_MADE. Else the
    abort is remembered: POBJ_CANCEL_KEPT, for a call that a requeue without abort protects until it is requeued with abort
-   (9.5.4); POBJ_CANCEL_UNKNOWN, where no call is queued, for the next that comes to be. POBJ_CANCEL_REFUSED: this thread is
+   (9.5.4); POBJ_CANCEL_UNKNOWN, if no call is queued, for the next that comes to be. POBJ_CANCEL_REFUSED: this thread is
    inside the object that the call is on, and is to do it again from outside. An abort is for good: the record is of use again
    when it is made {0}. Required is that the record stays, and isn't made {0}, until this has returned. */
 static inline unsigned pobj_abort(pobj_call *record) {

@@ -1,5 +1,5 @@
 /* A bounded buffer (ISO/IEC 8652:2023, 9.11): producers put numbers into it and consumers get them, each number once. An entry
-   call waits where the buffer is full or empty; a conditional call doesn't, and a timed call doesn't for long. */
+   call waits while the buffer is full or empty; a conditional call doesn't, and a timed call doesn't for long. */
 #define _POSIX_C_SOURCE 200809L
 
 #include "pobj_threads.h"
@@ -96,9 +96,9 @@ int main(void) {
     struct timespec soon = pobj_time_from_now(10000000);
     printf("a timed get of the empty buffer gets %s\n", said(pobj_timed_call(&object, GET, &item, &soon, NULL)));
     pobj_entry_call(&object, PUT, &item, NULL);
-    printf("a conditional get behind a put gets %s\n", said(pobj_conditional_call(&object, GET, &item, NULL)));
+    printf("a conditional get after a put gets %s\n", said(pobj_conditional_call(&object, GET, &item, NULL)));
     pobj_protected_finalize(&object);
-    printf("a get behind the end gets %s\n", said(pobj_entry_call(&object, GET, &item, NULL)));
+    printf("a get after the end gets %s\n", said(pobj_entry_call(&object, GET, &item, NULL)));
     pobj_protected_destroy(&object);
     return 0;
 }

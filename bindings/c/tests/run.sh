@@ -19,7 +19,7 @@ addresses=(-O1 -g "-fsanitize=address,undefined" -fno-sanitize-recover=all)
 races=(-O1 -g -fsanitize=thread)
 seconds=1
 
-# row NAME COMMAND..: a line, by the status of the command, and where it failed what it said.
+# row NAME COMMAND..: a line, by the status of the command, and what it said if it failed.
 row() {
   local name=$1 said
   shift
@@ -83,7 +83,7 @@ all_of() {
   row "$compiler, $word: tests/refused.c" test_of refused "$at-refused" "$compiler" "${flags[@]}" "$refusing"
 }
 
-# sanitized_of COMPILER WORD FLAGS..: the same with sanitizers, where they are there.
+# sanitized_of COMPILER WORD FLAGS..: the same with sanitizers, if they are there.
 sanitized_of() {
   if runs_with "$scratch/$1-$2" "$1" "${@:3}"; then
     all_of "$@"
