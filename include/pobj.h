@@ -11,8 +11,8 @@
    A step answers an action, and the entry that it speaks of: see pobj_action_of and pobj_entry_of. Beside it, *step names the
    call. Entries are numbered from 0; the first entry with an open barrier is served first, and of an entry the call that was
    queued first (D.4). A step that isn't awaited, or speaks of an entry that there isn't, is answered POBJ_REFUSED and changes
-   nothing. Three things are required: pobj_make and pobj_make_fixed take an object that is none, all other functions one that
-   was made and isn't freed, and no two run on one object at the same time. */
+   nothing. So is each step of an object that is none; other functions answer then that they refuse, false or 0. Two things are
+   required: pobj_make and pobj_make_fixed take an object that is none, and no two functions run on one object at a time. */
 #ifndef POBJ_H
 #define POBJ_H
 
@@ -92,7 +92,7 @@ bool pobj_make(pobj_object *object, uint64_t entries);
    call more is answered POBJ_NO_MEMORY. */
 bool pobj_make_fixed(pobj_object *object, uint64_t entries, size_t calls);
 
-/* Frees the object, which must have been made and not be freed yet: then it is none again. */
+/* Frees the object, unless it is none: then it is none again. */
 void pobj_free(pobj_object *object);
 
 /* From now on at most so many calls may be queued on the entry (Max_Entry_Queue_Length, D.7); 0: any number. Calls that are

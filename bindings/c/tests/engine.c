@@ -461,6 +461,25 @@ static void sizes(void) {
     pobj_free(&object);
 }
 
+/* Of an object that is none nothing is asked, and nothing becomes of it: not yet made, freed, and freed once more. */
+static void none(void) {
+    const pobj_step before = {7, 8, 9};
+    for (int times = 0; times < 2; times++) {
+        forget();
+        step = before;
+        CHECK(pobj_issue(&object, 1, 0, 0, POBJ_OPEN, &step) == POBJ_REFUSED);
+        CHECK(pobj_answer(&object, POBJ_OPEN, &step) == POBJ_REFUSED && pobj_next(&object, &step) == POBJ_REFUSED);
+        CHECK(pobj_body_ended(&object, POBJ_COMPLETED, 0, 0, &step) == POBJ_REFUSED);
+        CHECK(pobj_finalize(&object, &step) == POBJ_REFUSED && pobj_cancel(&object, 0, 1, 0) == POBJ_CANCEL_REFUSED);
+        CHECK(!pobj_limit(&object, 0, 1) && pobj_count(&object, 0) == 0);
+        CHECK(step.caller == before.caller && step.key == before.key && step.number == before.number && object.at == NULL);
+        pobj_free(&object);
+        CHECK(object.at == NULL && pobj_make(&object, ENTRIES));
+        pobj_free(&object);
+        CHECK(object.at == NULL);
+    }
+}
+
 /* A call may be requeued any number of times in one protected action. */
 static void many_requeues(void) {
     begin();
@@ -516,6 +535,7 @@ int main(void) {
     failing();
     finalization();
     sizes();
+    none();
     many_requeues();
     memory();
     printf("engine: passed\n");

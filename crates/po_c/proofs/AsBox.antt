@@ -1,6 +1,7 @@
 -- The handle and its box taken apart own what a box at the same types owns.
 use mir.Syntax.{impl, tnil, dnil}
 use mathlib.Core.List.{[]}
+use denote.RattleType.{RattleType}
 use denote.Signature.{Slot, plain}
 use Rattle.std.proofs.BoxSteps.Form.{Bx}
 use Rattle.std.specs.contracts.alloc.Global as Heap
@@ -14,8 +15,11 @@ use Rattle.po_c.specs.contracts.handle.Handle as Handle
 abbrev pub E : Bx
 E = record { row = Object.the_row; laws = object.the_row_laws; al = record { row = Heap.the_row; laws = heap.the_row_laws; g = ghosts; d = dict; drops = impl [] tnil dnil } }
 
+abbrev pub LooseObject : RattleType
+LooseObject = Loose.the_row Object.the_row Heap.the_row ghosts
+
 abbrev pub FromLoose : Slot 0
-FromLoose = plain (λ _. Loose.the_row Object.the_row Heap.the_row ghosts)
+FromLoose = plain (λ _. LooseObject)
 
 abbrev pub FromHandle : Slot 0
 FromHandle = plain (λ _. Handle.the_row)

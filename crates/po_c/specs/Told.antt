@@ -1,5 +1,5 @@
 -- What the functions of include/pobj.h answer, and what an answer says of the object (this project's own).
-use Rattle.std.specs.Prelude.{ℕ, ◌≡◌, ◌==◌, ◌+◌, ◌*◌, ◌/◌, ◌%◌, Bool, not, Option, Some, nat_lt, if◌then◌else◌}
+use Rattle.std.specs.Prelude.{ℕ, ◌≡◌, ◌==◌, ◌+◌, ◌*◌, ◌/◌, ◌%◌, Bool, not, Option, Some, None, IsSome, nat_lt, if◌then◌else◌}
 use Rattle.po_calls.specs.declared.call.Deadline.TheVariants.{Never, At}
 use Rattle.po_engine.specs.declared.arriving.Arriving.{Arriving}
 use Rattle.po_driven.specs.DrivenView.{DrivenView}
@@ -12,9 +12,14 @@ use Rattle.po_driven.specs.declared.words.BodyEnd.TheVariants.{Completed, Failed
 use Rattle.po_driven.specs.declared.words.Cancellation.{Cancellation}
 use Rattle.po_driven.specs.declared.words.Cancellation.TheVariants.{Made, Kept, Unknown, Refused as IsRefused}
 
--- What a function makes of the object in a handle, where there is one before and after it.
+-- What a function makes of the object in a handle, if there is one before and after it.
 abbrev pub FromTo : Option DrivenView → Option DrivenView → (DrivenView → DrivenView → Type 0) → Type 0
 FromTo before after makes = (old new : DrivenView) → before ≡ Some old → after ≡ Some new → makes old new
+
+-- An object stays in its handle, and a handle with none still has none.
+abbrev pub KeepsObject : Option DrivenView → Option DrivenView → Type 0
+KeepsObject None after = after ≡ None
+KeepsObject (Some d) after = IsSome after
 
 -- the action and its entry as one number
 abbrev pub number_of_action : Action → ℕ
@@ -37,7 +42,7 @@ pub record Answers (number : ℕ) (says : Action → Type 0) : Type 0 where
 abbrev pub barrier_named : ℕ → Barrier
 barrier_named number = if number == 0 then Closed else (if number == 1 then Open else Raised)
 
--- the entry with this number; one that no object has, where the number is too great
+-- the entry with this number; one that no object has, if the number is too great
 abbrev pub entry_named : ℕ → ℕ
 entry_named number = if nat_lt number 65535 then number else 65535
 

@@ -1,6 +1,6 @@
 //! The handle that C holds of an object.
 
-ghost use Rattle.std.specs.Prelude.{◌≡◌, Some, None, IsSome, Option};
+ghost use Rattle.std.specs.Prelude.{◌≡◌, Some, None, Option, MatchOption};
 ghost use Rattle.po_c.specs.Held.{held, object_coded};
 ghost use Rattle.po_driven.specs.DrivenView.{DrivenView};
 
@@ -11,7 +11,7 @@ use std::marker::Model;
 use std::mem::replace;
 use std::ptr::null_mut;
 
-/// An object as C holds it: a pointer, which is null where there is none.
+/// An object as C holds it: a pointer, null if there is none.
 #[repr(C)]
 #[derive(Drop)]
 pub struct Handle {
@@ -35,13 +35,13 @@ impl Handle {
         }
     }
 
-    /// The object's box, which leaves no object.
-    pub fn take(&mut self, alloc: Global) -> Box<DrivenObject, Global>
-        requires { IsSome self.old.object }
-        ensures taken { Some result.value ≡ self.old.object }
+    /// The object's box, if there is an object. It leaves none.
+    pub fn take(&mut self, alloc: Global) -> Option<Box<DrivenObject, Global>>
+        ensures taken { MatchOption result (self.old.object ≡ None) (λ b. self.old.object ≡ Some b.value) }
         ensures left { self.new.object ≡ None }
     {
-        replace(self, Handle::none(alloc)).into_box()
+        let loose = replace(self, Handle::none(alloc)).into_loose()?;
+        Some(loose.into_box())
     }
 
     fn of_loose(loose: Loose<DrivenObject, Global>) -> Handle
@@ -54,14 +54,17 @@ impl Handle {
         }
     }
 
-    fn into_loose(self) -> Loose<DrivenObject, Global>
-        requires { IsSome self.object }
-        ensures { Some result.value ≡ self.object }
+    fn into_loose(self) -> Option<Loose<DrivenObject, Global>>
+        ensures { MatchOption result (self.object ≡ None) (λ l. self.object ≡ Some l.value) }
     {
         let Handle { at, alloc } = self;
-        Loose {
-            at: at as *mut DrivenObject,
-            alloc,
+        if at.is_null() {
+            None
+        } else {
+            Some(Loose {
+                at: at as *mut DrivenObject,
+                alloc,
+            })
         }
     }
 
@@ -70,13 +73,6 @@ impl Handle {
         ensures { result.object ≡ Some boxed.value }
     {
         Handle::of_loose(Loose::of(boxed))
-    }
-
-    fn into_box(self) -> Box<DrivenObject, Global>
-        requires { IsSome self.object }
-        ensures { Some result.value ≡ self.object }
-    {
-        self.into_loose().into_box()
     }
 }
 

@@ -1,8 +1,11 @@
-//! The C interface of a driven object (include/pobj.h).
+//! The C interface of a driven object (include/pobj.h). A function on a handle with no object changes nothing, and answers that it
+//! refuses, false or 0.
 #![tactic(auto)]
 
-ghost use Rattle.std.specs.Prelude.{◌≡◌, ◌<◌, None, Some, IsSome, MatchBool, count_by, slice_set, true, false, ◌≤◌};
-ghost use Rattle.po_c.specs.Told.{FromTo, Cancelling, is_not_zero, Answers, entry_named, arriving_named, barrier_named, body_end_named};
+ghost use Rattle.std.specs.Prelude.{◌≡◌, ◌<◌, None, Some, MatchBool, count_by, slice_set, true, false, ◌≤◌};
+ghost use Rattle.po_c.specs.Told.{FromTo, KeepsObject, Cancelling, is_not_zero, Answers, entry_named, arriving_named, barrier_named, body_end_named, number_of_action, number_of_cancellation};
+ghost use Rattle.po_driven.specs.declared.action.Action.TheVariants.{Refused};
+ghost use Rattle.po_driven.specs.declared.words.Cancellation.TheVariants.{Refused as IsRefused};
 ghost use Rattle.po_driven.specs.Steps.{Attempts, EndsBody, Evaluates, Finalizes, GoesOn, Issues};
 ghost use Rattle.po_engine.specs.WaitingCalls.{is_on};
 ghost use Rattle.po_driven.specs.DrivenView.{DrivenView, at_opening};
@@ -14,10 +17,10 @@ mod numbers;
 
 use handle::Handle;
 use numbers::{answer_of, arriving_of, barrier_of, body_end_of, entry_of, number_of};
-use po_driven::{DrivenObject, Step, Ticket};
+use po_driven::{Action, Cancellation, DrivenObject, Step, Ticket};
 use std::alloc::Global;
 
-/// Puts the object in place of a handle that has none. False where memory is wanting.
+/// Puts the object into a handle that has none. False: out of memory.
 fn put(alloc: Global, handle: &mut Handle, object: DrivenObject) -> bool
     requires { handle.old.object ≡ None }
     ensures { MatchBool result (handle.new.object ≡ Some object) (handle.new.object ≡ None) }
@@ -31,7 +34,7 @@ fn put(alloc: Global, handle: &mut Handle, object: DrivenObject) -> bool
     }
 }
 
-/// Makes an object in place of a handle that has none. False where memory is wanting, or there are too many entries.
+/// Makes an object in a handle that has none. False: out of memory, or there are too many entries.
 #[unsafe(no_mangle)]
 pub extern "C" fn pobj_make(alloc: Global, handle: &mut Handle, entries: u64) -> bool
     requires { handle.old.object ≡ None }
@@ -66,10 +69,9 @@ pub extern "C" fn pobj_make_fixed(
     }
 }
 
-/// Frees the object.
+/// Frees the object, if there is one.
 #[unsafe(no_mangle)]
 pub extern "C" fn pobj_free(alloc: Global, handle: &mut Handle)
-    requires { IsSome handle.old.object }
     ensures { handle.new.object ≡ None }
 {
     drop(handle.take(alloc));
@@ -78,14 +80,16 @@ pub extern "C" fn pobj_free(alloc: Global, handle: &mut Handle)
 /// From now on at most so many calls may be queued on the entry; 0: any number. False: there is no such entry.
 #[unsafe(no_mangle)]
 pub extern "C" fn pobj_limit(alloc: Global, handle: &mut Handle, entry: u64, longest: u64) -> bool
-    requires { IsSome handle.old.object }
-    ensures made { IsSome handle.new.object }
+    ensures made { KeepsObject handle.old.object handle.new.object }
+    ensures no_object { handle.old.object ≡ None → result ≡ false }
     ensures set { FromTo handle.old.object handle.new.object (λ old new. entry_named entry < old.calls.object.state.unit
         → (result ≡ true) × (new ≡ record old { limits = slice_set old.limits (entry_named entry) longest })) }
     ensures none { FromTo handle.old.object handle.new.object (λ old new. old.calls.object.state.unit ≤ entry_named entry
         → (result ≡ false) × (new ≡ old)) }
 {
-    let mut object = handle.take(alloc);
+    let Some(mut object) = handle.take(alloc) else {
+        return false;
+    };
     let is_set = object.limit(entry_of(entry), longest);
     *handle = Handle::of(object);
     is_set
@@ -102,12 +106,14 @@ pub extern "C" fn pobj_issue(
     barrier: u64,
     step: &mut Step,
 ) -> u64
-    requires { IsSome handle.old.object }
-    ensures made { IsSome handle.new.object }
+    ensures made { KeepsObject handle.old.object handle.new.object }
+    ensures no_object { handle.old.object ≡ None → (result ≡ number_of_action Refused) × (step.new ≡ step.old) }
     ensures answer { FromTo handle.old.object handle.new.object (λ old new.
         Answers result (Issues (arriving_named caller entry marks) (barrier_named barrier) step.new old new)) }
 {
-    let mut object = handle.take(alloc);
+    let Some(mut object) = handle.take(alloc) else {
+        return answer_of(Action::Refused);
+    };
     let arriving = arriving_of(caller, entry, marks);
     let action = object.issue(arriving, barrier_of(barrier), step);
     *handle = Handle::of(object);
@@ -122,11 +128,13 @@ pub extern "C" fn pobj_answer(
     barrier: u64,
     step: &mut Step,
 ) -> u64
-    requires { IsSome handle.old.object }
-    ensures made { IsSome handle.new.object }
+    ensures made { KeepsObject handle.old.object handle.new.object }
+    ensures no_object { handle.old.object ≡ None → (result ≡ number_of_action Refused) × (step.new ≡ step.old) }
     ensures answer { FromTo handle.old.object handle.new.object (λ old new. Answers result (Evaluates (barrier_named barrier) step.new old new)) }
 {
-    let mut object = handle.take(alloc);
+    let Some(mut object) = handle.take(alloc) else {
+        return answer_of(Action::Refused);
+    };
     let action = object.answer(barrier_of(barrier), step);
     *handle = Handle::of(object);
     answer_of(action)
@@ -142,11 +150,13 @@ pub extern "C" fn pobj_body_ended(
     marks: u64,
     step: &mut Step,
 ) -> u64
-    requires { IsSome handle.old.object }
-    ensures made { IsSome handle.new.object }
+    ensures made { KeepsObject handle.old.object handle.new.object }
+    ensures no_object { handle.old.object ≡ None → (result ≡ number_of_action Refused) × (step.new ≡ step.old) }
     ensures answer { FromTo handle.old.object handle.new.object (λ old new. Answers result (EndsBody (body_end_named how entry marks) step.new old new)) }
 {
-    let mut object = handle.take(alloc);
+    let Some(mut object) = handle.take(alloc) else {
+        return answer_of(Action::Refused);
+    };
     let action = object.body_ended(body_end_of(how, entry, marks), step);
     *handle = Handle::of(object);
     answer_of(action)
@@ -155,11 +165,13 @@ pub extern "C" fn pobj_body_ended(
 /// What the client is to do next.
 #[unsafe(no_mangle)]
 pub extern "C" fn pobj_next(alloc: Global, handle: &mut Handle, step: &mut Step) -> u64
-    requires { IsSome handle.old.object }
-    ensures made { IsSome handle.new.object }
+    ensures made { KeepsObject handle.old.object handle.new.object }
+    ensures no_object { handle.old.object ≡ None → (result ≡ number_of_action Refused) × (step.new ≡ step.old) }
     ensures answer { FromTo handle.old.object handle.new.object (λ old new. Answers result (GoesOn step.new old new)) }
 {
-    let mut object = handle.take(alloc);
+    let Some(mut object) = handle.take(alloc) else {
+        return answer_of(Action::Refused);
+    };
     let action = object.next(step);
     *handle = Handle::of(object);
     answer_of(action)
@@ -174,12 +186,14 @@ pub extern "C" fn pobj_cancel(
     number: u64,
     expired: u64,
 ) -> u64
-    requires { IsSome handle.old.object }
-    ensures made { IsSome handle.new.object }
+    ensures made { KeepsObject handle.old.object handle.new.object }
+    ensures no_object { handle.old.object ≡ None → result ≡ number_of_cancellation IsRefused }
     ensures refused { FromTo handle.old.object handle.new.object (λ old new. 1 < result → new ≡ old) }
     ensures noted { FromTo handle.old.object handle.new.object (λ old new. Cancelling result (Attempts (record { key = key; number = number }) (is_not_zero expired) old new)) }
 {
-    let mut object = handle.take(alloc);
+    let Some(mut object) = handle.take(alloc) else {
+        return number_of(Cancellation::Refused);
+    };
     let what = object.cancel(Ticket { key, number }, expired != 0);
     *handle = Handle::of(object);
     number_of(what)
@@ -188,26 +202,30 @@ pub extern "C" fn pobj_cancel(
 /// The object is finalized.
 #[unsafe(no_mangle)]
 pub extern "C" fn pobj_finalize(alloc: Global, handle: &mut Handle, step: &mut Step) -> u64
-    requires { IsSome handle.old.object }
-    ensures made { IsSome handle.new.object }
+    ensures made { KeepsObject handle.old.object handle.new.object }
+    ensures no_object { handle.old.object ≡ None → (result ≡ number_of_action Refused) × (step.new ≡ step.old) }
     ensures answer { FromTo handle.old.object handle.new.object (λ old new. Answers result (Finalizes step.new old new)) }
 {
-    let mut object = handle.take(alloc);
+    let Some(mut object) = handle.take(alloc) else {
+        return answer_of(Action::Refused);
+    };
     let action = object.finalize(step);
     *handle = Handle::of(object);
     answer_of(action)
 }
 
-/// How many calls are queued on the entry; 0 where there is no such entry.
+/// How many calls are queued on the entry; 0 if there is no such entry.
 #[unsafe(no_mangle)]
 pub extern "C" fn pobj_count(alloc: Global, handle: &mut Handle, entry: u64) -> u64
-    requires { IsSome handle.old.object }
+    ensures no_object { handle.old.object ≡ None → result ≡ 0 }
     ensures same { handle.new.object ≡ handle.old.object }
     ensures exact { (d : DrivenView) → handle.old.object ≡ Some d → entry_named entry < d.calls.object.state.unit
         → result ≡ count_by (is_on (entry_named entry)) d.calls.object.state.waiting }
     ensures none { (d : DrivenView) → handle.old.object ≡ Some d → d.calls.object.state.unit ≤ entry_named entry → result ≡ 0 }
 {
-    let object = handle.take(alloc);
+    let Some(object) = handle.take(alloc) else {
+        return 0;
+    };
     let count = object.count(entry_of(entry));
     *handle = Handle::of(object);
     count

@@ -42,7 +42,7 @@ pub fn barrier_of(number: u64) -> Barrier
     }
 }
 
-/// The entry of this number; one that no object has, where the number is too great.
+/// The entry of this number; one that no object has, if the number is too great.
 pub fn entry_of(number: u64) -> u16
     ensures { result ≡ entry_named number }
 {

@@ -20,7 +20,8 @@ use crate::verdict::Verdict;
 use po_language::{LineFault, Reason, Span};
 use po_script::cutter::{Cutter, Step};
 use po_script::facts::refused_behind;
-use po_script::{ScriptObject, Source, Units};
+use po_script::{ScriptObject, Units};
+use po_streams::Source;
 use std::alloc::Global;
 
 /// A script as far as it has been checked.

@@ -6,8 +6,7 @@ use crate::fault::CheckFault;
 use crate::finding::{Finding, Found};
 use crate::known::Known;
 use crate::report::Report;
-use po_script::Sink;
-use po_script::sink::write_all;
+use po_streams::{Sink, write_all};
 use po_unit::Shape;
 use std::alloc::{AllocError, Global};
 

@@ -8,7 +8,7 @@ use crate::commands::NAME;
 use crate::status::{GOOD, NO_MEANS, USAGE, status_of};
 use clap::Error;
 use clap::error::ErrorKind;
-use po_script::RunFault;
+use po_language::RunFault;
 use std::alloc::AllocError;
 use std::io::{Eprint, Print};
 

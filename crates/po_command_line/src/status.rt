@@ -3,7 +3,7 @@
 ghost use Rattle.std.specs.Prelude.{◌≡◌};
 ghost use Rattle.po_command_line.specs.Statuses.{status_of};
 
-use po_script::RunFault;
+use po_language::RunFault;
 
 /// The status of a good end.
 pub const GOOD: u8 = 0;

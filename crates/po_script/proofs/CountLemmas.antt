@@ -1,6 +1,6 @@
 -- How often a source was read, over several reads.
 use Rattle.std.proofs.Common.{◌≡◌, ◌≤◌, ℕ, ◌+◌, ◌^◌, min, Option, Some, None, arith}
-use Rattle.po_script.specs.Source.{CountsMore}
+use Rattle.po_streams.specs.Source.{CountsMore}
 
 pub CountsMore-trans : (a b c : Option ℕ) (m n : ℕ) → CountsMore a b m → CountsMore b c n → CountsMore a c (m + n)
 CountsMore-trans None None None m n p q = tt

@@ -9,7 +9,7 @@ use Rattle.po_script.proofs.CutLemmas.{cut-newline, cut-letter}
 use Rattle.po_script.specs.Chunk.{Given}
 use Rattle.po_script.specs.Cutter.{CutsBy}
 use Rattle.po_script.specs.Script.{Cut, cut}
-use Rattle.po_script.specs.Source.{CountsMore}
+use Rattle.po_streams.specs.Source.{CountsMore}
 
 -- the first of the bytes that wait
 pub first_waits : (bytes : List ℕ) (taken count : ℕ) → taken < count → count ≤ length bytes → drop taken (take count bytes) ≡ get_or bytes taken 0 ∷ drop (taken + 1) (take count bytes)

@@ -14,8 +14,8 @@ use Rattle.po_script.specs.Run.{Tells}
 use Rattle.po_language.specs.declared.command.Command.{Command}
 use Rattle.po_language.specs.declared.command.FaultKind.{FaultKind}
 use Rattle.po_language.specs.declared.command.FaultKind.TheVariants.{ScriptTooLong, LineTooLong, UnknownCommand, NoUnit, SecondUnit, BadUnit, BadArgument}
-use Rattle.po_script.specs.declared.fault.RunFault.{RunFault}
-use Rattle.po_script.specs.declared.fault.RunFault.TheVariants.{Script, Read, Write, Memory}
+use Rattle.po_language.specs.declared.run_fault.RunFault.{RunFault}
+use Rattle.po_language.specs.declared.run_fault.RunFault.TheVariants.{Script, Read, Write, Memory}
 use Rattle.po_script.specs.declared.interpreter.Interpreter.{Interpreter}
 
 line_read : (k : FaultKind) (n : ℕ) (bytes : List ℕ) (ended : Bool) → (n ≤ length (cut bytes).full) ⊎ (ended ≡ true) → IsLineRead k n bytes ended

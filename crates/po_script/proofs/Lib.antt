@@ -10,6 +10,5 @@ pub mod ReadingLemmas
 pub mod Refused
 pub mod ScriptLemmas
 pub mod ShowLemmas
-pub mod SinkLemmas
 pub mod StandLemmas
 pub mod SureLemmas

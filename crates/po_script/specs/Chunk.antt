@@ -1,7 +1,7 @@
 -- What a source gave, and what of it was taken.
 use Rattle.std.specs.Prelude.{ℕ, ◌≡◌, ◌≤◌, ◌+◌, Bool, true, List, [], ◌∷◌, ◌++◌, length, take, drop, min, Option, Some, None}
 use Rattle.std.specs.Io.KnownBytes.{Consumes}
-use Rattle.po_script.specs.Source.{CountsMore}
+use Rattle.po_streams.specs.Source.{CountsMore}
 use Rattle.po_script.specs.declared.chunk.Chunk.{Chunk}
 
 -- the bytes that were given and not taken yet

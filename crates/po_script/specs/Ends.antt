@@ -9,8 +9,8 @@ use Rattle.po_script.specs.AnySession.{state_by, text_by}
 use Rattle.po_language.specs.declared.command.Command.{Command}
 use Rattle.po_language.specs.declared.command.FaultKind.{FaultKind}
 use Rattle.po_language.specs.declared.command.FaultKind.TheVariants.{ScriptTooLong, LineTooLong}
-use Rattle.po_script.specs.declared.fault.RunFault.{RunFault}
-use Rattle.po_script.specs.declared.fault.RunFault.TheVariants.{Script, Read, Write, Memory}
+use Rattle.po_language.specs.declared.run_fault.RunFault.{RunFault}
+use Rattle.po_language.specs.declared.run_fault.RunFault.TheVariants.{Script, Read, Write, Memory}
 
 -- the session after the commands
 abbrev pub state_after : (units : ScriptUnits) → SessionState units → List Command → SessionState units

@@ -6,8 +6,8 @@ use Rattle.po_script.specs.Units.{ScriptUnits, Object, listed}
 use Rattle.po_script.specs.Session.{state_of, after, answer}
 use Rattle.po_script.specs.AnySession.{begun_with, state_with, text_with}
 use Rattle.po_language.specs.declared.command.Command.{Command}
-use Rattle.po_script.specs.declared.fault.RunFault.{RunFault}
-use Rattle.po_script.specs.declared.fault.RunFault.TheVariants.{Script, Read, Write, Memory}
+use Rattle.po_language.specs.declared.run_fault.RunFault.{RunFault}
+use Rattle.po_language.specs.declared.run_fault.RunFault.TheVariants.{Script, Read, Write, Memory}
 use Rattle.po_script.specs.declared.interpreter.Interpreter.{Interpreter}
 
 -- The line was carried out, and the writer has what it had and the answer.

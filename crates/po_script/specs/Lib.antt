@@ -6,11 +6,9 @@ pub mod Facts
 pub mod Interpreter
 pub mod Lines
 pub mod Operations
-pub mod OverStd
 pub mod Run
 pub mod Script
 pub mod Session
-pub mod Source
 pub mod SureRefusals
 pub mod Tickets
 pub mod Units

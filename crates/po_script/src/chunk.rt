@@ -2,7 +2,7 @@
 
 ghost use Rattle.std.specs.Prelude.{◌≡◌, ◌≢◌, ◌≤◌, ◌∷◌, [], List, Option, ℕ, drop, IfOk, OnOk, OnErr, true};
 
-use crate::source::{IoFailed, Source};
+use po_streams::{IoFailed, Source};
 
 /// The bytes that a source gave last.
 #[derive(Drop)]

@@ -4,7 +4,7 @@ ghost use Rattle.std.specs.Prelude.{◌≡◌, ◌+◌, ◌<◌, ◌≤◌, ◌�
 ghost use Rattle.po_script.specs.declared.cutter.TheConstants.{LINE_LIMIT, SCRIPT_LIMIT, KEPT};
 
 use crate::chunk::Chunk;
-use crate::source::{IoFailed, Source};
+use po_streams::{IoFailed, Source};
 use std::alloc::{AllocError, Global};
 
 /// The most bytes of a line without its newline.

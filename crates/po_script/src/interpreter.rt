@@ -3,11 +3,10 @@
 ghost use Rattle.std.specs.Prelude.{◌≡◌, ◌≤◌, ◌||◌, length, OnOk, IfErr, None};
 ghost use Rattle.po_script.specs.Script.{begun_after};
 
-use crate::fault::RunFault;
 use crate::session::Session;
-use crate::sink::{Sink, write_all};
 use crate::units::ScriptObject;
-use po_language::{Command, UnitChoice, command_of};
+use po_language::{Command, RunFault, UnitChoice, command_of};
+use po_streams::{Sink, write_all};
 use std::alloc::Global;
 
 /// What the lines of a script have come to.

@@ -2,17 +2,15 @@
 
 ghost use Rattle.std.specs.Prelude.{◌≡◌, ◌+◌, ◌<◌, ◌≤◌, ◌∷◌, [], ◌||◌, List, Option, ℕ, Bool, true, false, length, OnOk, IfOk, IfErr};
 ghost use Rattle.std.specs.Io.KnownBytes.{Consumes};
-ghost use Rattle.po_script.specs.Source.{CountsMore};
+ghost use Rattle.po_streams.specs.Source.{CountsMore};
 ghost use Rattle.po_script.specs.Ends.{EndsWell, EndsAs};
 ghost use Rattle.po_script.specs.declared.cutter.TheConstants.{SCRIPT_LIMIT};
 
 use crate::cutter::{Cutter, Step};
-use crate::fault::RunFault;
 use crate::interpreter::Interpreter;
-use crate::sink::Sink;
-use crate::source::Source;
 use crate::units::{ScriptObject, Units};
-use po_language::FaultKind;
+use po_language::{FaultKind, RunFault};
+use po_streams::{Sink, Source};
 use std::alloc::Global;
 
 /// A script as far as it has been carried out.

@@ -6,8 +6,7 @@ ghost use Rattle.po_stress.specs.Pieces.{text_of};
 ghost use Rattle.po_stress.specs.Reports.{TakesPart};
 
 use itoa::Buffer;
-use po_script::sink::write_all;
-use po_script::{IoFailed, Sink};
+use po_streams::{IoFailed, Sink, write_all};
 
 /// A piece of a line.
 #[derive(Clone, Copy)]

@@ -10,7 +10,7 @@ use crate::sums::recall_sums;
 use crate::totals::Totals;
 use po_core::Volume;
 use po_object::{Agreed, Closed, ReconcileFault, reconcile};
-use po_script::{IoFailed, Sink};
+use po_streams::{IoFailed, Sink};
 use po_unit::Unit;
 
 /// The status where all answers agree with the history.

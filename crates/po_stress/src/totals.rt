@@ -8,7 +8,7 @@ ghost use Rattle.po_stress.specs.Reports.{TakesPart};
 use crate::ends::Ends;
 use crate::piece::{Piece, write_pieces};
 use crate::report::{GOOD, MISMATCH};
-use po_script::{IoFailed, Sink};
+use po_streams::{IoFailed, Sink};
 
 /// What a run over an object with fixed memory came to: how many calls its core issued, and how those ended that its
 /// callers made, as they counted.

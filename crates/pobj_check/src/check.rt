@@ -2,7 +2,7 @@
 
 use po_check::{CheckFault, TextReport, Verdict, check_script};
 use po_command_line::{FINDINGS, GOOD, NAME, NO_MEANS};
-use po_script::OverStd;
+use po_streams::OverStd;
 use std::fs::File;
 use std::io::{self, BufWriter, Eprint, Input, Print, Read, Write};
 use std::rt::Files;

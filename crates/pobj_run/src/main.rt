@@ -6,7 +6,7 @@ mod run;
 mod terminals;
 
 use po_command_line::{Fault, GOOD, NAME};
-use po_script::RunFault;
+use po_language::RunFault;
 use std::env::Env;
 use std::io::{Eprint, Input, IsTerminal, Print};
 use std::process::ExitCode;

@@ -3,7 +3,9 @@
 ghost use Rattle.std.specs.Prelude.{◌≡◌, false};
 
 use crate::terminals::Terminals;
-use po_script::{OverStd, RunFault, Source, run_script};
+use po_language::RunFault;
+use po_script::run_script;
+use po_streams::{OverStd, Source};
 use std::alloc::Global;
 use std::io::{self, BufWriter, Eprint, Input, Print, Write};
 

@@ -6,7 +6,8 @@ ghost use Rattle.po_stress.specs.declared.runs.TheConstants.{MOST_THREADS, MOST_
 use crate::asked::refuse_load;
 use crate::watch::Watch;
 use po_command_line::Fault;
-use po_script::{IoFailed, OverStd, RunFault, Sink};
+use po_language::RunFault;
+use po_streams::{IoFailed, OverStd, Sink};
 use po_stress::{
     Progress, Report, StressFault, StressUnit, Totals, stress_bounded, stress_watched,
 };

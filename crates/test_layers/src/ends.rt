@@ -2,7 +2,9 @@
 
 use crate::fakes::{Asked, Narrow, Pieces};
 use crate::script_runs::text_of;
-use po_script::{OverStd, RunFault, Sink, Source, run_script};
+use po_language::RunFault;
+use po_script::run_script;
+use po_streams::{OverStd, Sink, Source};
 use std::alloc::Global;
 use std::process::Abort;
 use std::test::Fail;

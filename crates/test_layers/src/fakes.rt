@@ -2,7 +2,7 @@
 
 ghost use Rattle.std.specs.Prelude.{◌≡◌, ◌≤◌, false, None, IfOk};
 
-use po_script::{IoFailed, Sink, Source};
+use po_streams::{IoFailed, Sink, Source};
 use std::alloc::Global;
 use std::io;
 use std::io::{Read, Write};

@@ -1,6 +1,8 @@
 //! How a script is run, and what is seen of its run.
 
-use po_script::{OverStd, RunFault, run_script};
+use po_language::RunFault;
+use po_script::run_script;
+use po_streams::OverStd;
 use std::alloc::Global;
 use std::test::Fail;
 

@@ -2,7 +2,7 @@
 //! after it agrees. One is over an object that records its history, the other over one with fixed memory.
 
 use crate::refusals::Refusals;
-use po_script::OverStd;
+use po_streams::OverStd;
 use po_stress::{Progress, StressFault, StressUnit, stress_bounded, stress_watched};
 use std::io::{self, Print};
 use std::sync::{Arc, Wait};

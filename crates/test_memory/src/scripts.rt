@@ -2,7 +2,9 @@
 //! number of first lines.
 
 use crate::refusals::Refusals;
-use po_script::{OverStd, RunFault, run_script};
+use po_language::RunFault;
+use po_script::run_script;
+use po_streams::OverStd;
 use std::io::{self, Print};
 
 /// A script on the pulse.

@@ -2,7 +2,7 @@
 
 use crate::sinks::Narrow;
 use po_object::{Agreed, ReconcileFault};
-use po_script::OverStd;
+use po_streams::OverStd;
 use po_stress::{Report, Totals};
 use std::io::{self, Print, Write};
 

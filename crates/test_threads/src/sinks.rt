@@ -2,7 +2,7 @@
 
 ghost use Rattle.std.specs.Prelude.{◌≡◌, false};
 
-use po_script::{IoFailed, Sink};
+use po_streams::{IoFailed, Sink};
 use std::alloc::Global;
 
 /// Takes one byte a call, has room for so many, and then fails or takes none.

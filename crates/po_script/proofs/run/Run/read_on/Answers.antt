@@ -4,7 +4,7 @@ use Rattle.std.proofs.lemmas.List.{append-nil}
 use Rattle.std.proofs.lemmas.Result.{err_from_is_err_and}
 use Rattle.po_script.specs.Cutter.{number_of, waiting}
 use Rattle.po_script.specs.Script.{cut}
-use Rattle.po_script.specs.declared.fault.RunFault.{RunFault}
+use Rattle.po_language.specs.declared.run_fault.RunFault.{RunFault}
 use Rattle.po_script.proofs.CutterLemmas.{few_reads, kept_long}
 use Rattle.po_script.proofs.StandLemmas.{letter_stands}
 use Rattle.po_script.proofs.EndLemmas.{run_long_ends, run_past_ends, err_weaker, ok_weaker}

@@ -1,6 +1,6 @@
 -- What a reader or a writer of std has shown, as a source or a sink.
 use Rattle.std.specs.Prelude.{ℕ, Bool, Option}
-use Rattle.po_script.specs.declared.over_std.OverStd.{OverStd}
+use Rattle.po_streams.specs.declared.over_std.OverStd.{OverStd}
 
 -- the reader or the writer itself
 abbrev pub inner_of : {T : Type 0} → OverStd T → T

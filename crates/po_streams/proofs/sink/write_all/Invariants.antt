@@ -1,6 +1,6 @@
 use Rattle.std.proofs.Common.{◌≡◌, ℕ, ◌≤◌, length, take, drop}
 use Rattle.std.specs.Io.KnownBytes.{Appends}
-use Rattle.po_script.proofs.sink.write_all.Given as goal
+use Rattle.po_streams.proofs.sink.write_all.Given as goal
 
 abbrev pub invariant-loop-rest : goal.invariant-loop-rest
 invariant-loop-rest g l =

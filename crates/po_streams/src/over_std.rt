@@ -1,7 +1,7 @@
 //! Readers and writers of std as sources and sinks.
 
 ghost use Rattle.std.specs.Prelude.{◌≡◌, true, false, Some};
-ghost use Rattle.po_script.specs.Source.{CountsMore};
+ghost use Rattle.po_streams.specs.Source.{CountsMore};
 
 use crate::sink::Sink;
 use crate::source::{IoFailed, Source};
@@ -28,7 +28,7 @@ fn one_more(count: Option<u64>) -> Option<u64>
 }
 
 impl<T> OverStd<T> {
-    ghost use Rattle.po_script.specs.OverStd.{inner_of, has_failed, was_empty, reads_of};
+    ghost use Rattle.po_streams.specs.OverStd.{inner_of, has_failed, was_empty, reads_of};
 
     /// Over a reader or a writer none of whose calls has shown anything.
     pub fn new(inner: T) -> OverStd<T>

@@ -1,7 +1,7 @@
 use Rattle.std.proofs.Common.{◌∙◌, ap, ◌+◌, ◌≤◌, length, drop, arith, length-drop}
 use Rattle.std.proofs.lemmas.List.{take_rest, drop-drop}
-use Rattle.po_script.proofs.SinkLemmas.{written_more, still}
-use Rattle.po_script.proofs.sink.write_all.Goals as goal
+use Rattle.po_streams.proofs.SinkLemmas.{written_more, still}
+use Rattle.po_streams.proofs.sink.write_all.Goals as goal
 
 pub loop-rest-preserved : goal.loop-rest-preserved
 loop-rest-preserved g c =

@@ -1,8 +1,8 @@
 //! How a run of a script fails.
 
-ghost use Rattle.po_script.specs.declared.fault.RunFault.TheVariants.{Memory};
+ghost use Rattle.po_language.specs.declared.run_fault.RunFault.TheVariants.{Memory};
 
-use po_language::FaultKind;
+use crate::command::FaultKind;
 use std::alloc::AllocError;
 use thiserror::Error;
 

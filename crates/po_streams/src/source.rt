@@ -2,7 +2,7 @@
 
 ghost use Rattle.std.specs.Prelude.{◌≡◌, ℕ, ◌<◌, ◌≤◌, Bool, true, ◌||◌, ◌==◌, List, Option, None, length, take, min, IfOk, OnOk, OnErr};
 ghost use Rattle.std.specs.Io.KnownBytes.{Consumes, Keeps};
-ghost use Rattle.po_script.specs.Source.{CountsMore};
+ghost use Rattle.po_streams.specs.Source.{CountsMore};
 
 /// A call of what lies under a source or a sink failed.
 #[derive(Clone, Copy, Debug, PartialEq, Eq)]

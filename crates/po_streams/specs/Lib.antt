@@ -1,0 +1,2 @@
+pub mod OverStd
+pub mod Source
