@@ -905,7 +905,10 @@ package body System.Tasking.Protected_Objects.Actions is
          return Is_Cancelled (Call);
 
       else
-         return True;
+         --  On a task's queue a call that was made while aborts are deferred
+         --  is marked as abortable when its time comes.
+
+         return Call.With_Abort;
       end if;
    end Is_Withdrawn;
 

@@ -59,7 +59,8 @@ package System.Tasking.Protected_Objects.Actions is
    function Is_Withdrawn (Call : Entry_Call_Link) return Boolean;
    --  Whether the call, whose caller was aborted or doesn't wait any longer,
    --  is taken off its queue now: the engine decides that for a protected
-   --  object (9.5.3, 9.7.2, 9.8). Holding the lock of the called object or
+   --  object, and on a task's queue a requeue without abort protects the call
+   --  (9.5.3, 9.5.4, 9.7.2, 9.8). Holding the lock of the called object or
    --  task.
 
    function Is_Aborted_Before

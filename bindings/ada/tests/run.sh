@@ -150,14 +150,16 @@ leaves_others() {
 row "the runtime folder" ../make.sh "$dest" "$library"
 row "the runtime folder, made again" ../make.sh "$dest" "$library"
 row "pobj ada --check" ../check.sh "$dest"
-for name in requeue_to_object_inside message_of_trigger requeue_by_task_to_ended_task acceptor_aborted acceptor_aborted_at_requeue \
+for name in exception_of_aborted_trigger timed_call_after_abort expired_on_task parameters_of_trigger \
+  timed_call_to_task_after_abort \
+  requeue_to_object_inside message_of_trigger requeue_by_task_to_ended_task acceptor_aborted acceptor_aborted_at_requeue \
   priority_after_requeue finalized_as_time_comes \
   priority_queuing queues_with_limits ended_once ended_once_by_task own_message deferred_call expired_in_finalize \
   abort_before_call abort_before_open_entry abort_before_requeue_to_task abort_before_open_accept abort_at_open_trigger \
   abort_while_trigger_is_served trigger_requeued_to_task conditional_call_to_task; do
   row "$name.adb" writes "$name"
 done
-for name in urgent_caller_first ceiling_of_requeue; do
+for name in urgent_caller_first ceiling_of_requeue acceptor_aborted_before_body; do
   writes_urgently "$name"
 done
 row "refused_memory.adb" refused_memory
