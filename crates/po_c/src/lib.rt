@@ -16,8 +16,8 @@ mod loose;
 mod numbers;
 
 use handle::Handle;
-use numbers::{answer_of, arriving_of, barrier_of, body_end_of, entry_of, number_of};
-use po_driven::{Action, Cancellation, DrivenObject, Step, Ticket};
+use numbers::{answer_of, arriving_of, barrier_of, body_end_of, entry_of, number_of, refused};
+use po_driven::{Cancellation, DrivenObject, Step, Ticket};
 use std::alloc::Global;
 
 /// Puts the object into a handle that has none. False: out of memory.
@@ -112,7 +112,7 @@ pub extern "C" fn pobj_issue(
         Answers result (Issues (arriving_named caller entry marks) (barrier_named barrier) step.new old new)) }
 {
     let Some(mut object) = handle.take(alloc) else {
-        return answer_of(Action::Refused);
+        return refused();
     };
     let arriving = arriving_of(caller, entry, marks);
     let action = object.issue(arriving, barrier_of(barrier), step);
@@ -133,7 +133,7 @@ pub extern "C" fn pobj_answer(
     ensures answer { FromTo handle.old.object handle.new.object (λ old new. Answers result (Evaluates (barrier_named barrier) step.new old new)) }
 {
     let Some(mut object) = handle.take(alloc) else {
-        return answer_of(Action::Refused);
+        return refused();
     };
     let action = object.answer(barrier_of(barrier), step);
     *handle = Handle::of(object);
@@ -155,7 +155,7 @@ pub extern "C" fn pobj_body_ended(
     ensures answer { FromTo handle.old.object handle.new.object (λ old new. Answers result (EndsBody (body_end_named how entry marks) step.new old new)) }
 {
     let Some(mut object) = handle.take(alloc) else {
-        return answer_of(Action::Refused);
+        return refused();
     };
     let action = object.body_ended(body_end_of(how, entry, marks), step);
     *handle = Handle::of(object);
@@ -170,7 +170,7 @@ pub extern "C" fn pobj_next(alloc: Global, handle: &mut Handle, step: &mut Step)
     ensures answer { FromTo handle.old.object handle.new.object (λ old new. Answers result (GoesOn step.new old new)) }
 {
     let Some(mut object) = handle.take(alloc) else {
-        return answer_of(Action::Refused);
+        return refused();
     };
     let action = object.next(step);
     *handle = Handle::of(object);
@@ -207,7 +207,7 @@ pub extern "C" fn pobj_finalize(alloc: Global, handle: &mut Handle, step: &mut S
     ensures answer { FromTo handle.old.object handle.new.object (λ old new. Answers result (Finalizes step.new old new)) }
 {
     let Some(mut object) = handle.take(alloc) else {
-        return answer_of(Action::Refused);
+        return refused();
     };
     let action = object.finalize(step);
     *handle = Handle::of(object);

@@ -1,6 +1,7 @@
 //! The numbers of include/pobj.h.
 
 ghost use Rattle.std.specs.Prelude.{◌≡◌, ◌<◌, ◌+◌, ◌*◌};
+ghost use Rattle.po_driven.specs.declared.action.Action.TheVariants.{Refused};
 ghost use Rattle.po_c.specs.Told.{number_of_action, barrier_named, entry_named, number_of_cancellation, has_mark as is_marked, arriving_named, body_end_named};
 
 use po_driven::{Action, Arriving, Barrier, BodyEnd, Cancellation, Deadline, Requeue};
@@ -29,6 +30,15 @@ pub fn answer_of(action: Action) -> u64
         Action::NoMemory => 6,
         Action::Refused => 7,
     }
+}
+
+/// What a step is answered if there is no object. It is cold, so that a step of an object costs no more for it.
+#[cold]
+#[inline(never)]
+pub fn refused() -> u64
+    ensures { result ≡ number_of_action Refused }
+{
+    answer_of(Action::Refused)
 }
 
 /// What C says of a barrier: 0 closed, 1 open, else that it raised an exception.

@@ -6,13 +6,13 @@ use Rattle.po_c.proofs.pobj_answer.Goals as goal
 pub returns-clause-answer : goal.returns-clause-answer
 returns-clause-answer c = λ old new before after.
     let o = c.deref_mut.result.now in let n = c.answer-action.new.self in
-    let b = c.barrier_of.result in let a = c.answer-action.ensures in let r = c.answer_of-2.result in let step = c.answer-action.new.step in
+    let b = c.barrier_of.result in let a = c.answer-action.ensures in let r = c.answer_of.result in let step = c.answer-action.new.step in
     let taken = rw c.in-Some.is at c.take.ensures.taken in
     let from : c.deref_mut.result.now ≡ old = cc (before, taken, c.deref_mut.ensures.value) in
     let to : c.answer-action.new.self ≡ new = cc in
     let all : Answers r (Evaluates b step o n) = record {
       action = c.answer-action.result;
-      told = c.answer_of-2.ensures;
+      told = c.answer_of.ensures;
       said = record {
         tells = a.tells;
         kept = a.kept;
