@@ -1,3 +1,6 @@
+with System.Restrictions;
+with System.Soft_Links;
+
 package body System.Tasking.Nested_Actions is
 
    procedure Look_After_Later;
@@ -25,5 +28,26 @@ package body System.Tasking.Nested_Actions is
          Look_After_Later;
       end if;
    end Leave;
+
+   -------------------
+   -- Undefer_Abort --
+   -------------------
+
+   procedure Undefer_Abort is
+      use System.Restrictions;
+      use System.Restrictions.Rident;
+
+      Has_No_Aborts : constant Boolean :=
+                        Run_Time_Restrictions.Set (No_Abort_Statements)
+        and then Run_Time_Restrictions.Set (Max_Asynchronous_Select_Nesting)
+        and then
+          Run_Time_Restrictions.Value (Max_Asynchronous_Select_Nesting) = 0;
+      --  Under these restrictions (D.7) the compiler's text defers none
+
+   begin
+      if not Has_No_Aborts then
+         System.Soft_Links.Abort_Undefer.all;
+      end if;
+   end Undefer_Abort;
 
 end System.Tasking.Nested_Actions;

@@ -12,6 +12,10 @@ package System.Tasking.Nested_Actions is
    pragma Inline (Leave);
    --  It has given one up. If that was the last, looks after what is put off.
 
+   procedure Undefer_Abort;
+   --  The compiler's text has deferred aborts for a protected action that
+   --  begins with an exception: undefers them.
+
    Later : Entry_Call_Link := null;
    pragma Thread_Local_Storage (Later);
    --  The ring of the calls that are looked after once it has none
