@@ -1,7 +1,21 @@
 with System.Restrictions;
 with System.Soft_Links;
+with System.Task_Primitives.Operations;
 
 package body System.Tasking.Nested_Actions is
+
+   use System.Task_Primitives.Operations;
+
+   Locking_Policy : constant Character;
+   pragma Import (C, Locking_Policy, "__gl_locking_policy");
+
+   Held : aliased System.Task_Primitives.Lock;
+   pragma Thread_Local_Storage (Held);
+   --  A lock with the ceiling that is kept, which this task alone has
+
+   Kept : Integer := -1;
+   pragma Thread_Local_Storage (Kept);
+   --  That ceiling, if there is one
 
    procedure Look_After_Later;
    pragma Import (Ada, Look_After_Later, "pobj_ada_look_after");
@@ -28,6 +42,43 @@ package body System.Tasking.Nested_Actions is
          Look_After_Later;
       end if;
    end Leave;
+
+   ----------
+   -- Keep --
+   ----------
+
+   procedure Keep (Ceiling : Any_Priority) is
+      Violation : Boolean;
+   begin
+      if Locking_Policy /= 'C' or else Ceiling <= Kept then
+         return;
+      end if;
+
+      --  Meanwhile the object's own lock keeps it
+
+      Give_Back;
+      Initialize_Lock (Ceiling, Held'Access);
+      Write_Lock (Held'Access, Violation);
+
+      if Violation then
+         Finalize_Lock (Held'Access);
+      else
+         Kept := Ceiling;
+      end if;
+   end Keep;
+
+   ---------------
+   -- Give_Back --
+   ---------------
+
+   procedure Give_Back is
+   begin
+      if Kept >= 0 then
+         Unlock (Held'Access);
+         Finalize_Lock (Held'Access);
+         Kept := -1;
+      end if;
+   end Give_Back;
 
    -------------------
    -- Undefer_Abort --

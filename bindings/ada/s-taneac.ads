@@ -12,6 +12,14 @@ package System.Tasking.Nested_Actions is
    pragma Inline (Leave);
    --  It has given one up. If that was the last, looks after what is put off.
 
+   procedure Keep (Ceiling : Any_Priority);
+   --  This task leaves an object with this ceiling, and has put calls off:
+   --  under Ceiling_Locking (D.3) it keeps that priority until Give_Back, so
+   --  that no task which is less urgent than their callers comes between.
+
+   procedure Give_Back;
+   --  It has looked after them
+
    procedure Undefer_Abort;
    --  The compiler's text has deferred aborts for a protected action that
    --  begins with an exception: undefers them.

@@ -698,6 +698,11 @@ package body System.Tasking.Protected_Objects.Actions is
          Issue (Self_ID, Object, Call);
          Take_Put_Off (Object, Put_There);
          Join (Last, Put_There);
+
+         if Put_There /= null then
+            Nested_Actions.Keep (Object.Ceiling);
+         end if;
+
          Unlock_Entries (Object);
       end if;
    end Issue_To_Object;
@@ -740,6 +745,7 @@ package body System.Tasking.Protected_Objects.Actions is
 
          if Ring /= null then
             Join (Nested_Actions.Later, Ring);
+            Nested_Actions.Keep (Object.Ceiling);
          end if;
       end if;
 
@@ -763,6 +769,7 @@ package body System.Tasking.Protected_Objects.Actions is
          Look_After (STPO.Self, Ring);
       end loop;
 
+      Nested_Actions.Give_Back;
       Nested_Actions.Leave;
    end Look_After_Later;
 
