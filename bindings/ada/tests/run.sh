@@ -150,7 +150,7 @@ leaves_others() {
 row "the runtime folder" ../make.sh "$dest" "$library"
 row "the runtime folder, made again" ../make.sh "$dest" "$library"
 row "pobj ada --check" ../check.sh "$dest"
-for name in abort_after_refused_call refused_trigger exception_of_aborted_trigger timed_call_after_abort expired_on_task parameters_of_trigger \
+for name in abort_after_refused_call refused_trigger delay_of_aborted_task exception_of_aborted_trigger timed_call_after_abort expired_on_task parameters_of_trigger \
   timed_call_to_task_after_abort \
   requeue_to_object_inside message_of_trigger requeue_by_task_to_ended_task acceptor_aborted acceptor_aborted_at_requeue \
   priority_after_requeue finalized_as_time_comes \
