@@ -150,7 +150,8 @@ leaves_others() {
 row "the runtime folder" ../make.sh "$dest" "$library"
 row "the runtime folder, made again" ../make.sh "$dest" "$library"
 row "pobj ada --check" ../check.sh "$dest"
-for name in abort_after_refused_call refused_trigger delay_of_aborted_task exception_of_aborted_trigger timed_call_after_abort expired_on_task parameters_of_trigger \
+for name in abort_after_refused_call refused_trigger delay_of_aborted_task \
+  exception_of_aborted_trigger timed_call_after_abort expired_on_task parameters_of_trigger \
   timed_call_to_task_after_abort \
   requeue_to_object_inside message_of_trigger requeue_by_task_to_ended_task acceptor_aborted acceptor_aborted_at_requeue \
   priority_after_requeue finalized_as_time_comes \
@@ -159,7 +160,8 @@ for name in abort_after_refused_call refused_trigger delay_of_aborted_task excep
   abort_while_trigger_is_served trigger_requeued_to_task conditional_call_to_task; do
   row "$name.adb" writes "$name"
 done
-for name in priority_after_finalization urgent_caller_first urgent_requeue_first ceiling_of_requeue acceptor_aborted_before_body; do
+for name in priority_after_finalization urgent_caller_first urgent_requeue_first ceiling_of_requeue \
+  acceptor_aborted_before_body; do
   writes_urgently "$name"
 done
 row "refused_memory.adb" refused_memory
