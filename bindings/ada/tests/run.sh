@@ -161,8 +161,8 @@ for name in abort_after_refused_call refused_trigger delay_of_aborted_task \
   abort_while_trigger_is_served trigger_requeued_to_task conditional_call_to_task; do
   row "$name.adb" writes "$name"
 done
-for name in priority_after_finalization priority_after_requeue_meanwhile changed_ceiling urgent_caller_first urgent_requeue_first ceiling_of_requeue \
-  acceptor_aborted_before_body; do
+for name in priority_after_finalization priority_after_requeue_meanwhile priority_set_meanwhile changed_ceiling \
+  urgent_caller_first urgent_requeue_first ceiling_of_requeue acceptor_aborted_before_body; do
   writes_urgently "$name"
 done
 row "refused_memory.adb" refused_memory
