@@ -1,9 +1,11 @@
 # shellcheck shell=bash
-# Proves and builds programs: each crate that one stands on is proved, and standard error says how far that is. Read by `pobj`.
+# Proves and builds crates, those that don't stand on each other side by side, and says on standard error how far that is. Read by
+# `pobj`, after crates.sh.
 
 # A build is silent for at most twice so many seconds.
 beat=10
 log=$top/.build.log
+rooms=$top/.build
 
 since() { echo "$((SECONDS / 60)) min $((SECONDS % 60)) s"; }
 
@@ -16,96 +18,222 @@ show() {
   fi
 }
 
-# Writes the toolchain's lines into the log, and shows its steps: on a terminal each second at most, else at each beat.
-follow() {
-  local shown=$1 line part="" steps="" said=$SECONDS ended
-  local pause=$beat
-  [ ! -t 2 ] || pause=1
-  show "$shown"
-  while true; do
-    ended=0
-    IFS= read -r -t "$pause" line || ended=$?
-    part+=$line
-    if [ "$ended" -eq 0 ]; then
-      printf '%s\n' "$part" >>"$log"
-      [[ ! $part =~ ^so\ far:\ ([0-9]+\ of\ [0-9]+\ functions) ]] || steps=": proved ${BASH_REMATCH[1]}"
-      [[ $part != "rt: waiting for another rt"* ]] || steps=" waits for another rt, which works in these folders"
-      part=""
-    elif [ "$ended" -le 128 ]; then
-      return
-    fi
-    if [ $((SECONDS - said)) -ge "$pause" ]; then
-      show "$shown$steps"
-      said=$SECONDS
-    fi
+# Ends the line that changes.
+end_line() { [ ! -t 2 ] || printf '\r\033[K' >&2; }
+
+# Whether one of the crates is in `todo`.
+waits_for() {
+  local crate
+  for crate; do
+    [[ " ${todo[*]-} " != *" $crate "* ]] || return 0
   done
+  return 1
 }
 
-# Carries out a command of the toolchain in the folder of a crate. `failed` says which one it was, and how it ended.
-step() {
-  local crate=$1 shown=$2 status
-  shift 2
-  (cd "$top/crates/$crate" && "$@" </dev/null 2>&1) | follow "$shown"
-  status=${PIPESTATUS[0]}
-  failed="'$*' in crates/$crate ended with status $status"
-  return "$status"
-}
-
-# The file that the build of a library makes.
-built_of() {
+# Whether a crate isn't built of its sources as they are. A program that has to be built is tried in any case.
+is_stale() {
   case $1 in
-    po_c) echo "$top/crates/$1/out/lib$1.a" ;;
-    *) echo "$top/crates/$1/out/rlib/stamp" ;;
+    pobj_*) ;;
+    po_c) is_older "$top/crates/$1/out/lib$1.a" "" "$1" ;;
+    *) is_older "$top/crates/$1/out/rlib/stamp" "" "$1" ;;
   esac
 }
 
-# Proves and builds the crates of the program in turn, those whose library is no older than their sources left out.
-build_crates() {
-  local crate number=0 changed=no shown
+# Collects in `todo` those of `crates` that aren't built of their sources as they are, and those that stand on one of these.
+list_todo() {
+  local crate
   for crate in "${crates[@]}"; do
-    number=$((number + 1))
-    shown="$crate ($number of ${#crates[@]})"
-    if [ "$crate" = "$1" ] && [ -e "$top/crates/$crate/src/main.rt" ]; then
-      step "$crate" "$shown, the program" rt run -- --help || return 1
-    elif [ "$changed" = yes ] || is_older "$(built_of "$crate")" "" "$crate"; then
-      changed=yes
-      step "$crate" "$shown" rt lib || return 1
+    # shellcheck disable=SC2086
+    if waits_for ${needs[$crate]} || is_stale "$crate"; then todo+=("$crate"); fi
+  done
+}
+
+# Puts the crates of `todo` on which most of them stand first: then the others seldom wait.
+sort_todo() {
+  local wanted=("${todo[@]}") crates crate other
+  local -A above=()
+  for crate in "${wanted[@]}"; do
+    crates=()
+    collect "$crate"
+    for other in "${crates[@]}"; do
+      above[$other]=$((${above[$other]-0} + 1))
+    done
+  done
+  mapfile -t todo < <(for crate in "${wanted[@]}"; do echo "${above[$crate]} $crate"; done | sort -s -k 1,1nr | cut -d ' ' -f 2)
+}
+
+# Leaves the room of a crate: what was made there moves back.
+leave_room() {
+  local made=$rooms/$1/crates/$1/out
+  [ -e "$top/crates/$1/out" ] || [ ! -e "$made" ] || mv "$made" "$top/crates/$1/out"
+  rm -rf "${rooms:?}/$1"
+}
+
+# Leaves the rooms that there are, of this build or of one that was ended before.
+leave_rooms() {
+  local room
+  for room in "$rooms"/*/; do
+    [ ! -d "$room/crates" ] || leave_room "$(basename "$room")"
+  done
+  rm -rf "$rooms"
+}
+
+# Begins to build the crates of `todo` that stand on none of it, as many at once as the processors have work for: each in a session of
+# its own, so that its processes can be told to stop.
+begin_crates() {
+  local crate
+  for crate in "${todo[@]}"; do
+    [ "${#sessions[@]}" -lt "$at_once" ] || return 0
+    # shellcheck disable=SC2086
+    if [[ ! -v "sessions[$crate]" ]] && ! waits_for ${needs[$crate]}; then
+      setsid "$top/tools/room.sh" "$crate" >"$rooms/lines" 8<&- 9<&- &
+      sessions[$crate]=$!
+      steps[$crate]=""
     fi
   done
 }
 
-# Says what is built, and how long that takes.
-announce_build() {
-  local path
-  path_of "$1"
-  if [ -x "$path" ]; then
-    say "a source is newer than $1: it is built again, and what changed is proved, with what stands on it"
-  else
-    say "the first build of $1: ${#crates[@]} crates are proved, in $(minutes_of "$1") minutes on 4 processors (here are $(nproc))"
-  fi
-  say "all that the toolchain says is in $log"
+# Takes the end of a crate's build, with its status. It fails if that isn't 0.
+end_crate() {
+  local other left=()
+  wait "${sessions[$1]}" || true
+  unset "sessions[$1]" "steps[$1]"
+  leave_room "$1"
+  failed="rt in crates/$1 ended with status $2"
+  for other in "${todo[@]}"; do
+    [ "$other" = "$1" ] || left+=("$other")
+  done
+  todo=("${left[@]}")
+  [ "$2" -eq 0 ]
 }
 
-# Proves and builds the program, whose crates are in `crates`.
-build_program() {
-  local program=$1 failed="" path
-  announce_build "$program"
-  path_of "$program"
-  SECONDS=0
-  mkdir -p "${path%/*}"
-  # Nobody takes the program for fresh until it is linked.
-  touch -d @0 "$path.begun"
+# Takes a line of the toolchain about a crate.
+take_line() {
+  printf '%s: %s\n' "$1" "$2" >>"$log"
+  [[ ! $2 =~ ^so\ far:\ ([0-9]+\ of\ [0-9]+)\ functions ]] || steps[$1]=" ${BASH_REMATCH[1]}"
+}
+
+# Shows which crates are being built, and how many of the functions of each are proved.
+show_crates() {
+  local crate shown=""
+  for crate in "${!steps[@]}"; do
+    shown+=", $crate${steps[$crate]}"
+  done
+  show "$((${#crates[@]} - ${#todo[@]})) of ${#crates[@]} crates are built; now${shown#,}"
+  shown_at=$SECONDS
+}
+
+# Takes what is written for the build until a crate's ends, whose status it gives. A signal that stops all is written too: `exit`
+# mustn't be reached out of `read`, which bash answers by an abort. What is read of a line when its time is over is kept.
+follow() {
+  local crate kind text part status
+  while true; do
+    status=0
+    IFS= read -r -t "$pause" part <&8 || status=$?
+    line+=$part
+    if [ "$status" -eq 0 ]; then
+      read -r crate kind text <<<"$line"
+      line=""
+      case $kind in
+        said) take_line "$crate" "$text" ;;
+        stopped) exit "$text" ;;
+        ended)
+          end_crate "$crate" "$text"
+          return
+          ;;
+      esac
+    fi
+    [ $((SECONDS - shown_at)) -lt "$pause" ] || show_crates
+  done
+}
+
+# Ends the builds that still run.
+end_builds() {
+  local session
+  trap '' HUP INT TERM
+  for session in "${sessions[@]}"; do
+    kill -TERM -- "-$session" 2>/dev/null || true
+  done
+  wait
+  leave_rooms
+}
+
+# Proves and builds those of `crates` that aren't, or stand on one that isn't. It fails with the first of them that does.
+build_crates() {
+  local todo=() at_once=$(($(nproc) > 1 ? $(nproc) - 1 : 1)) pause=$beat shown_at=$SECONDS line=""
+  [ ! -t 2 ] || pause=1
+  list_todo
+  sort_todo
+  while [ "${#todo[@]}" -gt 0 ]; do
+    begin_crates
+    follow || return 1
+  done
+}
+
+# Makes the folder of the rooms, and in it what is written for the build.
+make_rooms() {
+  leave_rooms
+  mkdir "$rooms"
+  mkfifo "$rooms/lines"
+  exec 8<>"$rooms/lines"
   : >"$log"
-  : >"$path.begun.new"
-  if ! build_crates "$program" || [ ! -x "$path" ]; then
-    [ ! -t 2 ] || echo >&2
+}
+
+# Builds `crates`. If that fails, it says why, and ends.
+build_or_end() {
+  local failed=""
+  declare -gA sessions=() steps=()
+  SECONDS=0
+  make_rooms
+  trap end_builds EXIT
+  trap 'echo all stopped 129 >&8' HUP
+  trap 'echo all stopped 130 >&8' INT
+  trap 'echo all stopped 143 >&8' TERM
+  if ! build_crates; then
+    end_line
     grep -E '(^|: )error|: (not proved|no proof)' "$log" | head -n 5 >&2 || true
-    say "$program could not be built: $failed; see $log"
+    say "the build failed: $failed; see $log"
+    exit 5
+  fi
+  end_line
+  leave_rooms
+  trap - EXIT HUP INT TERM
+}
+
+# Nobody takes a program for built until it is.
+begin_program() {
+  local path
+  path_of "$1"
+  mkdir -p "${path%/*}"
+  touch -d @0 "$path.begun"
+  : >"$path.begun.new"
+}
+
+# From here on a program is taken for one of the sources as they were when its build began.
+end_program() {
+  local path
+  path_of "$1"
+  if [ ! -x "$path" ]; then
+    say "$1 isn't there, though nothing failed; see $log"
     exit 5
   fi
   mv "$path.begun.new" "$path.begun"
-  [ ! -t 2 ] || printf '\r\033[K' >&2
-  say "$program is built in $(since)"
+  say "$1 is built in $(since)"
+}
+
+# Proves and builds programs.
+build_programs() {
+  local program
+  list_crates "$@"
+  say "proves and builds $*, the first time in $(minutes_of "$@") minutes on 4 processors (here are $(nproc))"
+  say "all that the toolchain says is in $log"
+  for program; do
+    begin_program "$program"
+  done
+  build_or_end
+  for program; do
+    end_program "$program"
+  done
 }
 
 # Waits while another call builds.
@@ -122,11 +250,11 @@ wait_for_turn() {
 
 # Carries out `pobj build` with the words after it.
 build() {
-  local program names
+  local program programs=() words
   case "$*" in
-    "") names=run ;;
-    run | check | stress) names=$1 ;;
-    all) names="run check stress" ;;
+    "") words=run ;;
+    run | check | stress) words=$1 ;;
+    all) words="run check stress" ;;
     *)
       say "pobj build takes run, check, stress or all; without a word it builds run"
       exit 2
@@ -134,13 +262,14 @@ build() {
   esac
   need_rt "the program has to be built"
   wait_for_turn
-  for program in $names; do
+  for program in $words; do
     program=pobj_$program
     list_crates "$program"
     if is_fresh "$program"; then
       say "$program is built, and no source is newer"
     else
-      build_program "$program" 9<&-
+      programs+=("$program")
     fi
   done
+  [ "${#programs[@]}" -eq 0 ] || build_programs "${programs[@]}"
 }

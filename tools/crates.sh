@@ -16,16 +16,16 @@ build_words() {
   if [ "$1" = pobj_run ]; then echo "./pobj build"; else echo "./pobj build ${1#pobj_}"; fi
 }
 
-# How many minutes the first build of the program takes on four processors.
+# How many minutes the first build of the programs takes on four processors.
 minutes_of() {
-  case $1 in
+  case $* in
     pobj_check) echo "20 to 30" ;;
     pobj_stress) echo "30 to 45" ;;
     *) echo "15 to 25" ;;
   esac
 }
 
-# Collects a crate in `crates`, after those that it stands on; `needs` has the lines of crates.txt.
+# Collects a crate in `crates`, after those that it stands on.
 collect() {
   local dep
   [[ -v "needs[$1]" && " ${crates[*]-} " != *" $1 "* ]] || return 0
@@ -35,16 +35,18 @@ collect() {
   crates+=("$1")
 }
 
-# Sets `crates` to those of the program, lowest first.
+# Sets `crates` to those of the programs, lowest first, and `needs` to what each crate of crates.txt stands on.
 list_crates() {
   local name deps
-  declare -A needs=()
+  declare -gA needs=()
   crates=()
   while IFS=: read -r name deps; do
     name=${name%% *}
     [[ -z $name || $name == "#"* ]] || needs[$name]=$deps
   done <"$top/crates.txt"
-  collect "$1"
+  for name; do
+    collect "$name"
+  done
 }
 
 # Whether the file isn't there, or older than the list of crates (told by its path, or by "" for not) or a source of one.

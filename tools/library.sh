@@ -7,18 +7,10 @@ version() { sed -nE 's/.*VERSION: .*"([0-9.]+)".*/\1/p' "$top/crates/po_command_
 
 # Proves and builds the static library: the crate po_c, with those that it stands on.
 build_library() {
-  local failed=""
   list_crates po_c
-  is_older "$(built_of po_c)" "$top/crates.txt" "${crates[@]}" || return 0
-  SECONDS=0
-  : >"$log"
+  is_older "$top/crates/po_c/out/libpo_c.a" "$top/crates.txt" "${crates[@]}" || return 0
   say "the library for C: ${#crates[@]} crates are proved, in 8 to 12 minutes on 4 processors, less if some are proved already"
-  if ! build_crates po_c || [ ! -e "$top/crates/po_c/out/libpo_c.a" ]; then
-    [ ! -t 2 ] || echo >&2
-    say "the library could not be built: $failed; see $log"
-    exit 5
-  fi
-  [ ! -t 2 ] || printf '\r\033[K' >&2
+  build_or_end
   say "the library is built in $(since)"
 }
 

@@ -33,7 +33,7 @@ make_repository() {
   mkdir -p "$work/bin" "$work/crates/pobj_run/src"
   cp -r pobj tools "$work/"
   echo 'pobj_run:' >"$work/crates.txt"
-  for tool in awk bash sh cat chmod find flock grep head mkdir mktemp mv nproc rm sleep stat tail touch; do
+  for tool in awk basename bash sh cat chmod cp cut find flock grep head mkdir mkfifo mktemp mv nproc rm setsid sleep sort stat tail touch; do
     ln -s "$(command -v "$tool")" "$work/bin/$tool"
   done
 }
@@ -88,6 +88,100 @@ stopped() {
   fi
 }
 
+# A repository of four crates, on a machine that says it has four processors.
+make_crates() {
+  local work=$scratch/build name
+  printf '%s\n' 'po_low:' 'po_side:' 'po_high: po_low po_side' 'pobj_run: po_high' >"$work/crates.txt"
+  for name in po_low po_side po_high; do
+    mkdir -p "$work/crates/$name/src"
+  done
+  rm "$work/bin/nproc"
+  printf '#!/bin/sh\necho 4\n' >"$work/bin/nproc"
+  chmod +x "$work/bin/nproc"
+}
+
+# The toolchain that acts: in the folder of each crate it does what the text says, and then builds it.
+build_as() {
+  rm -f "$scratch/began" "$scratch/child"
+  cat >"$scratch/build/bin/rt" <<END
+#!/bin/sh
+crate=\${PWD##*/}
+echo "\$crate" >>$scratch/began
+$1
+mkdir -p out/rlib
+echo >out/rlib/stamp
+printf '#!/bin/sh\necho ran\n' >out/pobj_run
+chmod +x out/pobj_run
+END
+}
+
+# Whether the crates whose build began are these, in some order.
+began() {
+  local names
+  names=$(sort "$scratch/began" | tr '\n' ' ')
+  if [ "$names" = "$1 " ]; then pass; else fail "there began $names, wanted $1"; fi
+}
+
+# Whether a build has left nothing but the crates' folders, with what it had made of po_low.
+left_clean() {
+  if [ -e "$scratch/build/.build" ] || [ ! -e "$scratch/build/crates/po_low/out/kept" ]; then
+    fail "a build that ended early left $(ls -A "$scratch/build" "$scratch/build/crates/po_low/out")"
+  else
+    pass
+  fi
+}
+
+# Whether the process whose number is in the file ends, at once or soon.
+ended_there() {
+  local look
+  for look in $(seq 50); do
+    if [ -s "$scratch/child" ] && ! kill -0 "$(cat "$scratch/child")" 2>/dev/null; then
+      pass
+      return
+    fi
+    sleep 0.1
+  done
+  fail "a build, looked at $look times, runs on or never ran"
+}
+
+# Crates that stand on each other are built in turn, others side by side, and none twice. If one fails, or the build is told to stop, the
+# others stop, and what was made stays.
+crates_there() {
+  local pid look stay="echo >out/kept; echo \$\$ >$scratch/child; exec sleep 60"
+  make_crates
+  build_as "case \$crate in po_low) other=po_side ;; po_side) other=po_low ;; *) other=\$crate ;; esac
+look=0
+until grep -q \$other $scratch/began || [ \$look -eq 100 ]; do look=\$((look + 1)); sleep 0.1; done
+[ \$look -lt 100 ] || exit 9"
+  rm -rf "$scratch"/build/crates/*/out
+  call_there 0 build
+  wrote_there err "pobj_run is built in"
+  began "po_high po_low po_side pobj_run"
+  sleep 0.1
+  touch "$scratch/build/crates/po_side/src/lib.rt"
+  build_as ""
+  call_there 0 build
+  began "po_high po_side pobj_run"
+  rm -rf "$scratch"/build/crates/*/out
+  build_as "case \$crate in po_low) $stay ;; po_side) until [ -s $scratch/child ]; do sleep 0.1; done; echo error: bad; exit 3 ;; esac"
+  call_there 5 build
+  wrote_there err "po_side: error: bad"
+  wrote_there err "rt in crates/po_side ended with status 3"
+  ended_there
+  left_clean
+  build_as "case \$crate in po_low) $stay ;; esac"
+  PATH=$scratch/build/bin "$scratch/build/pobj" build </dev/null >/dev/null 2>&1 &
+  pid=$!
+  for look in $(seq 100); do
+    [ ! -s "$scratch/child" ] || break
+    sleep 0.1
+  done
+  kill -TERM "$pid"
+  wait "$pid"
+  ended_there
+  left_clean
+}
+
 # No toolchain; trials that answer, that are refused, and that don't end; a build that fails; one that makes a program; a trial
 # again where a source is newer; and words that are refused.
 builds() {
@@ -120,4 +214,5 @@ builds() {
   call_there 2 c --help
   pictures_there
   stopped
+  crates_there
 }
