@@ -30,13 +30,23 @@ waits_for() {
   return 1
 }
 
-# Whether a crate isn't built of its sources as they are. A program that has to be built is tried in any case.
-is_stale() {
+# The file that the build of a crate makes.
+built_of() {
   case $1 in
-    pobj_*) ;;
-    po_c) is_older "$top/crates/$1/out/lib$1.a" "" "$1" ;;
-    *) is_older "$top/crates/$1/out/rlib/stamp" "" "$1" ;;
+    po_c) echo "$top/crates/$1/out/lib$1.a" ;;
+    *) echo "$top/crates/$1/out/rlib/stamp" ;;
   esac
+}
+
+# Whether a crate isn't built of its sources and its libraries as they are. A program that has to be built always is.
+is_stale() {
+  local built name
+  [[ $1 != pobj_* ]] || return 0
+  built=$(built_of "$1")
+  for name in ${needs[$1]}; do
+    [[ ! $(built_of "$name") -nt $built ]] || return 0
+  done
+  is_older "$built" "" "$1"
 }
 
 # Collects in `todo` those of `crates` that aren't built of their sources as they are, and those that stand on one of these.
@@ -78,8 +88,15 @@ leave_rooms() {
   rm -rf "$rooms"
 }
 
-# Begins to build the crates of `todo` that stand on none of it, as many at once as the processors have work for: each in a session of
-# its own, so that its processes can be told to stop.
+# How many crates are built at once: one less than there are processors, and one for each 6 GB of memory that is free.
+most_at_once() {
+  awk -v most=$(($(nproc) - 1)) '
+    /^MemAvailable:/ { room = int($2 / 6000000); if (room < most) most = room }
+    END { print most < 1 ? 1 : most }' /proc/meminfo
+}
+
+# Begins to build the crates of `todo` that stand on none of it: each in a session of its own, so that its processes can be told to
+# stop.
 begin_crates() {
   local crate
   for crate in "${todo[@]}"; do
@@ -99,12 +116,14 @@ end_crate() {
   wait "${sessions[$1]}" || true
   unset "sessions[$1]" "steps[$1]"
   leave_room "$1"
-  failed="rt in crates/$1 ended with status $2"
+  if [ "$2" -ne 0 ]; then
+    failed="rt in crates/$1 ended with status $2"
+    return 1
+  fi
   for other in "${todo[@]}"; do
     [ "$other" = "$1" ] || left+=("$other")
   done
   todo=("${left[@]}")
-  [ "$2" -eq 0 ]
 }
 
 # Takes a line of the toolchain about a crate.
@@ -160,8 +179,9 @@ end_builds() {
 
 # Proves and builds those of `crates` that aren't, or stand on one that isn't. It fails with the first of them that does.
 build_crates() {
-  local todo=() at_once=$(($(nproc) > 1 ? $(nproc) - 1 : 1)) pause=$beat shown_at=$SECONDS line=""
+  local todo=() at_once pause=$beat shown_at=$SECONDS line=""
   [ ! -t 2 ] || pause=1
+  at_once=$(most_at_once)
   list_todo
   sort_todo
   while [ "${#todo[@]}" -gt 0 ]; do
