@@ -1,5 +1,6 @@
 -- How far a check has come.
 use Rattle.std.specs.Prelude.{ℕ, ◌≡◌, ◌<◌, ◌⊎◌, Bool, true, false, List, length, Option, Some, None}
+use Rattle.std.specs.Io.KnownBytes.{IsAtEnd}
 use Rattle.po_script.specs.Script.{cut}
 use Rattle.po_script.specs.Facts.{Facts, facts_at}
 use Rattle.po_script.specs.Units.{ScriptUnits}
@@ -28,8 +29,9 @@ pub record StandsBy (units : ScriptUnits) (known : Known) (verdict : Verdict) (f
 
 -- What a check of these bytes came to: the reader's end was reached, or a byte stands behind the most that a script may have;
 -- no read failed; the report was told what is to be said of the bytes, and the verdict is clean exactly where that is nothing.
-pub record IsChecked (units : ScriptUnits) (verdict : Verdict) (bytes : List ℕ) (start now : Option (List Claim)) (ended failed : Bool) : Type 0 where
-  pub whole : (ended ≡ true) ⊎ (67108864 < length bytes)
+pub record IsChecked (units : ScriptUnits) (verdict : Verdict) (bytes : List ℕ) (start now : Option (List Claim))
+    (left : Option (List ℕ)) (ended failed : Bool) : Type 0 where
+  pub whole : ((ended ≡ true) × IsAtEnd left) ⊎ (67108864 < length bytes)
   pub read : failed ≡ false
   pub told : Tells start now (claims_of units bytes)
   pub verdict_is : verdict ≡ verdict_of (claims_of units bytes)

@@ -1,7 +1,8 @@
 //! A check of a script, from the bytes to what is told of them.
 
-ghost use Rattle.std.specs.Prelude.{◌≡◌, ◌+◌, ◌<◌, ◌∷◌, ◌++◌, [], List, Option, ℕ, false, nat_lt, if◌then◌else◌, length, OnOk, IfOk, IfErr};
+ghost use Rattle.std.specs.Prelude.{◌≡◌, ◌+◌, ◌<◌, ◌≤◌, ◌∷◌, ◌++◌, [], List, Option, ℕ, false, nat_lt, if◌then◌else◌, length, OnOk, IfOk, IfErr};
 ghost use Rattle.std.specs.Io.KnownBytes.{Consumes};
+ghost use Rattle.po_streams.specs.Source.{CountsMore};
 ghost use Rattle.po_check.specs.Checked.{IsChecked, EndsEarly};
 ghost use Rattle.po_check.specs.Claims.{claims_of, verdict_of, first_fault};
 ghost use Rattle.po_check.specs.Reports.{Tells};
@@ -135,8 +136,10 @@ impl Check {
         requires fresh { Stands O.units self.old [] (R.left reader.old) (R.left reader.old)
             (R.reads reader.old) (R.reads reader.old) (P.told report.old) (P.told report.old) }
         requires reader { (R.failed reader.old ≡ false) × (R.ended reader.old ≡ false) }
+        ensures reads { (more : ℕ) × (more ≤ SCRIPT_LIMIT + 1)
+            × CountsMore (R.reads reader.old) (R.reads reader.new) more }
         ensures ok { IfOk result (λ verdict. (bytes : List ℕ) × Consumes (R.left reader.old) (R.left reader.new) bytes
-            × IsChecked O.units verdict bytes (P.told report.old) (P.told report.new) (R.ended reader.new) (R.failed reader.new)) }
+            × IsChecked O.units verdict bytes (P.told report.old) (P.told report.new) (R.left reader.new) (R.ended reader.new) (R.failed reader.new)) }
         ensures err { IfErr result (λ fault. (bytes : List ℕ) × Consumes (R.left reader.old) (R.left reader.new) bytes
             × EndsEarly O.units fault bytes (P.told report.old) (P.told report.new) (R.failed reader.new)) }
     {
@@ -162,8 +165,10 @@ fn check_over<O: ScriptObject, R: Source, P: Report>(
     report: &mut P,
 ) -> Result<Verdict, CheckFault>
     requires reader { (R.failed reader.old ≡ false) × (R.ended reader.old ≡ false) }
+    ensures reads { (more : ℕ) × (more ≤ SCRIPT_LIMIT + 1)
+        × CountsMore (R.reads reader.old) (R.reads reader.new) more }
     ensures ok { IfOk result (λ verdict. (bytes : List ℕ) × Consumes (R.left reader.old) (R.left reader.new) bytes
-        × IsChecked O.units verdict bytes (P.told report.old) (P.told report.new) (R.ended reader.new) (R.failed reader.new)) }
+        × IsChecked O.units verdict bytes (P.told report.old) (P.told report.new) (R.left reader.new) (R.ended reader.new) (R.failed reader.new)) }
     ensures err { IfErr result (λ fault. (bytes : List ℕ) × Consumes (R.left reader.old) (R.left reader.new) bytes
         × EndsEarly O.units fault bytes (P.told report.old) (P.told report.new) (R.failed reader.new)) }
     ensures first { (bytes : List ℕ) → first_fault (claims_of O.units bytes) ≡ (script_of (listed O.units) bytes).fault }
@@ -188,8 +193,10 @@ pub fn check_script<R: Source, P: Report>(
     report: &mut P,
 ) -> Result<Verdict, CheckFault>
     requires reader { (R.failed reader.old ≡ false) × (R.ended reader.old ≡ false) }
+    ensures reads { (more : ℕ) × (more ≤ SCRIPT_LIMIT + 1)
+        × CountsMore (R.reads reader.old) (R.reads reader.new) more }
     ensures ok { IfOk result (λ verdict. (bytes : List ℕ) × Consumes (R.left reader.old) (R.left reader.new) bytes
-        × IsChecked ⟦<Units as ScriptObject>⟧.units verdict bytes (P.told report.old) (P.told report.new) (R.ended reader.new) (R.failed reader.new)) }
+        × IsChecked ⟦<Units as ScriptObject>⟧.units verdict bytes (P.told report.old) (P.told report.new) (R.left reader.new) (R.ended reader.new) (R.failed reader.new)) }
     ensures err { IfErr result (λ fault. (bytes : List ℕ) × Consumes (R.left reader.old) (R.left reader.new) bytes
         × EndsEarly ⟦<Units as ScriptObject>⟧.units fault bytes (P.told report.old) (P.told report.new) (R.failed reader.new)) }
     // The first fault that is told is the one that a run ends with, and there is one exactly where a run has one.

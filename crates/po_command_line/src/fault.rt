@@ -22,12 +22,23 @@ pub enum Fault {
 }
 
 impl From<RunFault> for Fault {
+    ghost use Rattle.std.specs.Prelude.{◌≡◌};
+    ghost use Rattle.po_command_line.specs.declared.fault.Fault.TheVariants.{Run};
+
+    ghost from_gives = { λ fault given. given ≡ Run fault };
+
     fn from(fault: RunFault) -> Fault {
         Fault::Run(fault)
     }
 }
 
 impl From<AllocError> for Fault {
+    ghost use Rattle.std.specs.Prelude.{◌≡◌};
+    ghost use Rattle.po_command_line.specs.declared.fault.Fault.TheVariants.{Run};
+    ghost use Rattle.po_language.specs.declared.run_fault.RunFault.TheVariants.{Memory};
+
+    ghost from_gives = { λ _ given. given ≡ Run Memory };
+
     fn from(_error: AllocError) -> Fault {
         Fault::Run(RunFault::Memory)
     }

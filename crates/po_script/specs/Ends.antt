@@ -53,7 +53,7 @@ EndsAs units (Script n kind) bytes start now ended failed bad =
     × Appends start now (output_of units bytes)
 EndsAs units Read bytes start now ended failed bad =
     (failed ≡ true) × (bad ≡ false)
-    × ((whole_lines (listed units) bytes).fault ≡ None)
+    × ((whole_lines (listed units) bytes).fault ≡ None) × (length (cut bytes).rest ≤ 4096)
     × Appends start now (answers units (opening_state units) (whole_lines (listed units) bytes).commands)
 EndsAs units Write bytes start now ended failed bad =
     (failed ≡ false) × (bad ≡ true)

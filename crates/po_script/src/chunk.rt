@@ -1,6 +1,7 @@
 //! The bytes of a source, one after another.
 
-ghost use Rattle.std.specs.Prelude.{◌≡◌, ◌≢◌, ◌≤◌, ◌∷◌, [], List, Option, ℕ, drop, IfOk, OnOk, OnErr, true};
+ghost use Rattle.std.specs.Prelude.{◌≡◌, ◌≢◌, ◌≤◌, ◌∷◌, [], List, Option, None, ℕ, drop, IfOk, OnOk, OnErr, true};
+ghost use Rattle.std.specs.Io.KnownBytes.{IsAtEnd};
 
 use po_streams::{IoFailed, Source};
 
@@ -36,6 +37,7 @@ impl Chunk {
             → Given (pending self.old) bytes start (R.left reader.old) first (R.reads reader.old)
             → Given (pending self.new) bytes start (R.left reader.new) first (R.reads reader.new) }
         ensures next { IfOk result (λ next. IsNext next (pending self.new)) }
+        ensures end { IfOk result (λ next. next ≡ None → IsAtEnd (R.left reader.new)) }
         ensures ended { IfOk result (λ next. EndsAtNone next (R.ended reader.old) (R.ended reader.new)) }
         ensures fine { OnOk result (R.failed reader.new ≡ R.failed reader.old) }
         ensures err { OnErr result ((R.failed reader.new ≡ true) × (pending self.new ≡ [])) }

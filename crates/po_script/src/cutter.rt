@@ -1,6 +1,7 @@
 //! The bytes of a script, cut into lines.
 
 ghost use Rattle.std.specs.Prelude.{◌≡◌, ◌+◌, ◌<◌, ◌≤◌, ◌∷◌, [], List, Option, ℕ, eqb, nat_lt, vec_len, vec_capacity, length, true, false, IfOk, OnOk, OnErr};
+ghost use Rattle.std.specs.Io.KnownBytes.{IsAtEnd};
 ghost use Rattle.po_script.specs.declared.cutter.TheConstants.{LINE_LIMIT, SCRIPT_LIMIT, KEPT};
 
 use crate::chunk::Chunk;
@@ -102,6 +103,7 @@ impl Cutter {
     pub fn next<R: Source>(&mut self, reader: &mut R) -> Result<Step, IoFailed>
         ensures step { IfOk result (λ step. Steps step self.old self.new (R.left reader.old) (R.left reader.new)
             (R.reads reader.old) (R.reads reader.new) (R.ended reader.old) (R.ended reader.new)) }
+        ensures end { IfOk result (λ step. step ≡ Step.End → IsAtEnd (R.left reader.new)) }
         ensures fine { OnOk result (R.failed reader.new ≡ R.failed reader.old) }
         ensures err { OnErr result ((R.failed reader.new ≡ true) × (waiting self.new ≡ [])
             × Stays self.old self.new (R.left reader.old) (R.left reader.new) (R.reads reader.old) (R.reads reader.new)) }

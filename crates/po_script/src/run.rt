@@ -1,7 +1,7 @@
 //! A run of a script, from the bytes to the answers.
 
 ghost use Rattle.std.specs.Prelude.{◌≡◌, ◌+◌, ◌<◌, ◌≤◌, ◌∷◌, [], ◌||◌, List, Option, ℕ, Bool, true, false, length, OnOk, IfOk, IfErr};
-ghost use Rattle.std.specs.Io.KnownBytes.{Consumes};
+ghost use Rattle.std.specs.Io.KnownBytes.{Consumes, IsAtEnd};
 ghost use Rattle.po_streams.specs.Source.{CountsMore};
 ghost use Rattle.po_script.specs.Ends.{EndsWell, EndsAs};
 ghost use Rattle.po_script.specs.declared.cutter.TheConstants.{SCRIPT_LIMIT};
@@ -97,6 +97,7 @@ impl<O: ScriptObject + Drop> Run<O> {
         ensures ok { OnOk result ((bytes : List ℕ) × Consumes (R.left reader.old) (R.left reader.new) bytes
             × EndsWell O.units bytes (W.taken writer.old) (W.taken writer.new) (R.ended reader.new) (R.failed reader.new)
             (W.failed writer.new || W.stuck writer.new)) }
+        ensures end { OnOk result (IsAtEnd (R.left reader.new)) }
         ensures err { IfErr result (λ fault. (bytes : List ℕ) × Consumes (R.left reader.old) (R.left reader.new) bytes
             × EndsAs O.units fault bytes (W.taken writer.old) (W.taken writer.new) (R.ended reader.new) (R.failed reader.new)
             (W.failed writer.new || W.stuck writer.new)) }
@@ -133,6 +134,7 @@ fn run_over<O: ScriptObject + Drop, R: Source, W: Sink>(
     ensures ok { OnOk result ((bytes : List ℕ) × Consumes (R.left reader.old) (R.left reader.new) bytes
         × EndsWell O.units bytes (W.taken writer.old) (W.taken writer.new) (R.ended reader.new) (R.failed reader.new)
         (W.failed writer.new || W.stuck writer.new)) }
+    ensures end { OnOk result (IsAtEnd (R.left reader.new)) }
     ensures err { IfErr result (λ fault. (bytes : List ℕ) × Consumes (R.left reader.old) (R.left reader.new) bytes
         × EndsAs O.units fault bytes (W.taken writer.old) (W.taken writer.new) (R.ended reader.new) (R.failed reader.new)
         (W.failed writer.new || W.stuck writer.new)) }
@@ -156,6 +158,7 @@ pub fn run_script<R: Source, W: Sink>(
     ensures ok { OnOk result ((bytes : List ℕ) × Consumes (R.left reader.old) (R.left reader.new) bytes
         × EndsWell ⟦<Units as ScriptObject>⟧.units bytes (W.taken writer.old) (W.taken writer.new) (R.ended reader.new) (R.failed reader.new)
         (W.failed writer.new || W.stuck writer.new)) }
+    ensures end { OnOk result (IsAtEnd (R.left reader.new)) }
     ensures err { IfErr result (λ fault. (bytes : List ℕ) × Consumes (R.left reader.old) (R.left reader.new) bytes
         × EndsAs ⟦<Units as ScriptObject>⟧.units fault bytes (W.taken writer.old) (W.taken writer.new) (R.ended reader.new) (R.failed reader.new)
         (W.failed writer.new || W.stuck writer.new)) }

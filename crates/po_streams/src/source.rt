@@ -1,7 +1,7 @@
 //! What a script is read from.
 
 ghost use Rattle.std.specs.Prelude.{◌≡◌, ℕ, ◌<◌, ◌≤◌, Bool, true, ◌||◌, ◌==◌, List, Option, None, length, take, min, IfOk, OnOk, OnErr};
-ghost use Rattle.std.specs.Io.KnownBytes.{Consumes, Keeps};
+ghost use Rattle.std.specs.Io.KnownBytes.{Consumes, IsAtEnd, Keeps};
 ghost use Rattle.po_streams.specs.Source.{CountsMore};
 
 /// A call of what lies under a source or a sink failed.
@@ -25,6 +25,7 @@ pub trait Source {
         ensures within { IfOk result (λ count. count ≤ length buffer.new) }
         ensures given { IfOk result (λ count.
             Consumes (left self.old) (left self.new) (take count buffer.new)) }
+        ensures end { IfOk result (λ count. count ≡ 0 → IsAtEnd (left self.new)) }
         ensures at_end { IfOk result (λ count. ended self.new ≡ (ended self.old || (count == 0))) }
         ensures counted { IfOk result (λ count. CountsMore (reads self.old) (reads self.new) (min count 1)) }
         ensures fine { OnOk result (failed self.new ≡ failed self.old) }

@@ -1,12 +1,18 @@
-use Rattle.std.proofs.Common.{◌≡◌, ◌<◌, ◌++◌, ◌∷◌, ◌∙◌, [], length, inl, inr, ap, arith}
+use Rattle.std.proofs.Common.{◌≡◌, ◌<◌, ◌++◌, ◌∷◌, ◌∙◌, [], length, refl, inl, inr, ap, arith}
 use Rattle.std.proofs.lemmas.List.{append-nil, length-append}
 use Rattle.std.proofs.lemmas.Result.{err_from_is_err_and}
 use Rattle.po_script.specs.Cutter.{waiting}
+use Rattle.po_script.proofs.CutterLemmas.{few_reads}
 use Rattle.po_script.proofs.EndLemmas.{err_weaker}
 use Rattle.po_check.specs.declared.fault.CheckFault.{CheckFault}
 use Rattle.po_check.proofs.CheckLemmas.{letter_stands, ok_weaker}
 use Rattle.po_check.proofs.EarlyEnds.{early_other}
 use Rattle.po_check.proofs.check.Check.read_on.Goals as goal
+
+pub returns-in-Err-clause-reads : goal.returns-in-Err-clause-reads
+returns-in-Err-clause-reads g c =
+    let i = c.loop-step.invariant in
+    few_reads _ _ _ _ i.so_far.0 _ _ _ _ (c.in-Err.ensures.err.2 i.so_far.0 _ _ i.so_far.1.cuts) c.next.new.self.few
 
 pub returns-in-Err-clause-err : goal.returns-in-Err-clause-err
 returns-in-Err-clause-err g c =
@@ -36,6 +42,12 @@ loop-step-preserved g c =
       read = c.in-Ok.ensures.fine ∙ i.read;
     }
 
+pub returns-in_err-newline-in-Newline-clause-reads : goal.returns-in_err-newline-in-Newline-clause-reads
+returns-in_err-newline-in-Newline-clause-reads g c =
+    let i = c.loop-step.invariant in
+    let k = rw c.in-Newline.is at c.in-Ok.ensures.step in
+    few_reads _ _ _ _ i.so_far.0 _ _ _ _ (k.4 i.so_far.0 _ _ i.so_far.1.cuts) c.next.new.self.few
+
 pub returns-in_err-newline-in-Newline-clause-err : goal.returns-in_err-newline-in-Newline-clause-err
 returns-in_err-newline-in-Newline-clause-err g c =
     let p = err_from_is_err_and c.from_residual.result c.from_residual.ensures.1 in
@@ -50,6 +62,12 @@ returns-in_err-newline-in-Newline-clause-err g c =
       early_other g.O.ScriptObject.units _ _ _ _ _ (c.in-Ok.ensures.fine ∙ i.read ∙ c.requires.reader.0) e.0 (e.1 i.so_far.0 _ _ _ _ _ (record { cuts = cuts; tells = s.tells })),
     )
 
+pub returns-in-End-clause-reads : goal.returns-in-End-clause-reads
+returns-in-End-clause-reads g c =
+    let i = c.loop-step.invariant in
+    let k = rw c.in-End.is at c.in-Ok.ensures.step in
+    few_reads _ _ _ _ i.so_far.0 _ _ _ _ (k.2 i.so_far.0 _ _ i.so_far.1.cuts) c.next.new.self.few
+
 pub returns-in-End-clause-ok : goal.returns-in-End-clause-ok
 returns-in-End-clause-ok g c =
     let i = c.loop-step.invariant in
@@ -59,7 +77,7 @@ returns-in-End-clause-ok g c =
     let read = c.in-Ok.ensures.fine ∙ i.read ∙ c.requires.reader.0 in
     ok_weaker _ _ c.finish.result (λ verdict ends.
     let told = ends i.so_far.0 _ _ _ _ _ (record { cuts = cuts; tells = s.tells }) in
-    (i.so_far.0, rw (k.0, append-nil) at cuts.source.consumed, record { whole = inl k.1; read = read; told = told.0; verdict_is = told.1 })) c.finish.ensures.ok
+    (i.so_far.0, rw (k.0, append-nil) at cuts.source.consumed, record { whole = inl (k.1, rw c.in-End.is at c.in-Ok.ensures.end refl); read = read; told = told.0; verdict_is = told.1 })) c.finish.ensures.ok
 
 pub returns-in-End-clause-err : goal.returns-in-End-clause-err
 returns-in-End-clause-err g c =
@@ -69,6 +87,12 @@ returns-in-End-clause-err g c =
     let cuts = k.2 i.so_far.0 _ _ s.cuts in
     let read = c.in-Ok.ensures.fine ∙ i.read ∙ c.requires.reader.0 in
     err_weaker _ _ c.finish.result (λ (fault : CheckFault) e. (i.so_far.0 ++ waiting c.next.new.self, cuts.source.consumed, early_other g.O.ScriptObject.units fault _ _ _ _ read e.0 (e.1 i.so_far.0 _ _ _ _ _ (record { cuts = cuts; tells = s.tells })))) c.finish.ensures.err
+
+pub returns-in-Past-clause-reads : goal.returns-in-Past-clause-reads
+returns-in-Past-clause-reads g c =
+    let i = c.loop-step.invariant in
+    let k = rw c.in-Past.is at c.in-Ok.ensures.step in
+    few_reads _ _ _ _ i.so_far.0 _ _ _ _ (k.3 i.so_far.0 _ _ i.so_far.1.cuts) c.next.new.self.few
 
 pub returns-in-Past-clause-ok : goal.returns-in-Past-clause-ok
 returns-in-Past-clause-ok g c =

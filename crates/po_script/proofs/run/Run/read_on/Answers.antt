@@ -21,7 +21,7 @@ returns-in-Err-clause-err g c =
     let s = i.so_far.1 in
     let e = c.in-Err.ensures.err in
     let cuts = e.2 i.so_far.0 _ _ s.cuts in
-    (i.so_far.0, rw (e.1, append-nil) at cuts.source.consumed, (e.0, rw (i.wrote, i.took) c.requires.writer, s.tells.fine, s.tells.told))
+    (i.so_far.0, rw (e.1, append-nil) at cuts.source.consumed, (e.0, rw (i.wrote, i.took) c.requires.writer, s.tells.fine, s.short, s.tells.told))
 
 pub returns-then-is_too_long-clause-reads : goal.returns-then-is_too_long-clause-reads
 returns-then-is_too_long-clause-reads g c =
