@@ -9,6 +9,13 @@ top=$(cd "${BASH_SOURCE[0]%/*}/.." && pwd)
 crate=$1
 room=$top/.build/$crate
 
+# Links a built library into the room, or copies it where there are no links.
+put_library() {
+  cp -al "$1" "$2" 2>/dev/null && return
+  rm -rf "$2"
+  cp -a "$1" "$2"
+}
+
 # Makes the room. What was kept of the crate moves there.
 make_room() {
   local part name
@@ -21,7 +28,7 @@ make_room() {
     grep -E "^$name( |:)" "$top/crates.txt" >>"$room/crates.txt"
     [ "$name" != "$crate" ] || continue
     mkdir "$room/crates/$name/out"
-    cp -al "$top/crates/$name/out/rlib" "$room/crates/$name/out/"
+    put_library "$top/crates/$name/out/rlib" "$room/crates/$name/out/rlib"
   done
   mkdir -p "$top/crates/$crate/out"
   mv "$top/crates/$crate/out" "$room/crates/$crate/out"
