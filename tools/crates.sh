@@ -19,10 +19,10 @@ build_words() {
 # How many minutes the first build of the programs takes on four processors.
 minutes_of() {
   case $* in
-    pobj_run) echo "15 to 25" ;;
-    pobj_check) echo "20 to 30" ;;
-    pobj_stress) echo "25 to 40" ;;
-    *) echo "30 to 45" ;;
+    pobj_run) echo "10 to 20" ;;
+    pobj_check) echo "15 to 25" ;;
+    pobj_stress) echo "20 to 35" ;;
+    *) echo "25 to 40" ;;
   esac
 }
 
