@@ -21,8 +21,8 @@ minutes_of() {
   case $* in
     pobj_run) echo "10 to 20" ;;
     pobj_check) echo "15 to 25" ;;
-    pobj_stress) echo "20 to 35" ;;
-    *) echo "25 to 40" ;;
+    pobj_stress) echo "20 to 40" ;;
+    *) echo "25 to 45" ;;
   esac
 }
 
