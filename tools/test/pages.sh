@@ -3,7 +3,7 @@
 # be believed is counted, paragraphs are short, wrong bodies are few. Read by `test`, behind count.sh.
 
 # The most wrong bodies that the tree has: each costs a quarter of a minute of a full run (CONTRIBUTING.md).
-most_edits=146
+most_edits=147
 
 # The most words that all pages together have, outside of code.
 most_words=20000

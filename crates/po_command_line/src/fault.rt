@@ -45,6 +45,15 @@ impl From<AllocError> for Fault {
 }
 
 impl From<Error> for Fault {
+    ghost use Rattle.std.specs.Prelude.{◌≡◌, ◌≢◌};
+    ghost use Rattle.clap.specs.Values.{kind_of};
+    ghost use Rattle.clap.specs.declared.error.kind.ErrorKind.TheVariants.{OutOfMemory};
+    ghost use Rattle.po_command_line.specs.declared.fault.Fault.TheVariants.{Run, Words};
+    ghost use Rattle.po_language.specs.declared.run_fault.RunFault.TheVariants.{Memory};
+
+    ghost from_gives = { λ error given. (kind_of error ≡ OutOfMemory → given ≡ Run Memory)
+        × (kind_of error ≢ OutOfMemory → given ≡ Words error) };
+
     fn from(error: Error) -> Fault {
         if error.kind() == ErrorKind::OutOfMemory {
             Fault::Run(RunFault::Memory)

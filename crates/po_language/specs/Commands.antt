@@ -130,10 +130,6 @@ entry_at names parts = record { entry = number_of_name names.entries parts.0; in
 abbrev pub entry_of : KnownNames → List ℕ → Option EntryRef
 entry_of names word = option_map (entry_at names) (entry_parts word)
 
--- the number of the name among these, or how many they are where it isn't one of them
-abbrev pub operation_number : List (List ℕ) → List ℕ → Option ℕ
-operation_number names word = if is_name word then Some (number_of_name names word) else None
-
 -- the word, where it is the only one
 abbrev pub only_of : List (List ℕ) → Option (List ℕ)
 only_of (w ∷ []) = Some w
@@ -166,27 +162,22 @@ abbrev pub timed_of : KnownNames → List (List ℕ) → Option Operation
 timed_of names [] = None
 timed_of names (time ∷ ws) = timed_with names (number_of time) ws
 
--- the operation of that number, with a value
-abbrev pub valued : (ℕ → ℕ → Operation) → Option ℕ → Option ℕ → Option Operation
-valued operation (Some op) (Some value) = Some (operation op value)
-valued operation (Some op) None = None
-valued operation None value = None
-
-abbrev pub valued_by : (ℕ → ℕ → Operation) → List (List ℕ) → Option (List ℕ × List ℕ) → Option Operation
-valued_by operation names None = None
-valued_by operation names (Some p) = valued operation (operation_number names p.0) (number_of p.1)
-
--- a procedure and a value, and nothing else
-abbrev pub run_of : KnownNames → List (List ℕ) → Option Operation
-run_of names ws = valued_by (λ op value. Run op value) names.procedures (pair_of ws)
-
--- a function and a value, and nothing else
-abbrev pub read_of : KnownNames → List (List ℕ) → Option Operation
-read_of names ws = valued_by (λ op value. Read op value) names.functions (pair_of ws)
-
 -- a number, and nothing else
 abbrev pub number_alone : List (List ℕ) → Option ℕ
 number_alone ws = option_and_then number_of (only_of ws)
+
+-- a name and a number, and nothing else
+abbrev pub name_and_value : List (List ℕ) → Option (List ℕ × ℕ)
+name_and_value [] = None
+name_and_value (name ∷ ws) = if is_name name then option_map (λ value. (name, value)) (number_alone ws) else None
+
+-- a procedure and a value, and nothing else; one that isn't there has the number behind the last
+abbrev pub run_of : KnownNames → List (List ℕ) → Option Operation
+run_of names ws = option_map (λ p. Run (number_of_name names.procedures p.0) p.1) (name_and_value ws)
+
+-- a function and a value, and nothing else; one that isn't there has the number behind the last
+abbrev pub read_of : KnownNames → List (List ℕ) → Option Operation
+read_of names ws = option_map (λ p. Read (number_of_name names.functions p.0) p.1) (name_and_value ws)
 
 -- the operation, where no words follow
 abbrev pub alone : Operation → List (List ℕ) → Option Operation

@@ -1,9 +1,9 @@
 //! The words of the lines that ask for an operation.
 
-ghost use Rattle.std.specs.Prelude.{◌≡◌, ℕ, List, IfErr};
+ghost use Rattle.std.specs.Prelude.{◌≡◌, IfErr, MatchResult, Some, None};
 ghost use Rattle.std.specs.Result.{result_ok};
 ghost use Rattle.po_language.specs.Words.{words};
-ghost use Rattle.po_language.specs.Commands.{entry_of, operation_number, call_of, timed_of, run_of, read_of, number_alone, alone, operation_of};
+ghost use Rattle.po_language.specs.Commands.{entry_of, call_of, timed_of, number_alone, name_and_value, run_of, read_of, alone, operation_of};
 ghost use Rattle.po_language.specs.Faults.{kind_of};
 
 use crate::command::{FaultKind, Operation};
@@ -23,26 +23,6 @@ fn entry_of(names: &UnitNames, word: &[u8]) -> Option<EntryRef>
         entry: names.entry_named(parts.name),
         index: parts.index,
     })
-}
-
-/// The procedure of the unit that the word names.
-fn procedure_of(names: &UnitNames, word: &[u8]) -> Option<u16>
-    ensures { result ≡ operation_number names.now.procedures word.now }
-{
-    if !is_name(word) {
-        return None;
-    }
-    Some(names.procedure_named(word))
-}
-
-/// The function of the unit that the word names.
-fn function_of(names: &UnitNames, word: &[u8]) -> Option<u16>
-    ensures { result ≡ operation_number names.now.functions word.now }
-{
-    if !is_name(word) {
-        return None;
-    }
-    Some(names.function_named(word))
 }
 
 /// A call that the words ask for, of which the first has this number: an entry and a value.
@@ -90,17 +70,29 @@ fn timed_of(names: &UnitNames, arguments: &[u8]) -> Result<Operation, WordFault>
     call_of(names, Deadline::At(time), 2, rest)
 }
 
+/// The name of an operation of this kind, and the value behind it, where these are all words.
+fn name_and_value(kind: Argument, arguments: &[u8]) -> Result<(&[u8], u64), WordFault>
+    ensures exact { MatchResult result
+        (λ both. name_and_value (words arguments.now) ≡ Some (both.0.now, both.1))
+        (λ _. name_and_value (words arguments.now) ≡ None) }
+    ensures kind { IfErr result (λ fault. kind_of fault.reason ≡ FaultKind.BadArgument) }
+{
+    let no_name = WordFault::argument(1, kind);
+    let (name, rest) = next_word(arguments, no_name)?;
+    if !is_name(name) {
+        return Err(no_name);
+    }
+    let value = number_alone(2, Argument::Value, rest)?;
+    Ok((name, value))
+}
+
 /// The run of a procedure that the words ask for: a procedure and a value.
 fn run_of(names: &UnitNames, arguments: &[u8]) -> Result<Operation, WordFault>
     ensures exact { result_ok result ≡ run_of names.now (words arguments.now) }
     ensures kind { IfErr result (λ fault. kind_of fault.reason ≡ FaultKind.BadArgument) }
 {
-    let no_name = WordFault::argument(1, Argument::Procedure);
-    let (name, rest) = next_word(arguments, no_name)?;
-    let Some(op) = procedure_of(names, name) else {
-        return Err(no_name);
-    };
-    let value = number_alone(2, Argument::Value, rest)?;
+    let (name, value) = name_and_value(Argument::Procedure, arguments)?;
+    let op = names.procedure_named(name);
     Ok(Operation::Run { op, value })
 }
 
@@ -109,12 +101,8 @@ fn read_of(names: &UnitNames, arguments: &[u8]) -> Result<Operation, WordFault>
     ensures exact { result_ok result ≡ read_of names.now (words arguments.now) }
     ensures kind { IfErr result (λ fault. kind_of fault.reason ≡ FaultKind.BadArgument) }
 {
-    let no_name = WordFault::argument(1, Argument::Function);
-    let (name, rest) = next_word(arguments, no_name)?;
-    let Some(op) = function_of(names, name) else {
-        return Err(no_name);
-    };
-    let value = number_alone(2, Argument::Value, rest)?;
+    let (name, value) = name_and_value(Argument::Function, arguments)?;
+    let op = names.function_named(name);
     Ok(Operation::Read { op, value })
 }
 
