@@ -5,7 +5,7 @@ use Rattle.po_script.specs.Script.{cut}
 use Rattle.po_script.specs.Session.{state_of, opening_state, after, answer}
 use Rattle.po_script.specs.AnySession.{StandsBy}
 use Rattle.po_script.specs.Cutter.{Cuts, waiting}
-use Rattle.po_script.specs.Ends.{EndsAs, EndsWell}
+use Rattle.po_script.specs.Ends.{EndsAs}
 use Rattle.po_language.specs.declared.run_fault.RunFault.{RunFault}
 use Rattle.po_script.specs.declared.interpreter.Interpreter.{Interpreter}
 use Rattle.po_script.specs.declared.run.Run.{Run}
