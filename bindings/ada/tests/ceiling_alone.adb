@@ -1,4 +1,4 @@
---  Under Ceiling_Locking alone tasks have no real-time priorities, for root too: no call of theirs is above a ceiling (D.3).
+--  Under Ceiling_Locking alone tasks have no real-time priorities, for root too: the runtime checks no ceiling then.
 pragma Locking_Policy (Ceiling_Locking);
 with Ada.Text_IO; use Ada.Text_IO;
 procedure Ceiling_Alone is
