@@ -264,26 +264,27 @@ module _ {ns : List Neighbours} {first last : Option ℕ} {ks : List ℕ} (h : H
 
   -- a key is added at the end
   pub pushed : (key : ℕ) → key < length ns → occurs key ks ≡ false → (ns' : List Neighbours) (first' : Option ℕ)
-      → ns' ≡ with_after (set ns key (made last None)) last (Some key) → first' ≡ either_end last (Some key) first
+      → ns' ≡ with_before (with_after ns last (Some key)) (Some key) last → first' ≡ either_end last (Some key) first
       → IsInOrder ns' first' (Some key) (length ns) (ks ++ key ∷ [])
   pushed key within free ns' first' ns_is first_is =
-      let one = set ns key (made last None) in
-      let one_len = length-set ns key (made last None) in
+      let one = with_after ns last (Some key) in
+      let one_len = length_after ns last (Some key) in
       let off : is_this last key ≡ false = ap (λ o. is_this o key) h.last_is ∙ last_free None key ks refl free in
-      let as_many : length ns' ≡ length ns = ap length ns_is ∙ length_after one last (Some key) ∙ one_len in
+      let as_many : length ns' ≡ length ns = ap length ns_is ∙ length_before one (Some key) last ∙ one_len in
+      let key_within : key < length one = rw one_len within in
       seen (record {
-        each = λ k. ap (λ l. get_or l k alone) ns_is ∙ read_after one last (Some key) k (last_room (length one) one_len)
+        each = λ k. ap (λ l. get_or l k alone) ns_is ∙ read_before one (Some key) last k key_within
+            ∙ ap (λ (n : Neighbours). made (cond (eqb key k) last n.before) n.after)
+            (read_after ns last (Some key) k (last_room (length ns) refl)
+            ∙ ap (λ (n : Neighbours). made n.before (cond (is_this last k) (Some key) n.after)) (h.each k))
             ∙ elim (cases_Bool (eqb key k)) [
               | inl equal ↦
                   let e = eqb-true key k equal in
-                  rw (← e) (simp off (get_or-set_same ns key (made last None) alone within
-                  ∙ ap₂ made (h.last_is ∙ sym (before_new None key ks free)) (sym (after_new key ks free))))
-              | inr differ ↦
-                  let was : get_or one k alone ≡ neighbours_of k ks =
-                  get_or-set_other ns key k (made last None) alone (λ e. eqb-false key k differ (sym e)) ∙ h.each k in
-                  ap (λ (n : Neighbours). made n.before (cond (is_this last k) (Some key) n.after)) was
-                  ∙ ap (λ (o : Option ℕ). made (key_before_or None k ks) (cond (is_this o k) (Some key) (key_after k ks)))
-                  h.last_is ∙ sym (push_other k key ks h.distinct differ)
+                  rw (← e) (simp (eq-eqb key key refl, off) (ap₂ made (h.last_is ∙ sym (before_new None key ks free))
+                  (after_none key ks free ∙ sym (after_new key ks free))))
+              | inr differ ↦ simp differ
+                  (ap (λ (o : Option ℕ). made (key_before_or None k ks) (cond (is_this o k) (Some key) (key_after k ks)))
+                  h.last_is ∙ sym (push_other k key ks h.distinct differ))
             ];
         first_is = first_is ∙ ap₂ (λ (l f : Option ℕ). either_end l (Some key) f) h.last_is h.first_is ∙ first_push key ks;
         last_is = sym (last_push None key ks);

@@ -1,11 +1,11 @@
 //! Keys in order of arrival.
 
 ghost use Rattle.std.specs.Prelude.{◌≡◌, ◌<◌, ◌≤◌, ◌+◌, ◌*◌, ◌++◌, [], ◌∷◌, length};
-ghost use Rattle.std.specs.Prelude.{max, true, false, IfSome, IsOk, OnOk, OnErr};
+ghost use Rattle.std.specs.Prelude.{max, true, false, IsOk, OnOk, OnErr};
 ghost use Rattle.po_queues.specs.QueuedKeys.{occurs, first_key, key_after, without};
-ghost use Rattle.po_queues.specs.InOrder.{either_end, with_after, with_before};
 
-use crate::neighbours::Neighbours;
+use crate::chain::Chain;
+use crate::neighbours::{ALONE, Neighbours};
 use crate::room::grown;
 use std::alloc::{AllocError, Global};
 use std::marker::Model;
@@ -15,10 +15,7 @@ use std::marker::Model;
 /// But for `new` and `reserve`, no method takes memory, and its time doesn't depend on how many keys there are.
 #[derive(Debug, Drop)]
 pub(crate) struct Arrivals {
-    // By key: its neighbours; what hasn't arrived has none.
-    neighbours: Vec<Neighbours>,
-    first: Option<usize>,
-    last: Option<usize>,
+    chain: Chain,
 }
 
 impl Model for Arrivals {
@@ -28,11 +25,12 @@ impl Model for Arrivals {
     ghost Value = { ArrivalsView };
 
     ghost view = { λ a. record {
-      reserved = length a.neighbours.items;
-      keys = keys_in_order a.neighbours.items a.first;
+      reserved = length a.chain.neighbours.items;
+      keys = keys_in_order a.chain.neighbours.items a.chain.first;
     } };
 
-    ghost invariant = { λ a. HoldsOrder a.neighbours.items a.first a.last (keys_in_order a.neighbours.items a.first) };
+    ghost invariant = { λ a. HoldsOrder a.chain.neighbours.items a.chain.first a.chain.last
+        (keys_in_order a.chain.neighbours.items a.chain.first) };
 }
 
 impl Arrivals {
@@ -41,9 +39,11 @@ impl Arrivals {
         ensures { result ≡ record { reserved = 0; keys = [] } }
     {
         Arrivals {
-            neighbours: Vec::new(alloc),
-            first: None,
-            last: None,
+            chain: Chain {
+                neighbours: Vec::new(alloc),
+                first: None,
+                last: None,
+            },
         }
     }
 
@@ -61,12 +61,12 @@ impl Arrivals {
             OnOk result (2 * self.old.reserved ≤ self.new.reserved) }
         ensures no_more { self.new.reserved ≤ max (key + 1) (2 * self.old.reserved) }
     {
-        let reserved = self.neighbours.len();
+        let reserved = self.chain.neighbours.len();
         if key < reserved {
             return Ok(());
         }
         let more = grown(reserved, key)?;
-        self.neighbours.resize(more, ALONE)
+        self.chain.neighbours.resize(more, ALONE)
     }
 
     /// Adds the key after all others.
@@ -75,12 +75,9 @@ impl Arrivals {
         requires not_there { occurs key self.old.keys ≡ false }
         ensures { self.new ≡ record self.old { keys = self.old.keys ++ key ∷ [] } }
     {
-        self.neighbours[key] = Neighbours {
-            before: self.last,
-            after: None,
-        };
-        self.first = join_after(&mut self.neighbours, self.last, Some(key), self.first);
-        self.last = Some(key);
+        let last = self.chain.last;
+        self.chain.join(last, Some(key));
+        self.chain.last = Some(key);
     }
 
     /// Takes out the key, which has arrived.
@@ -88,65 +85,22 @@ impl Arrivals {
         requires { occurs key self.old.keys ≡ true }
         ensures { self.new ≡ record self.old { keys = without key self.old.keys } }
     {
-        let Neighbours { before, after } = self.neighbours[key];
-        self.neighbours[key] = ALONE;
-        self.first = join_after(&mut self.neighbours, before, after, self.first);
-        self.last = join_before(&mut self.neighbours, after, before, self.last);
+        let Neighbours { before, after } = self.chain.neighbours[key];
+        self.chain.neighbours[key] = ALONE;
+        self.chain.join(before, after);
     }
 
     /// The key that arrived first.
     pub(crate) fn first(&self) -> Option<usize>
         ensures { result ≡ first_key self.now.keys }
     {
-        self.first
+        self.chain.first
     }
 
     /// The key that arrived next after this one, if it has arrived and isn't the last.
     pub(crate) fn after(&self, key: usize) -> Option<usize>
         ensures { result ≡ key_after key self.now.keys }
     {
-        self.neighbours.get(key)?.after
+        self.chain.neighbours.get(key)?.after
     }
-}
-
-/// No key before, and none after.
-const ALONE: Neighbours = Neighbours {
-    before: None,
-    after: None,
-};
-
-/// Puts `after` behind the key, or to the front where there is no key, and tells which one then is the first.
-fn join_after(
-    neighbours: &mut Vec<Neighbours>,
-    key: Option<usize>,
-    after: Option<usize>,
-    first: Option<usize>,
-) -> Option<usize>
-    requires { IfSome key (λ k. k < length neighbours.old.items) }
-    ensures neighbours { neighbours.new.items ≡ with_after neighbours.old.items key after }
-    ensures first { result ≡ either_end key after first }
-{
-    let Some(k) = key else {
-        return after;
-    };
-    neighbours[k].after = after;
-    first
-}
-
-/// Puts `before` in front of the key, or to the end where there is no key, and tells which one then is the last.
-fn join_before(
-    neighbours: &mut Vec<Neighbours>,
-    key: Option<usize>,
-    before: Option<usize>,
-    last: Option<usize>,
-) -> Option<usize>
-    requires { IfSome key (λ k. k < length neighbours.old.items) }
-    ensures neighbours { neighbours.new.items ≡ with_before neighbours.old.items key before }
-    ensures last { result ≡ either_end key before last }
-{
-    let Some(k) = key else {
-        return before;
-    };
-    neighbours[k].before = before;
-    last
 }

@@ -5,6 +5,7 @@
 mod arrivals;
 mod bits;
 mod busy;
+mod chain;
 mod entry_queues;
 mod examination;
 mod expiration;

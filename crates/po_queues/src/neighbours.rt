@@ -6,3 +6,9 @@ pub(crate) struct Neighbours {
     pub(crate) before: Option<usize>,
     pub(crate) after: Option<usize>,
 }
+
+/// No key before, and none after.
+pub(crate) const ALONE: Neighbours = Neighbours {
+    before: None,
+    after: None,
+};

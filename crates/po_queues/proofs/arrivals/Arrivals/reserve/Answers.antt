@@ -5,7 +5,7 @@ use Rattle.po_queues.proofs.arrivals.Arrivals.reserve.Goals as goal
 
 pub invariant_of-self : goal.invariant_of-self
 invariant_of-self c =
-    let s = c.self.inside in
+    let s = c.self.inside.chain in
     let more = c.in_ok-more in
     let longer : length s.neighbours.items ≤ more.more =
     omega (arith, more.ensures, c.len-reserved.ensures, c.len-reserved.type_inv, s.neighbours.ok.0) in
@@ -13,7 +13,7 @@ invariant_of-self c =
 
 pub returns-clause-only_room : goal.returns-clause-only_room
 returns-clause-only_room c =
-    let s = c.self.inside in
+    let s = c.self.inside.chain in
     let more = c.in_ok-more in
     let longer : length s.neighbours.items ≤ more.more =
     omega (arith, more.ensures, c.len-reserved.ensures, c.len-reserved.type_inv, s.neighbours.ok.0) in

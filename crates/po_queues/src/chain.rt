@@ -1,0 +1,37 @@
+//! Keys, each between its neighbours.
+
+ghost use Rattle.std.specs.Prelude.{◌≡◌, ◌<◌, length, IfSome};
+ghost use Rattle.po_queues.specs.InOrder.{either_end, with_after, with_before};
+
+use crate::neighbours::Neighbours;
+
+/// Keys between their neighbours, and the keys at the two ends.
+#[derive(Debug, Drop)]
+pub(crate) struct Chain {
+    // By key: its neighbours; what hasn't arrived has none.
+    pub(crate) neighbours: Vec<Neighbours>,
+    pub(crate) first: Option<usize>,
+    pub(crate) last: Option<usize>,
+}
+
+impl Chain {
+    /// Makes the two keys neighbours. Where there is none before, the other one is the first, and where there is none
+    /// after, the last.
+    pub(crate) fn join(&mut self, before: Option<usize>, after: Option<usize>)
+        requires before { IfSome before (λ k. k < length self.old.neighbours.items) }
+        requires after { IfSome after (λ k. k < length self.old.neighbours.items) }
+        ensures neighbours { self.new.neighbours.items ≡
+            with_before (with_after self.old.neighbours.items before after) after before }
+        ensures first { self.new.first ≡ either_end before after self.old.first }
+        ensures last { self.new.last ≡ either_end after before self.old.last }
+    {
+        match before {
+            Some(key) => self.neighbours[key].after = after,
+            None => self.first = after,
+        }
+        match after {
+            Some(key) => self.neighbours[key].before = before,
+            None => self.last = before,
+        }
+    }
+}
