@@ -118,6 +118,16 @@ fn close<C: Story<ReadersWriters, u64>, P: Ledger>(
     }
 }
 
+/// At each point of the history of an object that was made as a new one at most one writer was inside, and while one was, no
+/// reader.
+fn writers_were_alone(closed: &Closed<ReadersWriters>)
+    requires { closed.now.core.object.setup.opening ≡ new_readers_writers closed.now.core.object.setup.opening.most }
+    ensures { WritersAreAlone closed.now.core.object.setup closed.now.log }
+{
+    closed.closing_totals();
+    exclusion_law_of_log(closed.core(), closed.log());
+}
+
 /// Opens an object over the core, has threads visit it, and closes it. However they were scheduled: at each point of the
 /// object's history at most one writer was inside, and while one was, no reader.
 pub(crate) fn visit_by_threads<
@@ -151,7 +161,6 @@ pub(crate) fn visit_by_threads<
     let object = Arc::new(rt.alloc(), object)?;
     visit_all(rt, &object, &mut passes)?;
     let closed = close(object, passes)?;
-    closed.closing_totals();
-    exclusion_law_of_log(closed.core(), closed.log());
+    writers_were_alone(&closed);
     Ok(closed)
 }
