@@ -4,6 +4,21 @@
 # The crates that have tests.
 crates_with_tests() { grep -rlE '^ *#\[test\]$' crates/*/src | cut -d/ -f2 | LC_ALL=C sort -u; }
 
+# How many trials go side by side: at most four, as each takes a gigabyte of memory and more.
+most_tries() {
+  local most
+  most=$(nproc)
+  echo $((most < 4 ? most : 4))
+}
+
+# Tries the scripts by a program, or runs the tests of another crate.
+try_crate() {
+  case $1 in
+    pobj_*) try_cases "$1" ;;
+    *) run_tests "$1" ;;
+  esac
+}
+
 # Runs the tests of a crate.
 run_tests() {
   (cd "crates/$1" && rt try --test --seconds 300) >"$scratch/$1" 2>&1 || cat "$scratch/$1"
