@@ -458,6 +458,8 @@ impl<
     }
 
     /// Takes the lock for a look.
+    // Left to the compiler, a function of a bounded object takes half as long again.
+    #[inline(always)]
     fn look<'a, W: Wait>(
         &'a self,
         rt: &W,
