@@ -279,7 +279,7 @@ impl<
     }
 
     /// Collects the pass's pending call, if it has ended, and files its receipt. Else nothing changes. No memory is taken.
-    // Left to the compiler, a procedure of a bounded object takes a quarter longer.
+    // Left to the compiler, an entry call of a bounded object takes a little longer.
     #[inline(always)]
     pub fn finish(&mut self, pass: &mut Pass<U::Value, C, P, F, Q>) -> Option<End<U::Value>>
         requires { IsSome pass.old.pending }
