@@ -1,4 +1,5 @@
-"""The tests of ACATS, Ada's conformity assessment, by plain GNAT and over the engine of pobj by both ways of use."""
+# SPDX-License-Identifier: MIT
+"""Runs the tests of ACATS, Ada's conformity assessment, by plain GNAT and over the engine of pobj in both ways of use."""
 
 import collections
 import concurrent.futures
@@ -11,41 +12,41 @@ import acats_source
 import acats_tests
 import programs
 
-# The ways to run a test: with GNAT's shared libraries, the same program with those of a runtime folder, and linked with
-# the static ones of that folder.
+# The ways to run a test: with GNAT's shared libraries, the same program with those of a runtime folder, and a program linked
+# with the static ones of that folder.
 PLAIN, SHARED, STATIC = "plain", "shared", "static"
 # How long one test may run, in seconds.
 LIMIT = 60
-# How many tests are compiled and run at a time.
+# How many tests are compiled and run at once.
 AT_A_TIME = len(os.sched_getaffinity(0))
-# A test says by the first characters of a line how it ended. A tentative result has a second such line.
+# The first characters of a line say how the test ended. A tentative result has a second such line.
 LENGTH = 4
 FAILED = "FAILED"
 SAID = {"****": FAILED, "!!!!": "TENTATIVE", "++++": "NOT APPLICABLE", "====": "PASSED"}
 GOOD = {"PASSED", "NOT APPLICABLE", "TENTATIVE"}
-# How often a test that says that it has failed is run: in some, tasks race each other by the test's own text.
+# How often a test is run that says that it has failed: in some tests tasks race each other.
 RUNS = 3
-# What each test wrote by each way.
+# The folder for what each test wrote in each way.
 WRITTEN = acats_source.OUT / "written"
 # The widths of the first two columns, and of the others.
 FIRST, OTHER = (10, 11), 20
 
 
 def result_of(text, status):
-    """What a test says of itself, and the status of its program where that isn't 0."""
+    """Returns what a test says of itself, with the status of its program if that isn't 0."""
     begun = {line[:LENGTH] for line in text.splitlines()}
     result = next((word for mark, word in SAID.items() if mark in begun), "SAYS NOTHING")
     return result if status == 0 else f"{result}, status {status}"
 
 
 def surroundings(library):
-    """The environment of a program: GNAT's libraries are taken from the folder, or from their own place."""
+    """Returns the environment by which a program takes GNAT's libraries from the folder, or for None from their own place."""
     names = {name: value for name, value in os.environ.items() if name != "LD_LIBRARY_PATH"}
     return names if library is None else {**names, "LD_LIBRARY_PATH": str(library)}
 
 
 def run_once(program, library):
-    """What a test says of itself, with all that it wrote."""
+    """Runs a test once. Returns what it says of itself, and all that it wrote."""
     try:
         ended = subprocess.run(
             [str(program)], cwd=program.parent, env=surroundings(library), timeout=LIMIT, stdin=subprocess.DEVNULL,
@@ -57,7 +58,7 @@ def run_once(program, library):
 
 
 def run(program, library=None):
-    """The same. A test that says that it has failed is run again; one that hangs or says nothing isn't."""
+    """Does the same, but runs a test again if it says that it has failed; not if it hangs or says nothing."""
     said, text = run_once(program, library)
     for place in range(2, RUNS + 1):
         if said != FAILED:
@@ -69,7 +70,7 @@ def run(program, library=None):
 
 
 def run_over(program, library):
-    """The same with the libraries of the folder, where the program takes its tasks from there."""
+    """Does the same with the libraries of the folder, if the program loads its tasking from there."""
     asked = subprocess.run(["ldd", str(program)], env=surroundings(library), capture_output=True, text=True)
     lines = [line for line in asked.stdout.splitlines() if "libgnarl" in line]
     if lines and all(f"=> {library}/" in line for line in lines):
@@ -78,10 +79,10 @@ def run_over(program, library):
 
 
 class Tester:
-    """What runs a test by each way."""
+    """Runs tests in each way."""
 
     def __init__(self, runtime):
-        """Over this runtime folder, or by plain GNAT alone."""
+        """Takes the runtime folder, or None for plain GNAT alone."""
         self.ways = {PLAIN: (acats_build.Linking(PLAIN), run)}
         if runtime is not None:
             library = runtime / "adalib"
@@ -90,14 +91,14 @@ class Tester:
         self.options = acats_source.options()
 
     def prepare(self):
-        """Compiles the support of ACATS for each way to link, and forgets what was written before."""
+        """Compiles the support of ACATS for each way to link, and removes what was written before."""
         for linking in dict.fromkeys(linking for linking, _ in self.ways.values()):
             linking.prepare()
         shutil.rmtree(WRITTEN, ignore_errors=True)
         WRITTEN.mkdir(parents=True)
 
     def results(self, test):
-        """What a test says by each way."""
+        """Returns what a test says in each way."""
         name, _, paths = test
         said, programs_of = {}, {}
         for way, (linking, carry_out) in self.ways.items():
@@ -112,12 +113,12 @@ class Tester:
 
 
 def passes(word):
-    """Whether this is said of a test that is as it should be."""
+    """Returns whether a test that says this passes."""
     return word.split(" (")[0] in GOOD
 
 
 def is_good(said):
-    """Whether a test that passes by plain GNAT passes by each way."""
+    """Returns whether a test passes in each way, or fails by plain GNAT too."""
     return not passes(said[PLAIN]) or all(map(passes, said.values()))
 
 
@@ -139,7 +140,7 @@ def print_sums(tests, answers):
 
 
 def conclude(tests, answers, runtime):
-    """Says what came of it in a line, and gives the status."""
+    """Prints the conclusion in a line, and returns the status."""
     if not any(passes(said[PLAIN]) for said in answers):
         raise programs.Failed(f"no test passes by plain GNAT; see {WRITTEN.relative_to(programs.TOP)}/")
     written = f"what each wrote is in {WRITTEN.relative_to(programs.TOP)}/"
@@ -154,14 +155,14 @@ def conclude(tests, answers, runtime):
 
 
 def prepare():
-    """Sees that GNAT and the tests are there."""
+    """Raises Missing if there is no GNAT, and fetches the tests."""
     if shutil.which("gnatmake") is None:
         raise programs.Missing("there is no gnatmake; install it with: sudo apt-get install gnat")
     acats_source.fetch()
 
 
 def acats(path, beginnings):
-    """Runs the tests by plain GNAT, and over the runtime folder at the path where one is named. Gives the status."""
+    """Runs the tests by plain GNAT, and over the runtime folder if a path is given. Returns the status."""
     runtime = None if path is None else programs.runtime_at(path)
     tests = acats_tests.picked(beginnings)
     if not tests:

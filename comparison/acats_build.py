@@ -1,4 +1,5 @@
-"""How the tests of ACATS become programs: their units are written into files of their own, and gnatmake links them."""
+# SPDX-License-Identifier: MIT
+"""Builds the tests of ACATS: writes their units into files of their own, and has gnatmake compile and link them."""
 
 import shutil
 import subprocess
@@ -7,15 +8,15 @@ import acats_source
 import programs
 
 OPTIONS = ["-gnatws", "-gnat95", "-O2"]
-# What the support of ACATS has beside the foundations, as far as tests of tasks want it.
+# The parts of ACATS's support, besides the foundations, that tests of tasks need.
 SUPPORT = {"enumchek", "fcndecl", "impdef", "lencheck", "repbody", "repspec", "spprt13s", "tctouch"}
 FOUNDATIONS = "f*.a"
-# What has to be there once the support is compiled. Some of the rest belongs to tests of other things, and needn't be.
+# What has to be there after the support is compiled. Some of the rest belongs to other tests, and may be missing.
 NEEDED = ("report.o", "impdef.o")
 
 
 def chop(folder, paths):
-    """Writes the units of the files into the folder, each into a file with the name that GNAT wants."""
+    """Writes each unit of the files into a file of the folder, with the name that GNAT expects."""
     texts = folder / "texts"
     texts.mkdir(parents=True)
     for path in paths:
@@ -28,7 +29,7 @@ def chop(folder, paths):
 
 
 def main_of(folder, name):
-    """The main program of a test: its name is that of the test, or begins with it."""
+    """Returns the main program of a test: its name is that of the test, or begins with it."""
     found = [folder / f"{name}.adb", *sorted(folder.glob(f"{name}*m.adb")), *sorted(folder.glob(f"{name}?.adb"))]
     return next((file for file in found if file.exists()), None)
 
@@ -37,14 +38,14 @@ class Linking:
     """A way to link programs: with GNAT's shared libraries, or with the static ones of a runtime folder."""
 
     def __init__(self, name, runtime=None):
-        """A way of this name, which has a folder of its own."""
+        """Makes a way of this name, with a folder of its own."""
         self.folder = acats_source.OUT / name
         self.support = self.folder / "support"
         self.first = [] if runtime is None else [f"--RTS={runtime}"]
         self.last = ["-bargs", "-shared" if runtime is None else "-static"]
 
     def gnatmake(self, folder, words, last=()):
-        """Carries out gnatmake in the folder."""
+        """Runs gnatmake in the folder."""
         words = ["gnatmake", "-q", *self.first, *OPTIONS, f"-I{self.support}", *words, *last]
         return subprocess.run(
             words, cwd=folder, stdin=subprocess.DEVNULL, stdout=subprocess.PIPE, stderr=subprocess.STDOUT,
@@ -52,11 +53,11 @@ class Linking:
         )
 
     def prepare(self):
-        """Compiles the support of ACATS, from nothing."""
+        """Compiles the support of ACATS from scratch."""
         shutil.rmtree(self.folder, ignore_errors=True)
         paths = sorted((acats_source.SOURCE / "support").iterdir())
         chop(self.support, [path for path in paths if path.match(FOUNDATIONS) or path.stem in SUPPORT])
-        # The package of what an implementation defines names the object file of this one.
+        # The package for what an implementation defines names the object file of this source.
         foreign = acats_source.SOURCE / "tests/cd/cd300051.c"
         what = "the support of ACATS can't be compiled"
         acats_source.quietly(["gcc", "-c", str(foreign)], self.support, what, programs.Failed)
@@ -66,7 +67,7 @@ class Linking:
             raise programs.Failed(f"{what}:\n{ended.stdout[-2000:]}")
 
     def build(self, name, paths, options):
-        """The program of a test, or None where it can't be built, with what is to be said of it."""
+        """Builds a test. Returns its program, or None if it can't be built, and what gnatmake says."""
         folder = self.folder / name
         chop(folder, paths)
         main = main_of(folder, name)
@@ -76,5 +77,5 @@ class Linking:
         return (main.with_suffix("") if ended.returncode == 0 else None), ended.stdout
 
     def remove(self, name):
-        """Removes what a test was built in."""
+        """Removes the folder in which a test was built."""
         shutil.rmtree(self.folder / name, ignore_errors=True)

@@ -1,4 +1,5 @@
-"""Where the tests of ACATS come from: GCC's source, a package of Debian. Nothing of it is in this repository."""
+# SPDX-License-Identifier: MIT
+"""Fetches the tests of ACATS from GCC's source, which is a package of Debian. Nothing of it is in this repository."""
 
 import pathlib
 import re
@@ -12,10 +13,10 @@ PACKAGE = "gcc-12-source"
 INSTALLED = pathlib.Path("/usr/src/gcc-12")
 ARCHIVE = "gcc-12*.tar.*"
 OUT = programs.OUT / "acats"
-# The folders `support` and `tests` of ACATS, and the lists of tests that want an option.
+# The folder with `support` and `tests` of ACATS, and the lists of tests that need an option.
 SOURCE = OUT / "source"
 INSIDE = "*/gcc/testsuite/ada/acats"
-# What stands in the texts of GCC in the place of a value, and the values on a machine of 64 bits and of 32.
+# The names that GCC's texts have instead of values, and the values on this machine, of 64 or 32 bits.
 FOLDER = "ACATS4GNATDIR"
 BITS = struct.calcsize("P") * 8
 WIDEST = 2 * BITS - 1
@@ -37,13 +38,12 @@ MACRO = re.compile(r"\$([A-Z]\w*)")
 
 
 def text_of(file):
-    """The text of a file of ACATS."""
+    """Returns the text of a file of ACATS."""
     return file.read_text(encoding="latin-1")
 
 
 def quietly(words, folder, what, kind=programs.Missing):
-    """Carries out the words in the folder. Where that can't be done a fault of this kind says so, with the last lines
-    that they wrote."""
+    """Carries out the words in the folder. If that fails, raises a fault of this kind, with the last lines that they wrote."""
     try:
         ended = subprocess.run(words, cwd=folder, capture_output=True, text=True, errors="replace")
     except FileNotFoundError as fault:
@@ -54,12 +54,12 @@ def quietly(words, folder, what, kind=programs.Missing):
 
 
 def archive_in(folder):
-    """GCC's source in the folder, or None where it isn't there."""
+    """Returns the archive of GCC's source in the folder, or None if it isn't there."""
     return next(iter(sorted(folder.glob(ARCHIVE))), None)
 
 
 def downloaded():
-    """GCC's source out of the package, which apt-get fetches into a folder of ours; root isn't needed for it."""
+    """Downloads the package into a folder of ours by apt-get, without root, and returns the archive of GCC's source."""
     folder = OUT / "package"
     shutil.rmtree(folder, ignore_errors=True)
     folder.mkdir(parents=True)
@@ -75,7 +75,7 @@ def downloaded():
 
 
 def fetch():
-    """Unpacks ACATS where that hasn't been done yet. A folder that is there is whole: it gets its name at the end."""
+    """Unpacks ACATS if that hasn't been done yet. The folder gets its name last, so one that is there is complete."""
     if SOURCE.exists():
         return
     archive = archive_in(INSTALLED) or downloaded()
@@ -93,7 +93,7 @@ def fetch():
 
 
 def filled(text, folder):
-    """The text with the values of this machine, where the folder has what is compiled for ACATS."""
+    """Returns the text with the values of this machine. The folder is the one in which ACATS is compiled."""
     text = text.replace(FOLDER, str(folder))
     for place, value in VALUES.items():
         text = text.replace(place, value)
@@ -101,19 +101,19 @@ def filled(text, folder):
 
 
 def macros():
-    """The values of the macros of ACATS by name."""
+    """Returns the values of ACATS's macros by name."""
     return dict(DEFINITION.findall(filled(text_of(SOURCE / "support/macro.dfs"), OUT)))
 
 
 def expanded(text):
-    """The text of a `.tst` file with the values of its macros, as ACATS's own program macrosub puts them in. That one
-    computes a few which no test of tasks uses; they are left as they are."""
+    """Returns the text of a `.tst` file with its macros replaced, as by ACATS's own program macrosub. A few macros, which
+    macrosub computes and no test of tasks uses, are left as they are."""
     values = macros()
     return MACRO.sub(lambda name: values.get(name[1], name[0]), text)
 
 
 def options():
-    """The options of the compiler by the name of the test that wants them."""
+    """Returns the compiler's options by the name of the test that needs them."""
     wanted = {}
     for name, option in LISTS.items():
         for line in text_of(SOURCE / name).split():

@@ -1,22 +1,23 @@
-"""Which tests of ACATS are run: a rule, and no list of names."""
+# SPDX-License-Identifier: MIT
+"""Picks the tests of ACATS that are run, by a rule and not by a list of names."""
 
 import re
 
 import acats_source
 
 ENTRIES, PROTECTED, TASKS = "entries", "protected", "tasks"
-# What each group has, in the order of the table.
+# What the tests of each group use, in the order of the table.
 GROUPS = {
     ENTRIES: "protected objects with entries (c9, c38, cb2)",
     PROTECTED: "protected objects without entries (c9, c38, cb2)",
     TASKS: "all else with tasks, selects, aborts, protected objects",
 }
-# The tests that the first two groups are picked from.
+# The tests from which the first two groups are picked.
 CHAPTERS = re.compile(r"c9|c38|cb2")
 # The files of a test have its name of seven letters, and these endings.
 ENDINGS = {".a", ".ada", ".am", ".dep", ".tst"}
 NAME = 7
-# What isn't code; a protected object or type, and what its specification has; what else makes tasks meet.
+# What isn't code; a protected object or type, and the text of its specification; what else makes tasks meet.
 NO_CODE = re.compile(r"""--[^\n]*|"(?:[^"\n]|"")*"|'[^\n]'""")
 PROTECTED_UNIT = r"\bprotected\s+(?!body\b|procedure\b|function\b)(?:type\s+)?\w+"
 ANY_PROTECTED = re.compile(PROTECTED_UNIT)
@@ -28,12 +29,12 @@ UNIT = re.compile(r"\b(?:package|procedure|function)\s+(?:body\s+)?([\w.]+)")
 
 
 def code_of(file):
-    """The text of a file in small letters, without comments and literals."""
+    """Returns the text of a file in lower case, without comments and literals."""
     return NO_CODE.sub(" ", acats_source.text_of(file)).lower()
 
 
 def files():
-    """The files of each test by its name, without the tests that GCC doesn't run."""
+    """Returns the files of each test by its name, without the tests that GCC doesn't run."""
     left_out = set(acats_source.text_of(acats_source.SOURCE / "norun.lst").split())
     tests = {}
     for file in sorted((acats_source.SOURCE / "tests").glob("*/*")):
@@ -43,7 +44,7 @@ def files():
 
 
 def foundations():
-    """The code of the support of ACATS by the name of a unit: what a test finds there belongs to it."""
+    """Returns the code of ACATS's foundations by the name of a unit: what a test uses of it counts as its own."""
     units = {}
     for file in sorted((acats_source.SOURCE / "support").glob("f*.a")):
         code = code_of(file)
@@ -52,7 +53,7 @@ def foundations():
 
 
 def whole(code, units):
-    """The code of a test with that of the foundations which it names, and of those that these name."""
+    """Returns the code of a test with that of the foundations that it names, directly or through others."""
     texts, left = [], [code]
     while left:
         text = left.pop()
@@ -64,7 +65,7 @@ def whole(code, units):
 
 
 def group_of(name, code):
-    """The group of a test, or None where it has nothing of tasks."""
+    """Returns the group of a test, or None if it uses no tasking."""
     if CHAPTERS.match(name):
         if any(ENTRY.search(specification) for specification in SPECIFICATION.findall(code)):
             return ENTRIES
@@ -74,8 +75,8 @@ def group_of(name, code):
 
 
 def picked(beginnings):
-    """The name, the group and the files of each test that is run, by group and name. Where beginnings are given, only
-    those whose name begins with one of them."""
+    """Returns the name, the group and the files of each test that is run, sorted by group and name. If beginnings are given,
+    leaves out the tests whose name begins with none of them."""
     units = foundations()
     tests = []
     for name, paths in files().items():

@@ -1,5 +1,6 @@
-"""The Ada programs of comparison/programs/: what each writes by plain GNAT and over the engine, beside what the standard
-says that it writes."""
+# SPDX-License-Identifier: MIT
+"""The Ada programs of comparison/programs/: what each writes by plain GNAT and over the engine, and what the standard says
+that it writes."""
 
 import collections
 import concurrent.futures
@@ -13,31 +14,31 @@ import time
 import programs
 
 FOLDER = programs.HERE / "programs"
-# What gnatmake builds: linked with the shared runtime of GNAT, and with the static one of a runtime folder.
+# The folders for what gnatmake builds: with GNAT's shared runtime, and with the static one of a runtime folder.
 SHARED = programs.OUT / "shared"
 STATIC = programs.OUT / "static"
-# What `./pobj ada` fills where no other folder is named.
+# The folder that `./pobj ada` fills if no other is named.
 RUNTIME = programs.OUT / "ada"
 LIBRARY = "adalib/libgnarl-12.so"
-# How long a program may take, in seconds: by plain GNAT, where several hang, and over the engine.
+# How long a program may take, in seconds: by plain GNAT, on which several hang, and over the engine.
 PLAIN_LIMIT = 6
 OVER_LIMIT = 60
 # The programs that `stress` runs over and over, and on how many processors.
 STRESSED = ("stress", "delays_alone")
 PROCESSORS = (2, 4)
-# How many programs are built at a time.
+# How many programs are built at once.
 AT_A_TIME = 2
 
 
 @dataclasses.dataclass
 class Ended:
-    """What came of a run: its lines, and whether it was ended because it took too long."""
+    """The result of a run: its lines, and whether it was ended because it took too long."""
     lines: list
     hangs: bool
 
 
 def made_runtime():
-    """The runtime folder that `./pobj ada` makes."""
+    """Has `./pobj ada` make a runtime folder, and returns it."""
     made = subprocess.run([programs.POBJ, "ada", str(RUNTIME)], stdin=subprocess.DEVNULL, stdout=subprocess.DEVNULL)
     if made.returncode != 0:
         raise programs.Failed(f"{programs.POBJ} ada ended with status {made.returncode}")
@@ -45,12 +46,12 @@ def made_runtime():
 
 
 def names():
-    """The names of the programs."""
+    """Returns the names of the programs."""
     return sorted(file.stem for file in FOLDER.glob("*.adb"))
 
 
 def stated(name, suffix=".out"):
-    """The lines of the file beside a program, or None where there is none."""
+    """Returns the lines of the file beside a program, or None if there is none."""
     file = FOLDER / f"{name}{suffix}"
     return file.read_text().splitlines() if file.exists() else None
 
@@ -77,7 +78,7 @@ def build_all(wanted, runtime):
 
 
 def check_is_over(program, runtime):
-    """Ends where the program would be carried out by another runtime than that of the folder."""
+    """Raises Failed if the program wouldn't run on the runtime of the folder."""
     words = {"LD_TRACE_LOADED_OBJECTS": "1", **programs.over(runtime)}
     loaded = subprocess.run([str(program)], env={**os.environ, **words}, capture_output=True, text=True).stdout
     if str(runtime / LIBRARY) not in loaded:
@@ -85,12 +86,12 @@ def check_is_over(program, runtime):
 
 
 def text_of(written):
-    """What a program wrote, as text; where it was ended before it wrote anything, that is None."""
+    """Returns what a program wrote as text. `written` is None if the program was ended before it wrote anything."""
     return written.decode(errors="replace") if isinstance(written, bytes) else written or ""
 
 
 def run(program, limit, environment=None, processors=None):
-    """What came of a run of the program. Behind what it wrote stands how it ended, where that wasn't well."""
+    """Runs the program and returns the result. If it didn't end well, a last line says how it ended."""
     words = ["stdbuf", "-oL", str(program)]
     if processors is not None:
         words = ["taskset", "-c", ",".join(str(number) for number in processors), *words]
@@ -106,7 +107,7 @@ def run(program, limit, environment=None, processors=None):
 
 
 def of_plain(name, ended):
-    """What there is to say of a program by plain GNAT."""
+    """Returns the result of a program by plain GNAT, in words."""
     is_explained = stated(name, ".why") is not None
     if ended.lines == stated(name):
         return "same this time" if is_explained else "same"
@@ -115,7 +116,7 @@ def of_plain(name, ended):
 
 
 def of_engine(name, ended):
-    """What there is to say of a program over the engine, and whether it is good."""
+    """Returns the result of a program over the engine, in words, and whether it is good."""
     if ended.lines == stated(name):
         return "same", True
     return "HANGS" if ended.hangs else "DIFFERS", False
@@ -129,7 +130,7 @@ def print_row(name, *cells):
 
 
 def print_beside(columns):
-    """Prints the lines of several outputs beside each other, each under its title."""
+    """Prints the lines of several outputs side by side, each under its title."""
     rows = [list(columns), *itertools.zip_longest(*columns.values(), fillvalue="")]
     widths = [max(len(row[place]) for row in rows) for place in range(len(columns))]
     for row in rows:
@@ -137,7 +138,7 @@ def print_beside(columns):
 
 
 def print_outputs(name, outputs):
-    """Prints the outputs of a program beside what the standard says, where one of them differs."""
+    """Prints the outputs of a program beside what the standard says, if one of them differs."""
     columns = {"the standard": stated(name)}
     for title, ended in outputs.items():
         if title == "linked with it" and ended.lines == outputs["over pobj"].lines:
@@ -148,8 +149,8 @@ def print_outputs(name, outputs):
 
 
 def judged(name, runtime):
-    """Runs a program, prints what there is to say of it, and gives whether plain GNAT and the engine write what the standard
-    says."""
+    """Runs a program and prints the results. Returns whether plain GNAT writes what the standard says, and whether the engine
+    does."""
     outputs = {
         "plain GNAT": run(SHARED / name, PLAIN_LIMIT),
         "over pobj": run(SHARED / name, OVER_LIMIT, programs.over(runtime)),
@@ -164,7 +165,7 @@ def judged(name, runtime):
 
 
 def all_programs(runtime):
-    """Compares all programs, prints them in a table, and gives the status."""
+    """Compares all programs, prints them in a table, and returns the status."""
     build_all(names(), runtime)
     check_is_over(SHARED / names()[0], runtime)
     print_row("program", "standard", "plain GNAT", "over pobj", "linked with it")
@@ -177,12 +178,12 @@ def all_programs(runtime):
 
 
 def stress_once(name, runtime, processors):
-    """The lines of a run over the engine."""
+    """Returns the lines of a run over the engine."""
     return tuple(run(SHARED / name, OVER_LIMIT, programs.over(runtime), processors).lines)
 
 
 def stress_program(name, count, runtime, processors):
-    """Runs a program over and over on these processors, prints what came of it, and gives whether each run was good."""
+    """Runs a program over and over on these processors, prints the results, and returns whether each run was good."""
     since = time.monotonic()
     came = collections.Counter(stress_once(name, runtime, processors) for _ in range(count))
     good = came.pop(tuple(stated(name)), 0)
@@ -195,7 +196,7 @@ def stress_program(name, count, runtime, processors):
 
 
 def stress(count, runtime):
-    """Runs the stressed programs over and over, on two processors and on four, and gives the status."""
+    """Runs the stressed programs over and over, on two processors and on four, and returns the status."""
     for name in STRESSED:
         build(name, SHARED)
         check_is_over(SHARED / name, runtime)
@@ -203,7 +204,7 @@ def stress(count, runtime):
     good = True
     for number in PROCESSORS:
         if number > len(there):
-            print(f"on {number} processors: left out, {len(there)} are there")
+            print(f"on {number} processors: left out, as there are {len(there)}")
             continue
         for name in STRESSED:
             good = stress_program(name, count, runtime, there[:number]) and good
@@ -211,12 +212,12 @@ def stress(count, runtime):
 
 
 def runtime_named(words):
-    """The runtime folder that the words name, or the one that is made where they name none."""
+    """Returns the runtime folder that the words name, or makes one if they name none."""
     return programs.runtime_at(words[0]) if words else made_runtime()
 
 
 def work_of(words):
-    """What the words behind `ada` say is to be done, or None where they are refused."""
+    """Returns what the words after `ada` ask for, or None if they are refused."""
     match words:
         case [] | ["stress"]:
             work = all_programs if not words else lambda runtime: stress(200, runtime)

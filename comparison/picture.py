@@ -1,5 +1,6 @@
+# SPDX-License-Identifier: MIT
 """Draws docs/speed.svg: how often a second both objects of pobj and GNAT's do the same work, by the numbers of the last
-`./compare speed`. The picture has colours for light and for dark, as those of tools/picture have."""
+`./compare speed`. The picture has colours for light and for dark pages, as those of tools/picture have."""
 
 import json
 import math
@@ -15,7 +16,7 @@ import svg
 
 FILE = programs.TOP / "docs/speed.svg"
 TITLE = "Calls a second: medians, from the lowest to the highest round"
-# Colours that are told apart on white and on black.
+# Colours that can be told apart on white and on black.
 COLOURS = {"recorded": "#3f8fd2", "bounded": "#2fa36b", "gnat": "#e07b1a"}
 NAMES = {"recorded": "pobj, recorded", "bounded": "pobj, bounded", "gnat": "GNAT"}
 # In pixels: the width of the names, of the plot and of the ratios, the height of a row, and the room above and below.
@@ -24,12 +25,12 @@ UNITS = {3: "1 thousand", 4: "10 thousand", 5: "100 thousand", 6: "1 million", 7
 
 
 def dot(x, y, name):
-    """A dot in the colour of this object."""
+    """Returns a dot in the colour of this object."""
     return svg.tag("circle", {"cx": x, "cy": y, "r": 5, "fill": COLOURS[name]})
 
 
 def mark(rounds, y, name, place):
-    """The median of the rounds as a dot, on a line from the lowest to the highest, with the numbers in words."""
+    """Returns the median of the rounds as a dot, on a line from the lowest to the highest, with the numbers in words."""
     low, middle, high = min(rounds), statistics.median(rounds), max(rounds)
     attributes = {"x1": place(low), "y1": y, "x2": place(high), "y2": y, "stroke": COLOURS[name], "stroke-width": 2}
     words = f"{NAMES[name]}: {middle:,.0f} a second, from {low:,.0f} to {high:,.0f}"
@@ -37,13 +38,13 @@ def mark(rounds, y, name, place):
 
 
 def decades(numbers):
-    """The powers of ten below and above all numbers."""
+    """Returns the powers of ten below and above all numbers."""
     rounds = [value for row in numbers.values() for name in NAMES for value in row[name]]
     return math.floor(math.log10(min(rounds))), math.ceil(math.log10(max(rounds)))
 
 
 def axis(first, last, place, bottom):
-    """The lines and texts of the axis."""
+    """Returns the lines and texts of the axis."""
     parts = []
     for power in range(first, last + 1):
         x = place(10**power)
@@ -52,13 +53,13 @@ def axis(first, last, place, bottom):
 
 
 def times_gnat(known):
-    """How many times what GNAT does each of ours does, in words."""
+    """Returns how many times as fast as GNAT each of our objects is, in words."""
     ratios = [statistics.median(known[name]) / statistics.median(known["gnat"]) for name in speed.OURS]
     return ", ".join(f"{ratio:.2f}" if ratio < 10 else f"{ratio:.0f}" for ratio in ratios)
 
 
 def rows(numbers, place):
-    """The rows: of each its work, its marks and its ratios. And the same in words."""
+    """Returns the rows, each with its work, its marks and its ratios; and the same in words."""
     parts, said = [], []
     for n, (row, known) in enumerate(numbers.items()):
         y = TOP + ROW * n + ROW / 2
@@ -72,7 +73,7 @@ def rows(numbers, place):
 
 
 def picture(numbers):
-    """The picture of the numbers."""
+    """Returns the picture of the numbers."""
     first, last = decades(numbers)
     bottom = TOP + ROW * len(numbers)
 
@@ -90,7 +91,7 @@ def picture(numbers):
 
 
 def draw():
-    """Draws the picture, and gives the status."""
+    """Draws the picture, and returns the status."""
     if not speed.NUMBERS.exists():
         raise programs.Failed("there are no numbers yet; ./compare speed takes them")
     FILE.write_text(picture(json.loads(speed.NUMBERS.read_text())))

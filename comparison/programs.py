@@ -1,4 +1,5 @@
-"""The two programs: how they are built and run, and the form in which their answers are compared."""
+# SPDX-License-Identifier: MIT
+"""The two programs, pobj and the one in Ada: how they are built and run, and the form in which their answers are compared."""
 
 import os
 import pathlib
@@ -6,27 +7,32 @@ import re
 import shutil
 import subprocess
 import sys
+import tempfile
 
 HERE = pathlib.Path(__file__).resolve().parent
 TOP = HERE.parent
-# What gnatmake builds, and the scripts that differ.
+# The folder for what gnatmake builds, and for scripts that differ.
 OUT = HERE / "out"
 # The program pobj, unless the environment names another one.
 POBJ = os.environ.get("POBJ", str(TOP / "pobj"))
+# What carries out scripts by a trial of pobj's sources, and two of its statuses.
+TRIAL = HERE / "trial.sh"
+IS_BUILT, NO_RT = 3, 6
+# What a trial wrote on scripts, by their texts: the answers, or None if the script has a fault.
+tried = {}
 # The runtime folder (`./pobj ada DEST`) over which GNAT's tasks carry out scripts, or None for GNAT's own runtime.
 runtime = None
-# How long a run of either program may take, in seconds, and building pobj.
+# How long a run of either program may take, in seconds.
 LIMIT = 120
-BUILD_LIMIT = 7_200
-# How long a task is given to take note of something, in milliseconds: at first, and where the programs then differ or
-# the machine was too slow.
+# How long a task is given to take note of something, in milliseconds: at first, and if the programs then differ or the
+# machine was too slow.
 STEPS = (20, 100, 400)
-# The status of the Ada program where that wasn't long enough.
+# The status of the Ada program if that wasn't long enough.
 TOO_LATE = 3
 
 
 class Missing(Exception):
-    """What has to be installed first."""
+    """Something has to be installed first."""
 
 
 class Failed(Exception):
@@ -34,7 +40,7 @@ class Failed(Exception):
 
 
 def say(text):
-    """Tells what goes on."""
+    """Says on standard error what goes on."""
     print(f"compare: {text}", file=sys.stderr)
 
 
@@ -50,40 +56,33 @@ def build(name, level):
 
 
 def prepare():
-    """Builds both programs that carry out scripts."""
+    """Builds the Ada programs that carry out scripts."""
     for name in ("carry_out", "two_functions"):
         build(name, "-O1")
-    # A build says on standard error how far it is.
-    words = ["run"] if "POBJ" in os.environ else ["build"]
-    try:
-        first = subprocess.run([POBJ, *words], stdin=subprocess.DEVNULL, stdout=subprocess.DEVNULL, timeout=BUILD_LIMIT)
-    except subprocess.TimeoutExpired as late:
-        raise Failed(f"{POBJ} took more than {BUILD_LIMIT} seconds to build") from late
-    if first.returncode != 0:
-        raise Failed(f"{POBJ} can't be built or run: status {first.returncode}")
 
 
 def is_runtime(folder):
-    """Whether the folder is a runtime that was made to the end: its libraries are there, and are none of GNAT's own."""
+    """Returns whether the folder is a complete runtime: its libraries are there, and aren't GNAT's own."""
     libraries = [folder / "adalib" / name for name in ("libgnarl-12.so", "libgnarl.a")]
     return (folder / "POBJ").is_file() and all(library.is_file() and not library.is_symlink() for library in libraries)
 
 
 def runtime_at(path):
-    """The runtime folder at the path, as an absolute one. With another folder programs would run without the engine unseen."""
+    """Returns the absolute path of a runtime folder. With another folder, programs would run without the engine, unnoticed."""
     if not is_runtime(pathlib.Path(path)):
-        made = "" if pathlib.Path(path).exists() else f"; one is made by: ./pobj ada {path}"
-        raise Failed(f"{path} is no runtime folder{made}")
+        made = "" if pathlib.Path(path).exists() else f"; ./pobj ada {path} makes one"
+        raise Failed(f"{path} isn't a runtime folder{made}")
     return pathlib.Path(path).resolve()
 
 
 def over(folder):
-    """What the environment of a program says whose protected objects are carried out by pobj, in this runtime folder."""
+    """Returns the environment by which pobj, in this runtime folder, carries out the protected objects of a program."""
     return {} if folder is None else {"LD_LIBRARY_PATH": f"{folder}/adalib"}
 
 
 def run(words, text, limit=LIMIT, environment=None):
-    """The program with the text on its standard input, ended after the limit. The environment is added to the present one."""
+    """Runs a program with the text on its standard input, and ends it after the limit. The environment is added to the present
+    one."""
     with_this = {**os.environ, **(environment or {})}
     try:
         return subprocess.run(words, input=text, capture_output=True, text=True, timeout=limit, env=with_this)
@@ -92,12 +91,46 @@ def run(words, text, limit=LIMIT, environment=None):
 
 
 def text_of(file):
-    """The text of a script, whose skipped lines may hold any bytes."""
+    """Returns the text of a script, whose skipped lines may hold any bytes."""
     return file.read_bytes().decode(errors="replace")
 
 
+def lay_out(texts, folder):
+    """Writes each script into a file of the folder, whose name is the script's place."""
+    folder.mkdir()
+    for place, text in enumerate(texts):
+        (folder / str(place)).write_text(text, encoding="utf-8")
+
+
+def take_answers(texts, room):
+    """Takes what a trial wrote on the scripts."""
+    said = (room / "said").read_text(errors="replace")
+    statuses = dict(re.findall(r"^case=([0-9]+) run=ended status=([01]) ", said, re.MULTILINE))
+    if len(statuses) < len(texts):
+        raise Failed(f"the trial of pobj's sources gave no answer to a script:\n{said[-2000:]}")
+    parts = re.split(r"^== ([0-9]+)\n", (room / "answers").read_text(errors="replace"), flags=re.MULTILINE)
+    for name, answers_to_it in zip(parts[1::2], parts[2::2]):
+        tried[texts[int(name)]] = answers_to_it if statuses[name] == "0" else None
+
+
+def try_scripts(texts):
+    """Has one trial of pobj's sources carry out all scripts, if pobj isn't built. If it is, of_pobj runs it for each."""
+    if "POBJ" in os.environ or not texts:
+        return
+    with tempfile.TemporaryDirectory() as name:
+        room = pathlib.Path(name)
+        lay_out(texts, room / "cases")
+        status = subprocess.run([str(TRIAL), name], stdin=subprocess.DEVNULL).returncode
+        if status == NO_RT:
+            raise Missing("pobj isn't built, and the command rt isn't found: see \"Limits and the kit\" in README.md")
+        if status != IS_BUILT:
+            take_answers(texts, room)
+
+
 def of_pobj(text):
-    """What pobj writes, or None where the script itself has a fault."""
+    """Returns what pobj writes, or None if the script itself has a fault."""
+    if text in tried:
+        return tried[text]
     ended = run([POBJ, "run"], text)
     if ended.returncode not in (0, 1):
         raise Failed(f"{POBJ} ended with status {ended.returncode} on this script:\n{text}\n{ended.stderr}")
@@ -105,8 +138,8 @@ def of_pobj(text):
 
 
 def of_gnat(text, step):
-    """What the protected object of GNAT writes, or None where the machine was too slow for this step of time. A call that
-    is never woken takes the time that later deadlines want; what was written up to these is the answer then."""
+    """Returns what GNAT's protected object writes, or None if the machine was too slow for this step of time. A call that is
+    never woken uses up the time before later deadlines: then what was written until then is the answer."""
     ended = run([str(OUT / "carry_out"), str(step)], text, environment=over(runtime))
     if ended.returncode not in (0, TOO_LATE):
         raise Failed(f"the Ada program ended with status {ended.returncode} on this script:\n{text}\n{ended.stderr}")
@@ -114,12 +147,12 @@ def of_gnat(text, step):
 
 
 def commands(text):
-    """The lines of the script that say something."""
+    """Returns the lines of the script that are commands."""
     return [line for line in text.split("\n") if line.strip(" ") and not line.strip(" ").startswith("#")]
 
 
 def shown(text):
-    """The script with a `show` behind each command, so that all queues are compared after each of them."""
+    """Returns the script with a `show` after each command, so that all queues are compared after each."""
     return "".join(f"{command}\nshow\n" for command in commands(text))
 
 
@@ -127,15 +160,15 @@ END = re.compile(r"([0-9]+) (done [0-9]+|raised [0-9]+|cancelled|program_error)"
 
 
 def settled(ends):
-    """The ends of one command: those that bodies brought about in their order, then the others by number. A task learns
-    of its cancellation, and of Program_Error, at a moment of its own, so that their place tells nothing."""
+    """Returns the ends of one command: first those that bodies caused, in their order, then the others by number. A task
+    learns of its cancellation, or of Program_Error, at some moment of its own, so the place of these means nothing."""
     bodies = [end for end in ends if " done " in end or " raised " in end]
     others = [end for end in ends if end not in bodies]
     return bodies + sorted(others, key=lambda end: int(end.split(" ")[0]))
 
 
 def comparable(answers):
-    """The lines of the answers in the form in which they are compared."""
+    """Returns the lines of the answers in the form in which they are compared."""
     lines, ends = [], []
     for line in answers.splitlines():
         if END.fullmatch(line):
@@ -147,8 +180,8 @@ def comparable(answers):
 
 
 def answers(text, wanted=None):
-    """What each writes on the script, in comparable form. GNAT is tried again with longer steps of time until it writes
-    what is wanted, which is what pobj writes where nothing else is said."""
+    """Returns what each writes on the script, in comparable form. GNAT is tried again with longer steps of time until it
+    writes what is wanted: by default, what pobj writes."""
     ours = comparable(of_pobj(text))
     theirs = None
     for step in STEPS:

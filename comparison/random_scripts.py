@@ -1,6 +1,7 @@
-"""Random scripts over all units: any, or those without the constructs by which GNAT is known to differ, which are a
-conditional call that could open an entry by being counted, and on the relay conditional calls, and attempts to cancel a call
-that is protected from them by a requeue without abort."""
+# SPDX-License-Identifier: MIT
+"""Random scripts over all units: any scripts, or those without the constructs by which GNAT is known to differ. These are
+conditional calls that could open an entry by being counted, and on the relay all conditional calls, and attempts to cancel a
+call that a requeue without abort protects."""
 
 import random
 
@@ -22,16 +23,16 @@ GREAT = [2**32, 2**32 - 1, 2**63, 2**64 - 1]
 
 
 class Maker:
-    """A script in the making, and what the exclusions need to know of its object."""
+    """A script that is being made, and what the exclusions need to know of its object."""
 
     def __init__(self, chance, leaves_out):
         self.chance = chance
-        # Whether it leaves out what GNAT is known to do in another way.
+        # Whether it leaves out what GNAT is known to do differently.
         self.leaves_out = leaves_out
         self.unit = chance.choices(list(ENTRIES), [2, 1, 1, 2, 2, 4, 2, 4])[0]
         self.size = chance.randint(1, 5)
         self.lines = [f"unit {self.unit}" + (f" {self.size}" if self.unit in PARAMETER else "")]
-        # How often each entry is called, in which way, and how often each command comes: scripts differ in this.
+        # How often each entry is called, in which ways, and how often each command comes: scripts differ in this.
         self.weights = [chance.choice([1, 1, 6, 20]) for _ in ENTRIES[self.unit]]
         if self.unit == "trap" and chance.random() < 0.5:
             # Many calls on Exact, whose barrier is the one that a cancellation can open.
@@ -42,12 +43,12 @@ class Maker:
         self.clock = 0
         self.calls = 0
         self.level = 0
-        # The calls that may wait, and those that wait on Second of a relay.
+        # The calls that may wait, and those that may wait on Second of a relay.
         self.may_wait = []
         self.protected = set()
 
     def value(self):
-        """A value that says something to the unit, mostly."""
+        """Returns a value, mostly one that means something to the unit."""
         if self.chance.random() < 0.03:
             return self.chance.choice(GREAT)
         if self.unit == "allocator":
@@ -59,13 +60,13 @@ class Maker:
         return self.chance.randint(0, 99)
 
     def may_open_by_being_counted(self, entry):
-        """Whether a conditional call of the entry could open it by its own count."""
+        """Returns whether a conditional call of the entry could open it by being counted."""
         if self.unit == "meeting":
             return self.calls + 1 >= self.size
         return entry == "Exact" and 0 < self.level <= self.calls + 1
 
     def kind(self, entry):
-        """The first words of a call of the entry."""
+        """Returns the first words of a call of the entry."""
         kind = self.chance.choice(self.kinds)
         if kind == "cond" and self.leaves_out and (self.unit == "relay" or self.may_open_by_being_counted(entry)):
             kind = "call"
@@ -76,7 +77,7 @@ class Maker:
         return f"timed {max(0, self.clock + later)}"
 
     def call(self):
-        """A call of one of the entries."""
+        """Adds a call of one of the entries."""
         entry = self.chance.choices(ENTRIES[self.unit], self.weights)[0]
         value = self.value()
         kind = self.kind(entry)
@@ -90,7 +91,7 @@ class Maker:
             self.level = value
 
     def procedure(self):
-        """A call of the procedure, where the unit has one."""
+        """Adds a call of the procedure, or of an entry if the unit has none."""
         if self.unit not in PROCEDURE:
             return self.call()
         value = self.value()
@@ -101,7 +102,7 @@ class Maker:
                 self.protected.clear()
 
     def cancel(self):
-        """An attempt to cancel a call that may wait, or else any number."""
+        """Adds an attempt to cancel a call that may wait, or else any number."""
         if self.may_wait and self.chance.random() < 0.85:
             number = self.chance.choice(self.may_wait[-6:])
         else:
@@ -112,19 +113,19 @@ class Maker:
                 self.may_wait.remove(number)
 
     def tick(self):
-        """A tick, seldom backwards."""
+        """Adds a tick, rarely backwards."""
         to = max(0, self.clock + self.chance.randint(-1, 4))
         self.clock = max(self.clock, to)
         self.lines.append(f"tick {to}")
 
     def refused(self):
-        """A command that the unit refuses."""
+        """Adds a command that the unit refuses."""
         entry = self.chance.choice(REFUSED)
         command = f"call {entry}" if entry not in ENTRIES[self.unit] else "proc State"
         self.lines.append(f"{command} {self.value()}")
 
     def command(self):
-        """One command more."""
+        """Adds one more command."""
         makers = [self.call, self.procedure, self.cancel, self.tick, self.refused]
         self.chance.choices(makers, self.commands)[0]()
         if self.chance.random() < 0.1:
@@ -132,12 +133,12 @@ class Maker:
 
 
 def any_script(seed, place):
-    """The script at that place among those of the seed, where nothing is left out."""
+    """Returns the script at that place among those of the seed, with nothing left out."""
     return script(seed, place, False)
 
 
 def script(seed, place, leaves_out=True):
-    """The script at that place among those of the seed."""
+    """Returns the script at that place among those of the seed."""
     maker = Maker(random.Random(f"{seed} {place}"), leaves_out)
     for _ in range(maker.chance.randint(6, 36)):
         maker.command()

@@ -1,16 +1,17 @@
-"""What the commands print."""
+# SPDX-License-Identifier: MIT
+"""Compares scripts, and prints what comes of it."""
 
 import concurrent.futures
 
 import programs
 
 DIFFERENCES = programs.HERE / "differences"
-# How many scripts are compared at a time.
+# How many scripts are compared at once.
 AT_A_TIME = 2
 
 
 def not_expressible(file):
-    """Why Ada can't express the script, or None where it can."""
+    """Returns why Ada can't express the script, or None if it can."""
     words = file.with_suffix(".words")
     if words.exists() and words.read_bytes().split() != [b"run"]:
         return "no script: it is about the command line"
@@ -27,14 +28,14 @@ def not_expressible(file):
 
 
 def stated(name):
-    """What a page says that GNAT writes on the script of that name, or None where there is no page, or pobj has GNAT's
-    objects: then nothing may differ."""
+    """Returns what GNAT writes on the script of that name according to its page. Returns None if there is no page, or if pobj
+    carries out GNAT's objects: then nothing may differ."""
     file = DIFFERENCES / f"{name}.gnat"
     return programs.comparable(file.read_text()) if programs.runtime is None and file.exists() else None
 
 
 def compared(file):
-    """What there is to say of a script of examples/ or cases/, and whether it is good."""
+    """Compares a script of examples/ or cases/. Returns the result in words, and whether it is good."""
     why = not_expressible(file)
     if why is not None:
         return f"not expressible: {why}", True
@@ -49,7 +50,7 @@ def compared(file):
 
 
 def difference(file):
-    """What there is to say of a script that shows a difference, and whether it is good."""
+    """Compares a script that shows a difference. Returns the result in words, and whether it is good."""
     text = programs.text_of(file)
     page = stated(file.stem)
     ours, theirs = programs.answers(text, page)
@@ -60,13 +61,13 @@ def difference(file):
     if theirs == ours and programs.runtime is not None:
         return "same", True
     if theirs == ours:
-        return "same: this GNAT is another one than the page speaks of", True
-    return "DIFFERS in another way than the page says", False
+        return "same: this isn't the GNAT that the page is about", True
+    return "DIFFERS, but not as the page says", False
 
 
 def two_functions(_):
-    """What there is to say of two functions of one object that are called at the same time, and that it is good: both are
-    allowed."""
+    """Calls two functions of one object at the same time. Returns the result in words, and that it is good, as both results
+    are allowed."""
     name = "functions_exclude_each_other"
     ended = programs.run([str(programs.OUT / "two_functions")], "")
     if ended.stdout.splitlines() == stated(name):
@@ -75,15 +76,22 @@ def two_functions(_):
 
 
 def scripts_in(folder):
-    """The scripts of the folder by name."""
+    """Returns the scripts of the folder by name."""
     return sorted(folder.glob("*.pobj"))
 
 
+def try_files(files):
+    """Has pobj's sources tried on all these scripts at once, if pobj isn't built."""
+    texts = [programs.text_of(file) for file in files]
+    programs.try_scripts(list(dict.fromkeys(texts + [programs.shown(text) for text in texts])))
+
+
 def scripts():
-    """Prints the table of all scripts, and gives the status."""
+    """Prints the table of all scripts, and returns the status."""
     good = True
     rows = [(file, compared) for folder in ("examples", "cases") for file in scripts_in(programs.TOP / folder)]
     rows += [(file, difference) for file in scripts_in(DIFFERENCES)]
+    try_files([file for file, _ in rows])
     if programs.runtime is None:
         rows.append((programs.HERE / "ada" / "two_functions.adb", two_functions))
     names = [str(file.relative_to(programs.TOP)) for file, _ in rows]
@@ -99,7 +107,7 @@ def scripts():
 
 
 def by_command(text, lines):
-    """The commands of a script with what was written at each, up to the end of the `show` behind it."""
+    """Yields the commands of a script with the lines written at each, including those of the `show` after it."""
     rest = iter(lines)
     for command in programs.commands(text):
         ends, written = (2 if command.split(" ")[0] == "show" else 1), []
@@ -110,7 +118,8 @@ def by_command(text, lines):
 
 
 def print_first_difference(text, ours, theirs):
-    """Prints the script up to the first command at which the answers differ, and what each wrote at it and behind it."""
+    """Prints the script up to the first command at which the answers differ, and what each wrote at it and at the `show` after
+    it."""
     for (command, one), (_, other) in zip(by_command(text, ours), by_command(text, theirs)):
         print(f"  {command}")
         if one != other:
@@ -120,7 +129,8 @@ def print_first_difference(text, ours, theirs):
 
 
 def one_script(file):
-    """Compares one script, and gives the status."""
+    """Compares one script, and returns the status."""
+    try_files([file])
     why = not_expressible(file)
     if why is not None:
         print(f"not expressible: {why}")
@@ -135,11 +145,13 @@ def one_script(file):
 
 
 def random_ones(seed, count, script):
-    """Compares random scripts, and gives the status. The first one that differs is kept as a file."""
+    """Compares random scripts, and returns the status. The first one that differs is kept as a file."""
+    texts = [script(seed, place) for place in range(count)]
+    programs.try_scripts([programs.shown(text) for text in texts])
+
     def judge(place):
-        text = script(seed, place)
-        ours, theirs = programs.answers(programs.shown(text))
-        return place, text, ours, theirs
+        ours, theirs = programs.answers(programs.shown(texts[place]))
+        return place, texts[place], ours, theirs
 
     agree, first = 0, None
     with concurrent.futures.ThreadPoolExecutor(AT_A_TIME) as pool:

@@ -1,3 +1,4 @@
+# SPDX-License-Identifier: MIT
 """How fast the same work is with both objects of pobj, the recorded and the bounded one, and with GNAT; how fast an Ada
 program is by plain GNAT and over the engine; and how fast the library for C is beside the mutexes of POSIX."""
 
@@ -11,7 +12,7 @@ import time
 import ada_programs
 import programs
 
-# The work of each row, how many threads do it, and how often each of them.
+# The work of each row, how many threads do it, and how often each thread does it.
 ROWS = (
     ("procedure", 1, 20_000),
     ("function", 1, 20_000),
@@ -25,7 +26,7 @@ ROWS = (
     ("meeting", 4, 5_000),
 )
 ROUNDS = 15
-# The same of the Ada program by plain GNAT and over the engine, and on how many processors, where not on all.
+# The same for the Ada program by plain GNAT and over the engine, and on how many processors; None means on all.
 ADA_ROWS = (
     ("procedure", 1, 400_000, None),
     ("function", 1, 400_000, None),
@@ -41,11 +42,11 @@ ADA_ROWS = (
     ("meeting", 4, 10_000, None),
 )
 ADA_ROUNDS = 9
-# The objects, and what stands before the word for the work where the program is to use them.
+# The objects, and the prefix of the word for the work that has the program use each.
 PREFIXES = {"recorded": "", "bounded": "bounded-", "gnat": ""}
 OURS = ("recorded", "bounded")
 PROGRAM = programs.TOP / "crates/bench_calls/out/bench_calls"
-# What `./pobj c` fills, and the program that measures it.
+# The folder that `./pobj c` fills, and the program that measures the library.
 LIBRARY = programs.OUT / "library"
 FROM_C = programs.OUT / "from_c"
 # The numbers of the last run, by row and program: calls a second, of each round.
@@ -53,7 +54,7 @@ NUMBERS = programs.OUT / "speed.json"
 
 
 def is_current():
-    """Whether the program of pobj is there, and no source of a crate is newer."""
+    """Returns whether pobj's program is there, and no source of a crate is newer."""
     if not PROGRAM.exists():
         return False
     built = PROGRAM.stat().st_mtime
@@ -74,7 +75,7 @@ def prepare_from_c():
 
 
 def prepare():
-    """Builds all programs, that of pobj where it isn't there or is old."""
+    """Builds all programs; pobj's own only if it isn't there or is old."""
     prepare_ada()
     prepare_from_c()
     if is_current():
@@ -91,12 +92,12 @@ def prepare_ada():
 
 
 def words_of(name):
-    """The words that call the program for the object of this name."""
+    """Returns the words that call the program for the object of this name."""
     return [str(PROGRAM), "row"] if name in OURS else [str(programs.OUT / "speed")]
 
 
 def calls_a_second(program, work, threads, turns, environment=None):
-    """How often a second the threads of the program do the work, each so many times."""
+    """Returns how often a second the threads of the program do the work, if each does it `turns` times."""
     words = [*program, work, str(threads), str(turns)]
     ended = programs.run(words, "", environment=environment)
     answer = ended.stdout.split()
@@ -106,7 +107,7 @@ def calls_a_second(program, work, threads, turns, environment=None):
 
 
 def measure():
-    """The numbers of all rows, taken in turns."""
+    """Measures all rows in turns, and returns the numbers."""
     numbers = {f"{work}/{threads}": {name: [] for name in PREFIXES} for work, threads, _ in ROWS}
     for _ in range(ROUNDS):
         for work, threads, turns in ROWS:
@@ -117,24 +118,24 @@ def measure():
 
 
 def millions(rounds):
-    """The median of the rounds in millions, with the lowest and the highest."""
+    """Returns the median of the rounds in millions, with the lowest and the highest."""
     return f"{statistics.median(rounds) / 1e6:.2f} ({min(rounds) / 1e6:.2f} to {max(rounds) / 1e6:.2f})"
 
 
 def ratios(ours, theirs):
-    """The ratio of the medians, and of the means."""
+    """Returns the ratio of the medians, and that of the means."""
     median = statistics.median(ours) / statistics.median(theirs)
     return f"{median:.2f} ({statistics.mean(ours) / statistics.mean(theirs):.2f})"
 
 
 def line(name, row):
-    """The line of a row."""
+    """Returns the line of a row."""
     cells = [millions(row[name]) for name in PREFIXES] + [ratios(row[name], row["gnat"]) for name in OURS]
     return f"| `{name}` | {' | '.join(cells)} |"
 
 
 def busy():
-    """The seconds for which all processors were busy so far, and those for which the programs that were run here were."""
+    """Returns for how many seconds all processors have been busy so far, and for how many the programs run here have."""
     ticks = [int(word) for word in pathlib.Path("/proc/stat").read_text().splitlines()[0].split()[1:]]
     own = os.times()
     idle = ticks[3] + ticks[4]
@@ -142,28 +143,28 @@ def busy():
 
 
 def with_others(measuring, *words):
-    """The numbers of a measurement. How many processors other work kept busy meanwhile is printed."""
+    """Measures, prints how many processors other work kept busy meanwhile, and returns the numbers."""
     before, since = busy(), time.monotonic()
     numbers = measuring(*words)
     after, seconds = busy(), time.monotonic() - since
     others = (after[0] - before[0]) - (after[1] - before[1])
-    print(f"Other work kept {max(others, 0) / seconds:.1f} processors busy. The numbers mean little where that is much.")
+    print(f"Other work kept {max(others, 0) / seconds:.1f} processors busy. The numbers mean little if that is much.")
     return numbers
 
 
 def on_processors(number):
-    """The words in front of a program that is to run on so many processors."""
+    """Returns the words before a program that make it run on this number of processors; None means on all."""
     there = sorted(os.sched_getaffinity(0))
     return [] if number is None else ["taskset", "-c", ",".join(str(place) for place in there[:number])]
 
 
 def named(work, threads, number):
-    """The name of a row of the Ada program."""
+    """Returns the name of a row of the Ada program."""
     return f"{work}/{threads}" + ("" if number is None else f" on {number} processor")
 
 
 def measure_ada(runtime):
-    """The numbers of the Ada program by plain GNAT and over the engine, taken in turns."""
+    """Measures the Ada program by plain GNAT and over the engine in turns, and returns the numbers."""
     sides = {"GNAT": None, "over": programs.over(runtime)}
     numbers = {named(row[0], row[1], row[3]): {side: [] for side in sides} for row in ADA_ROWS}
     for _ in range(ADA_ROUNDS):
@@ -176,7 +177,7 @@ def measure_ada(runtime):
 
 
 def over_engine(runtime):
-    """Measures the Ada program by plain GNAT and over the engine, prints the table, and gives the status."""
+    """Measures the Ada program by plain GNAT and over the engine, prints the table, and returns the status."""
     ada_programs.check_is_over(programs.OUT / "speed", runtime)
     numbers = with_others(measure_ada, runtime)
     print("One Ada program, by plain GNAT and over the engine. Millions of calls a second: the median of nine rounds, with")
@@ -188,14 +189,14 @@ def over_engine(runtime):
 
 
 def runtime_if_there(words):
-    """The runtime folder that the words name, or else the one that `./pobj ada` made, or None where there is none."""
+    """Returns the runtime folder that the words name, or the one that `./pobj ada` made, or None if there is neither."""
     if words:
         return programs.runtime_at(words[0])
     return ada_programs.RUNTIME if programs.is_runtime(ada_programs.RUNTIME) else None
 
 
 def speed(words):
-    """Measures all, prints the tables, and gives the status. The words may name a runtime folder."""
+    """Measures everything, prints the tables, and returns the status. The words may name a runtime folder."""
     runtime = runtime_if_there(words)
     numbers = with_others(measure)
     NUMBERS.write_text(json.dumps(numbers))

@@ -1,14 +1,15 @@
+# SPDX-License-Identifier: MIT
 # shellcheck shell=bash
-# The runtime folder for Ada programs of GNAT 12.2, and its check. Read by `pobj`, after library.sh. In the archive for machines
-# without the toolchain bin/pobj does the same with the library that is there.
+# The runtime folder for Ada programs of GNAT 12.2, and its check. Read by `pobj`, after library.sh. In the archive bin/pobj does
+# the same with the library that is there.
 
-# Carries out `pobj ada`: builds the library, if it isn't built, and does the rest in bindings/ada/.
+# Carries out `pobj ada`: builds the library if it isn't built, and leaves the rest to bindings/ada/.
 ada() {
   local room status=0
   "$top/bindings/ada/ada.sh" - "${@:-}" || exit
+  [ "${1-}" != --linked ] || exit 0
   need_rt "the library has to be built"
-  wait_for_turn
-  build_library 9<&-
+  need_library
   room=$(mktemp -d)
   put_archive "$room"
   "$top/bindings/ada/ada.sh" "$room/libpobj.a" "${@:-}" || status=$?

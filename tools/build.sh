@@ -1,15 +1,17 @@
+# SPDX-License-Identifier: MIT
 # shellcheck shell=bash
-# Proves and builds crates, those that don't stand on each other side by side, and says on standard error how far that is. Read by
+# Proves and builds crates, side by side if none depends on the other, and says on standard error how far the build is. Read by
 # `pobj`, after crates.sh.
 
-# A build is silent for at most twice so many seconds.
+# A build is silent for at most twice this many seconds.
 beat=10
 log=$top/.build.log
 rooms=$top/.build
 
+# Prints how long the build has taken.
 since() { echo "$((SECONDS / 60)) min $((SECONDS % 60)) s"; }
 
-# Says how far the build is: on a terminal in one line that changes, else in a line of its own.
+# Says how far the build is: on a terminal in a line that the next one overwrites, else in a new line.
 show() {
   if [ -t 2 ]; then
     printf '\r\033[Kpobj: %s, %s' "$1" "$(since)" >&2
@@ -18,7 +20,7 @@ show() {
   fi
 }
 
-# Ends the line that changes.
+# Clears that line of the terminal.
 end_line() { [ ! -t 2 ] || printf '\r\033[K' >&2; }
 
 # Whether one of the crates is in `todo`.
@@ -30,7 +32,7 @@ waits_for() {
   return 1
 }
 
-# The file that the build of a crate makes.
+# Prints the file that the build of a crate makes.
 built_of() {
   case $1 in
     po_c) echo "$top/crates/$1/out/lib$1.a" ;;
@@ -38,7 +40,8 @@ built_of() {
   esac
 }
 
-# Whether a crate isn't built of its sources and its libraries as they are. A program that has to be built always is.
+# Whether a crate isn't built from its sources and its libraries as they are. True of each program: `build` leaves out those that
+# are fresh.
 is_stale() {
   local built name
   [[ $1 != pobj_* ]] || return 0
@@ -49,7 +52,7 @@ is_stale() {
   is_older "$built" "" "$1"
 }
 
-# Collects in `todo` those of `crates` that aren't built of their sources as they are, and those that stand on one of these.
+# Adds to `todo` those of `crates` that aren't built from their sources as they are, and those that depend on one of these.
 list_todo() {
   local crate
   for crate in "${crates[@]}"; do
@@ -58,7 +61,7 @@ list_todo() {
   done
 }
 
-# Puts the crates of `todo` on which most of them stand first: then the others seldom wait.
+# Puts first those crates of `todo` on which most others depend, so that the others seldom wait.
 sort_todo() {
   local wanted=("${todo[@]}") crates crate other
   local -A above=()
@@ -72,14 +75,14 @@ sort_todo() {
   mapfile -t todo < <(for crate in "${wanted[@]}"; do echo "${above[$crate]} $crate"; done | sort -s -k 1,1nr | cut -d ' ' -f 2)
 }
 
-# Leaves the room of a crate: what was made there moves back.
+# Removes the room of a crate. What was made there moves back.
 leave_room() {
   local made=$rooms/$1/crates/$1/out
   [ -e "$top/crates/$1/out" ] || [ ! -e "$made" ] || mv "$made" "$top/crates/$1/out"
   rm -rf "${rooms:?}/$1"
 }
 
-# Leaves the rooms that there are, of this build or of one that was ended before.
+# Removes all rooms: of this build, and of an earlier one that was killed.
 leave_rooms() {
   local room
   for room in "$rooms"/*/; do
@@ -88,15 +91,16 @@ leave_rooms() {
   rm -rf "$rooms"
 }
 
-# How many crates are built at once: one less than there are processors, and one for each 6 GB of memory that is free.
+# Prints how many crates may be built at once: one less than there are processors, at most one for each 6 GB of free memory, and at
+# least one.
 most_at_once() {
   awk -v most=$(($(nproc) - 1)) '
     /^MemAvailable:/ { room = int($2 / 6000000); if (room < most) most = room }
     END { print most < 1 ? 1 : most }' /proc/meminfo
 }
 
-# Begins to build the crates of `todo` that stand on none of it: each in a session of its own, so that its processes can be told to
-# stop.
+# Starts to build the crates of `todo` that depend on no other one of it. Each has a session of its own, so that all its processes
+# can be told to stop.
 begin_crates() {
   local crate
   for crate in "${todo[@]}"; do
@@ -110,7 +114,7 @@ begin_crates() {
   done
 }
 
-# Takes the end of a crate's build, with its status. It fails if that isn't 0.
+# Notes that a crate's build ended with this status. Fails if that isn't 0.
 end_crate() {
   local other left=()
   wait "${sessions[$1]}" || true
@@ -126,13 +130,13 @@ end_crate() {
   todo=("${left[@]}")
 }
 
-# Takes a line of the toolchain about a crate.
+# Logs a line of the toolchain about a crate, and notes how many functions it says are proved.
 take_line() {
   printf '%s: %s\n' "$1" "$2" >>"$log"
   [[ ! $2 =~ ^so\ far:\ ([0-9]+\ of\ [0-9]+)\ functions ]] || steps[$1]=" ${BASH_REMATCH[1]}"
 }
 
-# Shows which crates are being built, and how many of the functions of each are proved.
+# Shows which crates are being built, and how many functions of each are proved.
 show_crates() {
   local crate shown=""
   for crate in "${!steps[@]}"; do
@@ -142,8 +146,9 @@ show_crates() {
   shown_at=$SECONDS
 }
 
-# Takes what is written for the build until a crate's ends, whose status it gives. A signal that stops all is written too: `exit`
-# mustn't be reached out of `read`, which bash answers by an abort. What is read of a line when its time is over is kept.
+# Reads the lines that are written for the build until a crate's build ends, and returns as `end_crate` does. A signal is written
+# there as a line too, since bash aborts if a trap calls `exit` inside `read`. When `read` times out, `line` keeps the part that
+# came.
 follow() {
   local crate kind text part status
   while true; do
@@ -166,7 +171,7 @@ follow() {
   done
 }
 
-# Ends the builds that still run.
+# Stops the builds that still run.
 end_builds() {
   local session
   trap '' HUP INT TERM
@@ -177,7 +182,7 @@ end_builds() {
   leave_rooms
 }
 
-# Proves and builds those of `crates` that aren't, or stand on one that isn't. It fails with the first of them that does.
+# Proves and builds those of `crates` that aren't built, or that depend on one that isn't. Fails as soon as one of them fails.
 build_crates() {
   local todo=() at_once pause=$beat shown_at=$SECONDS line=""
   [ ! -t 2 ] || pause=1
@@ -190,7 +195,7 @@ build_crates() {
   done
 }
 
-# Makes the folder of the rooms, and in it what is written for the build.
+# Makes the folder of the rooms, and in it the pipe to which the builds write.
 make_rooms() {
   leave_rooms
   mkdir "$rooms"
@@ -199,7 +204,7 @@ make_rooms() {
   : >"$log"
 }
 
-# Builds `crates`. If that fails, it says why, and ends.
+# Builds `crates`. If that fails, says why, and ends.
 build_or_end() {
   local failed=""
   declare -gA sessions=() steps=()
@@ -220,7 +225,7 @@ build_or_end() {
   trap - EXIT HUP INT TERM
 }
 
-# Nobody takes a program for built until it is.
+# Marks a program as not built, until its build ends.
 begin_program() {
   local path
   path_of "$1"
@@ -229,7 +234,7 @@ begin_program() {
   : >"$path.begun.new"
 }
 
-# From here on a program is taken for one of the sources as they were when its build began.
+# Marks a program as built from the sources as they were when its build began.
 end_program() {
   local path
   path_of "$1"
@@ -246,7 +251,7 @@ build_programs() {
   local program
   list_crates "$@"
   say "proves and builds $*, the first time in $(minutes_of "$@") minutes on 4 processors (here are $(nproc))"
-  say "all that the toolchain says is in $log"
+  say "$log has all that the toolchain says"
   for program; do
     begin_program "$program"
   done
@@ -260,7 +265,7 @@ build_programs() {
 wait_for_turn() {
   exec 9<"$top/pobj"
   if command -v flock >/dev/null && ! flock -n 9; then
-    say "another call builds; this one waits. How far it is stands in $log"
+    say "another call builds; this one waits. $log says how far that is"
     SECONDS=0
     until flock -w "$beat" 9; do
       say "still waiting, $(since)"
@@ -276,7 +281,7 @@ build() {
     run | check | stress) words=$1 ;;
     all) words="run check stress" ;;
     *)
-      say "pobj build takes run, check, stress or all; without a word it builds run"
+      say "build takes run, check, stress or all; without a word it builds run"
       exit 2
       ;;
   esac

@@ -1,22 +1,21 @@
+# SPDX-License-Identifier: MIT
 # shellcheck shell=bash
-# The crates on which a program stands, and whether it is built of the sources as they are. Read by `pobj`, which sets `top`.
+# The crates on which a program depends, and whether it is built from the sources as they are. Read by `pobj`, which sets `top`.
 
-# The program that carries out the words: the one that the first of them names, or the second if the first asks for help.
+# Sets `program` to the one that carries out the words: the first of them names it.
 program_of() {
-  local word=${1-}
-  [ "$word" != help ] || word=${2-}
-  case $word in
-    check | stress) program=pobj_$word ;;
+  case ${1-} in
+    check | stress) program=pobj_$1 ;;
     *) program=pobj_run ;;
   esac
 }
 
-# The words of `pobj build` that build the program.
+# Prints the call of `pobj build` that builds the program.
 build_words() {
   if [ "$1" = pobj_run ]; then echo "./pobj build"; else echo "./pobj build ${1#pobj_}"; fi
 }
 
-# How many minutes the first build of the programs takes on four processors.
+# Prints how many minutes the first build of the programs takes on four processors.
 minutes_of() {
   case $* in
     pobj_run) echo "10 to 20" ;;
@@ -26,7 +25,7 @@ minutes_of() {
   esac
 }
 
-# Collects a crate in `crates`, after those that it stands on.
+# Adds a crate to `crates`, after those that it depends on.
 collect() {
   local dep
   [[ -v "needs[$1]" && " ${crates[*]-} " != *" $1 "* ]] || return 0
@@ -36,7 +35,7 @@ collect() {
   crates+=("$1")
 }
 
-# Sets `crates` to those of the programs, lowest first, and `needs` to what each crate of crates.txt stands on.
+# Sets `crates` to those of the programs, lowest first, and `needs` to what each crate of crates.txt depends on.
 list_crates() {
   local name deps
   declare -gA needs=()
@@ -50,7 +49,8 @@ list_crates() {
   done
 }
 
-# Whether the file isn't there, or older than the list of crates (told by its path, or by "" for not) or a source of one.
+# Whether the file isn't there, or is older than a source of the crates or than their list, whose path is the second word ("": no
+# list).
 is_older() {
   local file=$1 list=$2 crate part sources=()
   shift 2
@@ -64,11 +64,11 @@ is_older() {
   [ -n "$(find "${sources[@]}" -newer "$file" -print -quit)" ]
 }
 
-# Where the program stands once it is built.
+# Sets `path` to the file of the program, whether it is built or not.
 path_of() { path=$top/crates/$1/out/$1; }
 
-# Whether the program, whose crates are in `crates`, is built of the sources as they are. Its file PROGRAM.begun is as old as the
-# moment at which its build began; a program that the gate built has none.
+# Whether the program, whose crates are in `crates`, is built from the sources as they are. The file PROGRAM.begun has the time at
+# which its build began; a program that `test` built has none.
 is_fresh() {
   local built path
   path_of "$1"

@@ -1,27 +1,37 @@
 #!/bin/sh
-# Carries out the words by the program that they name, from the folder that has them all.
-here=$(dirname "$(readlink -f "$0")")
-ada=$here/../share/pobj/ada
-picture=$here/../share/pobj/picture
-word=${1-}
-[ "$word" != help ] || word=${2-}
-case $word in
+# SPDX-License-Identifier: MIT
+# Carries out the words by the programs of the archive, from its folder bin.
+set -eu
+here=$(cd "$(dirname "$(readlink -f "$0")")" && pwd)
+parts=$here/../share/pobj
+commands="run check picture stress ada trace"
+
+version() { head -n 1 "$here/../VERSION"; }
+
+# shellcheck source=tools/words.sh
+. "$parts/words.sh"
+
+[ "${1-}" != help ] || [ $# -eq 1 ] || set -- "$2" --help
+answer_words "$@"
+case $1 in
+  run | check) take_script "$@" ;;
+esac
+case $1 in
   ada)
     shift
-    exec "$ada/ada.sh" "$here/../lib/libpobj.a" "${@:-}"
+    exec "$parts/ada/ada.sh" "$here/../lib/libpobj.a" "${@:-}"
     ;;
   trace)
     shift
-    exec "$ada/trace.sh" "$@"
+    exec "$parts/ada/trace.sh" "$@"
     ;;
   picture)
     shift
-    if ! command -v python3 >/dev/null; then
-      echo "pobj: a picture is drawn by Python 3, and the command python3 isn't found" >&2
-      exit 6
-    fi
-    exec python3 "$picture/picture.py" "$here/pobj_run" "$@"
+    draw "$here/pobj_run" "$@"
     ;;
-  check | stress) exec "$here/pobj_$word" "$@" ;;
-  *) exec "$here/pobj_run" "$@" ;;
+  run)
+    [ -z "$file" ] || run_file "$here/pobj_run" "$file"
+    exec "$here/pobj_run" "$@"
+    ;;
+  *) exec "$here/pobj_$1" "$@" ;;
 esac

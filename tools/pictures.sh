@@ -1,6 +1,7 @@
 #!/usr/bin/env bash
-# Draws the pictures of the pages again, docs/pictures/*.svg, and with names also those of further scripts of examples/ and
-# comparison/differences/. The scripts are carried out by the built program, or by one trial of its sources.
+# SPDX-License-Identifier: MIT
+# Draws the pictures of the pages again, docs/pictures/*.svg, and those of the scripts of examples/ and comparison/differences/
+# that the words name. The built program carries out the scripts, or else one trial of its sources.
 set -eu
 cd "$(dirname "$0")/.."
 top=$PWD
@@ -8,8 +9,11 @@ room=$(mktemp -d)
 trap 'rm -rf "$room"' EXIT
 # shellcheck source=tools/crates.sh
 . tools/crates.sh
+# shellcheck source=tools/kit.sh
+. tools/kit.sh
+find_kit
 
-# Lays out the copies of the scripts that ask for the state.
+# Lays out copies of the scripts that also ask for the state.
 lay_out() {
   local name
   mkdir -p "$room/cases" docs/pictures
@@ -18,7 +22,7 @@ lay_out() {
   done
 }
 
-# What the program answers to each, into docs/pictures/NAME.out.
+# Writes what the program answers to each copy into docs/pictures/NAME.out.
 carry_out() {
   local file
   list_crates pobj_run

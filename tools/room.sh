@@ -1,7 +1,8 @@
 #!/usr/bin/env bash
-# room.sh CRATE proves and builds a crate in a room of its own, and writes what the toolchain says, each line behind the crate's name
-# and "said", and then the name, "ended" and the status. The room is a copy of the crate and of the libraries that it stands on, since
-# rt locks the folders of all these: in one place it builds one crate at a time. Called by build.sh.
+# SPDX-License-Identifier: MIT
+# room.sh CRATE proves and builds a crate in a room: a copy of the crate and of the libraries that it depends on. rt locks the
+# folders of all these, so in one place it builds only one crate at a time. Each line of the toolchain is written as "CRATE said
+# LINE", and then the status as "CRATE ended STATUS". Called by build.sh.
 set -u
 top=$(cd "${BASH_SOURCE[0]%/*}/.." && pwd)
 # shellcheck source=tools/crates.sh
@@ -9,14 +10,14 @@ top=$(cd "${BASH_SOURCE[0]%/*}/.." && pwd)
 crate=$1
 room=$top/.build/$crate
 
-# Links a built library into the room, or copies it where there are no links.
+# Links a built library into the room, or copies it if the file system has no links.
 put_library() {
   cp -al "$1" "$2" 2>/dev/null && return
   rm -rf "$2"
   cp -a "$1" "$2"
 }
 
-# Makes the room. What was kept of the crate moves there.
+# Makes the room. What earlier builds of the crate left moves there.
 make_room() {
   local part name
   list_crates "$crate"
@@ -34,7 +35,7 @@ make_room() {
   mv "$top/crates/$crate/out" "$room/crates/$crate/out"
 }
 
-# Builds the crate there: a program is linked by being run.
+# Builds the crate there. `rt run` links a program and then runs it, so it is asked for its help.
 build_there() {
   set -e
   make_room

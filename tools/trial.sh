@@ -1,3 +1,4 @@
+# SPDX-License-Identifier: MIT
 # shellcheck shell=bash
 # A trial of a program's sources: the toolchain runs them with a check at each operation, and proves nothing. Read by `pobj`.
 
@@ -5,13 +6,13 @@
 most_input=67108864
 most_seconds=60
 
-# Says why a trial can't serve, and what does.
+# Ends, and says why a trial can't serve, and what does.
 refuse_trial() {
   say "$1, which a trial of the sources can't serve: '$(build_words "$program")' proves and builds the program, which can"
   exit 5
 }
 
-# Says that this is a trial, how long it takes, and what ends trials.
+# Says that this is a trial, how long it takes, and what spares the user further ones.
 announce_trial() {
   local why="the program isn't built" path
   path_of "$program"
@@ -20,7 +21,7 @@ announce_trial() {
   say "'$(build_words "$program")' proves and builds it: $(minutes_of "$program") minutes on 4 processors (here are $(nproc)), then milliseconds a call"
 }
 
-# Ends the trial that still runs, and removes what was kept for it.
+# Ends the trial if it still runs, and removes what was kept for it.
 end_trial() {
   if [ -n "$trial" ]; then
     kill -TERM "$trial" 2>/dev/null || true
@@ -35,25 +36,19 @@ keep_input() {
   [ "$(stat -c %s "$room/input")" -le "$most_input" ] || refuse_trial "the script has more than 64 MiB"
 }
 
-# Keeps the script that the words name; a script on standard input takes the place of its name.
-keep_script() {
-  local file=${words[-1]}
-  [ ! -d "$file" ] || refuse_trial "$file is a folder"
-  if [ -e "$file" ]; then
-    keep_input <"$file"
-    words=(check)
-  fi
-}
-
-# Keeps the input of the program that carries out `words`.
+# Keeps the input of the program that carries out `words`: of `check FILE` the script, which the program then reads on standard
+# input.
 keep_input_of_words() {
   : >"$room/input"
-  case "$program ${#words[@]} ${words[*]}" in
-    "pobj_run 1 run" | "pobj_check 1 check")
+  case "${#words[@]} ${words[*]}" in
+    "1 run" | "1 check")
       [ ! -t 0 ] || refuse_trial "the script is typed"
       keep_input
       ;;
-    "pobj_check 2 check "[!-]* | "pobj_check 3 check -- "*) keep_script ;;
+    "2 check "[!-]* | "3 check -- "*)
+      keep_input <"${words[-1]}"
+      words=(check)
+      ;;
   esac
 }
 
@@ -77,6 +72,7 @@ hand_on() {
     say "write failed"
     exit 4
   fi
+  if [ "${words[*]}" = run ] && [ -t 2 ]; then explain_fault "$(errors_of_program)" "$room/input" "${script:-FILE}"; fi
   exit "$1"
 }
 

@@ -1,7 +1,9 @@
 #!/bin/sh
-# The words of `pobj ada`, over a library that is built:
+# SPDX-License-Identifier: MIT
+# Carries out `pobj ada`, with a library that is built:
 #   ada.sh LIBPOBJ DEST            makes a runtime folder, and says how a program uses it
-#   ada.sh LIBPOBJ --check [DEST]  compiles and runs a program on it, or on one that is made for that
+#   ada.sh LIBPOBJ --check [DEST]  compiles and runs a program on the folder DEST, or on one that it makes for that
+#   ada.sh - --linked PROGRAM      says whether a program that is linked runs over pobj
 #   ada.sh - WORDS                 says what is wrong with these words, and does nothing
 set -eu
 here=$(cd "$(dirname "$0")" && pwd)
@@ -10,23 +12,27 @@ shift
 
 say() { echo "pobj ada: $*" >&2; }
 
-# Ends if the words aren't those that are taken.
+# Ends with status 2 if the words aren't among those that it takes.
 take_words() {
   case "$#${1-}" in
-    1--check | 2--check) ;;
+    1--check | 2--check | 2--linked) ;;
+    1--linked)
+      say "--linked takes the program"
+      exit 2
+      ;;
     1-*)
       say "no such word: $1"
       exit 2
       ;;
     1?*) ;;
     *)
-      say "it takes the folder for the runtime, or --check and, if it is there already, that folder"
+      say "it takes the folder for the runtime, or --check, with the folder if that is already made, or --linked and a program"
       exit 2
       ;;
   esac
 }
 
-# What a shell reads as this word.
+# Prints the word as a shell has to be given it.
 quoted() {
   case $1 in
     *[!A-Za-z0-9_./+=@%:,-]*) printf "'%s'" "$1" ;;
@@ -35,6 +41,7 @@ quoted() {
 }
 
 take_words "${@:-}"
+[ "$1" != --linked ] || exec "$here/linked.sh" "$2"
 [ "$library" != - ] || exit 0
 case "$#$1" in
   1--check)
@@ -49,9 +56,9 @@ case "$#$1" in
   *)
     "$here/make.sh" "$1" "$library"
     dest=$(cd "$1" && pwd)
-    say "the runtime is in $dest. A program that is compiled now:"
+    say "the runtime is in $dest. Compile a program with it by:"
     say "  gnatmake -f --RTS=$(quoted "$dest") PROGRAM.adb -bargs -static"
-    say "and one that is linked already, with GNAT's shared libraries:"
+    say "or run a program that is already linked with GNAT's shared libraries:"
     say "  LD_LIBRARY_PATH=$(quoted "$dest/adalib") ./PROGRAM"
     ;;
 esac

@@ -1,18 +1,19 @@
-# Changes one subprogram of a unit of GNARL, which is found by its name:
-#   awk -v name=NAME -v how=rename -v to=NEW         its own name
-#   awk -v name=NAME -v how=word -v it=OLD -v to=NEW one name in its text, which stands there once
-#   awk -v name=NAME -v how=line -v it=LINE -v to=NEW this line, without the blanks before it, becomes another
-#   awk -v name=NAME -v how=before -v it=LINE -v to=NEW a line is put before it
-#   awk -v name=NAME -v how=drop -v it=LINE -v to=NEXT the line goes where that one is next, with blank lines between
-#   awk -v name=NAME -v how=insert -v it=LINE -v to=FILE the text of a file is put before the line
-#   awk -v name=NAME -v how=append -v it=FILE the text of a file is put behind the subprogram
-# Where that can't be done in just one place it says so, and the status is 1.
+# SPDX-License-Identifier: MIT
+# Changes the subprogram NAME of a unit of GNARL:
+#   awk -v name=NAME -v how=rename -v to=NEW              renames it
+#   awk -v name=NAME -v how=word -v it=OLD -v to=NEW      replaces a name in its text
+#   awk -v name=NAME -v how=line -v it=LINE -v to=NEW     replaces a line, except the blanks that it begins with
+#   awk -v name=NAME -v how=before -v it=LINE -v to=NEW   puts a line before this one
+#   awk -v name=NAME -v how=drop -v it=LINE -v to=NEXT    drops a line that this next one follows, and blank lines between them
+#   awk -v name=NAME -v how=insert -v it=LINE -v to=FILE  puts the text of a file before the line
+#   awk -v name=NAME -v how=append -v it=FILE             puts the text of a file after the subprogram
+# If there isn't exactly one place for the change, it says so, and the status is 1.
 
 function trimmed(line) { sub(/^ +/, "", line); sub(/ +$/, "", line); return line }
 
 function is_head(line) { return line ~ ("^   (overriding )?(procedure|function|task body) " name "( |;|$)") }
 
-# Puts what the word becomes into the line, once.
+# Returns the line with the first such word replaced.
 function with_word(line,   at) {
     at = index(line, it " (")
     if (at == 0 || trimmed(line) ~ /^--/ || substr(line, at - 1, 1) ~ /[A-Za-z_.]/) return line
@@ -20,7 +21,7 @@ function with_word(line,   at) {
     return substr(line, 1, at - 1) to substr(line, at + length(it))
 }
 
-# Puts the text of a file, which has some.
+# Prints the text of a file, which mustn't be empty.
 function put(file,   line, some) {
     while ((getline line < file) > 0) { print line; some = 1 }
     done += some
@@ -39,7 +40,7 @@ function changed(number,   line, blanks) {
     return line
 }
 
-# How many lines go from this one on.
+# How many lines are dropped from this one on.
 function dropped(number,   next_one) {
     if (how != "drop" || trimmed(lines[number]) != it) return 0
     for (next_one = number + 1; lines[next_one] == ""; next_one++) {}
@@ -64,7 +65,7 @@ END {
         if (how == "append" && number == last) put(it)
     }
     if (!last || done != wanted) {
-        print "pobj ada: in " FILENAME " there isn't just one place for this: " name ", " how " " it > "/dev/stderr"
+        print "pobj ada: in " FILENAME " there isn't exactly one place for this: " name ", " how " " it > "/dev/stderr"
         exit 1
     }
 }

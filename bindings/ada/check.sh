@@ -1,5 +1,6 @@
 #!/bin/sh
-# Compiles a program on a runtime folder of pobj and runs it, linked with the folder, and by the folder's shared library:
+# SPDX-License-Identifier: MIT
+# Compiles a program on a runtime folder of pobj and runs it, linked with the folder, and with the folder's shared library:
 #   check.sh DEST
 set -eu
 here=$(cd "$(dirname "$0")" && pwd)
@@ -22,7 +23,7 @@ cd "$room"
 is_right() { [ "$(timeout 10 "$@" 2>&1)" = "there and back" ]; }
 
 gnatmake -q "--RTS=$dest" there_and_back.adb -o linked -bargs -static || fail "a program can't be compiled on $dest"
-is_right ./linked || fail "a program that is linked with $dest doesn't run as it should"
+is_right ./linked || fail "a program that is linked with $dest doesn't write what it should"
 gnatmake -q -f there_and_back.adb -o shared -bargs -shared || fail "a program can't be compiled by GNAT itself"
-is_right env "LD_LIBRARY_PATH=$dest/adalib" ./shared || fail "a program doesn't run over $dest/adalib as it should"
-say "a program that hangs by GNAT's own runtime ends over $dest, linked with it, and by its shared library"
+is_right env "LD_LIBRARY_PATH=$dest/adalib" ./shared || fail "a program doesn't write what it should over $dest/adalib"
+say "a program that hangs on GNAT's own runtime ends over $dest, linked with it, and with its shared library"

@@ -1,3 +1,5 @@
+--  SPDX-License-Identifier: MIT
+
 with System.Restrictions;
 with System.Soft_Links;
 with System.Task_Primitives.Operations;
@@ -11,15 +13,15 @@ package body System.Tasking.Nested_Actions is
 
    Held : aliased System.Task_Primitives.Lock;
    pragma Thread_Local_Storage (Held);
-   --  A lock with the ceiling that is kept, which this task alone has
+   --  A lock with the ceiling that is kept, which only this task uses
 
    Kept : Integer := -1;
    pragma Thread_Local_Storage (Kept);
-   --  That ceiling, if there is one
+   --  That ceiling, or none
 
    procedure Look_After_Later;
    pragma Import (Ada, Look_After_Later, "pobj_ada_look_after");
-   --  Of Actions: its unit needs those that need this one
+   --  Imported from Actions, which needs units that need this one
 
    -----------
    -- Enter --
@@ -54,7 +56,7 @@ package body System.Tasking.Nested_Actions is
          return;
       end if;
 
-      --  Meanwhile the object's own lock keeps it
+      --  Meanwhile the object's own lock keeps the ceiling
 
       Give_Back;
       Initialize_Lock (Ceiling, Held'Access);
@@ -93,7 +95,7 @@ package body System.Tasking.Nested_Actions is
         and then Run_Time_Restrictions.Set (Max_Asynchronous_Select_Nesting)
         and then
           Run_Time_Restrictions.Value (Max_Asynchronous_Select_Nesting) = 0;
-      --  Under these restrictions (D.7) the compiler's text defers none
+      --  Under these restrictions (D.7) the compiler's code defers no abort
 
    begin
       if not Has_No_Aborts then

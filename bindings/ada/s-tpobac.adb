@@ -1,3 +1,5 @@
+--  SPDX-License-Identifier: MIT
+
 with Ada.Unchecked_Conversion;
 with Ada.Unchecked_Deallocation;
 
@@ -30,7 +32,7 @@ package body System.Tasking.Protected_Objects.Actions is
 
    procedure Synchronize;
    pragma Import (Intrinsic, Synchronize, "__sync_synchronize");
-   --  What this task wrote before is seen before it reads on
+   --  Lets others see what this task wrote before it reads on
 
    subtype Occurrence_Access is Exception_Occurrence_Access;
 
@@ -45,15 +47,15 @@ package body System.Tasking.Protected_Objects.Actions is
      (Call   : Entry_Call_Link;
       Object : out Protection_Entries_Access;
       Ended  : out Boolean);
-   --  Locks the object that the call is on; none, where it is on a task. Of a
-   --  call that has ended, the caller's lock is held instead.
+   --  Locks the object that the call is on, or none if it is on a task. If
+   --  the call has ended, holds the caller's lock instead.
 
    procedure Sleep_Shortly (Microseconds : Interfaces.C.unsigned);
    pragma Import (C, Sleep_Shortly, "usleep");
 
-   --  A queued call keeps its ticket in Prev, the key, and Next, the number:
-   --  that is never 0, so Next isn't null while the call is queued, as GNARL
-   --  has it.
+   --  A queued call keeps its ticket: the key in Prev, the number in Next.
+   --  The number is never 0, so Next isn't null while the call is queued, as
+   --  in GNARL.
 
    pragma Warnings (Off);  --  aliasing: compiled with -fno-strict-aliasing
    function To_Link is
@@ -76,32 +78,32 @@ package body System.Tasking.Protected_Objects.Actions is
    function Barrier_Of
      (Object : Protection_Entries_Access;
       E      : Protected_Entry_Index) return Word;
-   --  What the barrier of the entry says. An exception of it goes no further
-   --  (9.5.3).
+   --  The value of the entry's barrier. An exception that it raises goes no
+   --  further (9.5.3).
 
    function Only_Expired (Call : Entry_Call_Link) return Boolean;
-   --  Whether a cancellation was attempted since the call's time has come,
-   --  and not by an abort. Both are noted under the caller's lock.
+   --  Whether a cancellation was attempted because the call's time has come,
+   --  and not because of an abort. Both are noted under the caller's lock.
 
    function Attempted (Call : Entry_Call_Link) return Word;
    pragma Inline (Attempted);
-   --  The mark of a call for the cancellation that was attempted, if any. A
+   --  The mark of a call for the cancellation that was attempted, or 0. A
    --  call that is made while aborts are deferred isn't cancelled by one.
 
    function Marks_Of (Call : Entry_Call_Link) return Word;
    pragma Inline (Marks_Of);
-   --  All that is known of a call that arrives
+   --  All marks of a call that arrives
 
    procedure Trace
      (Object : Protection_Entries_Access;
       Call   : Entry_Call_Link;
       What   : String);
    pragma Inline (Trace);
-   --  Records what came of a call, if it is asked for
+   --  Records what came of a call, if a record is asked for
 
    procedure Take_Off (Call : Entry_Call_Link);
    pragma Inline (Take_Off);
-   --  The call is off its queue, and can't be cancelled
+   --  Notes that the call is off its queue, and can't be cancelled
 
    procedure End_Now
      (Self_ID : Task_Id;
@@ -114,31 +116,32 @@ package body System.Tasking.Protected_Objects.Actions is
       Object  : Protection_Entries_Access;
       Call    : Entry_Call_Link;
       State   : Entry_Call_State);
-   --  Ends the call of this task, and that of another one once the object's
-   --  lock is given up. Until then its caller waits, whatever comes: the call
-   --  isn't queued, and hasn't ended. Under Ceiling_Locking (D.3) the caller
-   --  is woken at once: else this task, which leaves the ceiling with the
-   --  lock, could be preempted before it wakes a more urgent one.
+   --  Ends a call of this task at once, and one of another task when the
+   --  object's lock is given up. Until then that caller waits, whatever
+   --  comes: its call isn't queued, and hasn't ended. Under Ceiling_Locking
+   --  (D.3) the caller is woken at once: otherwise this task, which leaves
+   --  the ceiling with the lock, could be preempted before it wakes a more
+   --  urgent one.
 
    procedure Note_Queued
      (Self_ID : Task_Id;
       Object  : Protection_Entries_Access;
       Call    : Entry_Call_Link;
       Told    : Step);
-   --  The call is queued: keeps its ticket, and says whether its caller may
-   --  cancel it.
+   --  Notes that the call is queued: keeps its ticket, and whether its caller
+   --  may cancel it.
 
    procedure Look_Again (Call : Entry_Call_Link);
-   --  The call can be cancelled from now on. An abort may have come before,
-   --  and the abortable part of an asynchronous select begins now (9.7.4):
-   --  its caller looks again.
+   --  Wakes the caller of a call that can be cancelled from now on, so that
+   --  it looks again: an abort may have come before, and the abortable part
+   --  of an asynchronous select begins now (9.7.4).
 
    function Is_Run
      (Object : Protection_Entries_Access;
       Call   : Entry_Call_Link;
       E      : Protected_Entry_Index) return Boolean;
-   --  Runs the body of the entry for the call. False: an exception left it
-   --  that its own handlers don't see.
+   --  Runs the body of the entry for the call. Returns False if an exception
+   --  left it that its own handlers don't see.
 
    function Completed_Call
      (Self_ID : Task_Id;
@@ -147,13 +150,13 @@ package body System.Tasking.Protected_Objects.Actions is
       How     : Word;
       Told    : in out Step) return Word;
    --  Tells the engine that the body has completed the call, ends it, and
-   --  gives the next answer.
+   --  returns the next answer.
 
    function Requeued_Call
      (Object : Protection_Entries_Access;
       Call   : Entry_Call_Link;
       Told   : in out Step) return Word;
-   --  Tells the engine that the body has requeued the call, and gives the
+   --  Tells the engine that the body has requeued the call, and returns the
    --  next answer.
 
    function Body_Run
@@ -161,7 +164,7 @@ package body System.Tasking.Protected_Objects.Actions is
       Object  : Protection_Entries_Access;
       E       : Protected_Entry_Index;
       Told    : in out Step) return Word;
-   --  Runs the body of the entry, tells the engine how it ended, and gives
+   --  Runs the body of the entry, tells the engine how it ended, and returns
    --  the next answer.
 
    function Next_Answer
@@ -169,27 +172,27 @@ package body System.Tasking.Protected_Objects.Actions is
       Object  : Protection_Entries_Access;
       Answer  : Word;
       Told    : in out Step) return Word;
-   --  Does what the engine says, and gives the next answer
+   --  Does what the engine says, and returns the next answer
 
    procedure Carry_Out
      (Self_ID : Task_Id;
       Object  : Protection_Entries_Access;
       Answer  : Word;
       Told    : in out Step);
-   --  Does what the engine says, and what it says then, until the object is
-   --  at rest.
+   --  Does what the engine says, one answer after another, until the object
+   --  is at rest.
 
    procedure Issue_To_Task (Self_ID : Task_Id; Call : Entry_Call_Link);
-   --  A call that was requeued to a task arrives there. Where that task has
-   --  come to its end, GNARL ends the call by Tasking_Error (9.5.3), and its
-   --  record is the caller's again.
+   --  Issues a call that was requeued to a task. If that task has ended,
+   --  GNARL ends the call by Tasking_Error (9.5.3), and its record is the
+   --  caller's again.
 
    procedure Issue_To_Object
      (Self_ID : Task_Id;
       Call    : Entry_Call_Link;
       Last    : in out Entry_Call_Link);
-   --  A call that was requeued to another object arrives there. What is put
-   --  off there joins the ring.
+   --  Issues a call that was requeued to another object. The calls that are
+   --  put off there join the ring.
 
    procedure Look_After (Self_ID : Task_Id; Ring : Entry_Call_Link);
    --  Ends or issues the calls of a ring, one after the other
@@ -258,7 +261,7 @@ package body System.Tasking.Protected_Objects.Actions is
 
    function Attempted (Call : Entry_Call_Link) return Word is
    begin
-      --  An abort that came before the call shows at the level alone
+      --  Only the level shows an abort that came before the call
 
       return (if Call.State = Never_Abortable
                 or else not (Call.Cancellation_Attempted
@@ -366,8 +369,8 @@ package body System.Tasking.Protected_Objects.Actions is
                Self_ID.Entry_Calls (Self_ID.ATC_Nesting_Level)'Access;
       Kept : Occurrence_Access;
    begin
-      --  The level may be that of a delay: its record is that of a call
-      --  before, or new.
+      --  The level may be that of a delay: then its record is new, or that of
+      --  an earlier call.
 
       if Call.Exception_To_Raise /= Null_Id
         and then Call.E = With_Occurrence
@@ -759,7 +762,7 @@ package body System.Tasking.Protected_Objects.Actions is
    procedure Look_After_Later is
       Ring : Entry_Call_Link;
    begin
-      --  What is put off meanwhile comes behind
+      --  Calls that are put off meanwhile come after these
 
       Nested_Actions.Enter;
 
@@ -784,7 +787,7 @@ package body System.Tasking.Protected_Objects.Actions is
       Told : aliased Step;
       Ring : Entry_Call_Link;
    begin
-      --  There are no queues where there was no memory for them
+      --  There are no queues if there was no memory for them
 
       if Serves (Object) and then Object.Entry_Queues (1).Head /= null then
          Carry_Out
@@ -808,14 +811,15 @@ package body System.Tasking.Protected_Objects.Actions is
       Self_ID : constant Task_Id := Call.Self;
 
    begin
-      --  Who ends the call needs the caller's lock for that. So the object is
-      --  there as long as the caller has it, and the call hasn't ended.
+      --  A task that ends the call needs the caller's lock for that. So while
+      --  this has the caller's lock, and the call hasn't ended, the object is
+      --  there.
 
       loop
          STPO.Write_Lock (Self_ID);
          Ended := Call.State >= Done;
 
-         --  A call on a task may have the object of a call before
+         --  A call on a task may still have the object of an earlier call
 
          Object := (if not Ended and then Call.Called_Task = null
                     then To_Protection (Call.Called_PO) else null);
@@ -912,8 +916,8 @@ package body System.Tasking.Protected_Objects.Actions is
          return Is_Cancelled (Call);
 
       else
-         --  On a task's queue a call that was made while aborts are deferred
-         --  is marked as abortable when its time comes.
+         --  If a call was made while aborts were deferred, it is marked as
+         --  abortable on a task's queue when its time comes.
 
          return Call.With_Abort;
       end if;
@@ -935,16 +939,16 @@ package body System.Tasking.Protected_Objects.Actions is
          return False;
       end if;
 
-      --  GNARL wakes the caller of a simple call no more. So either that one,
-      --  which an abort wakes, sees that the call can be cancelled, or this
-      --  task sees the abort.
+      --  GNARL doesn't wake the caller of a simple call again. So either the
+      --  caller, which an abort wakes, sees that the call can be cancelled, or
+      --  this task sees the abort.
 
       if Call.Mode = Simple_Call then
          Call.State := Now_Abortable;
          Synchronize;
       end if;
 
-      --  A timed call whose time has come may be accepted still
+      --  A timed call whose time has come may still be accepted
 
       return Call.Self.Pending_ATC_Level
         < (if Call.Mode = Timed_Call then Call.Level - 1 else Call.Level);

@@ -1,5 +1,6 @@
---  The engine of pobj: what pobj.h says, for Ada. It decides which entry call
---  of a protected object is queued, served, cancelled or ended (ISO/IEC
+--  SPDX-License-Identifier: MIT
+--  The engine of pobj, as pobj.h declares it for C. It decides which entry
+--  call of a protected object is queued, served, cancelled or ended (ISO/IEC
 --  8652:2023, 9.5.1 to 9.5.4), and each of its functions is proved.
 
 with Interfaces;
@@ -18,7 +19,7 @@ package System.Tasking.Protected_Objects.Pobj is
    end record;
    pragma Convention (C, Step);
    pragma Suppress_Initialization (Step);
-   --  The call that an answer speaks of, and its ticket
+   --  The call that an answer is about, and its ticket
 
    --  Answers: what to do next
 
@@ -30,7 +31,7 @@ package System.Tasking.Protected_Objects.Pobj is
    Now_Broken    : constant := 5;
    No_Memory     : constant := 6;
 
-   --  What a barrier says
+   --  The value of a barrier
 
    Closed : constant := 0;
    Open   : constant := 1;
@@ -50,13 +51,13 @@ package System.Tasking.Protected_Objects.Pobj is
    Without_Abort : constant := 2;
    Aborted       : constant := 4;
 
-   --  What came of a cancellation
+   --  What an attempt to cancel has led to
 
    Made : constant := 0;
    Kept : constant := 1;
 
    subtype Engine is System.Address;
-   --  The engine of one object: where a pobj_object is
+   --  The engine of one object: the address of a pobj_object
 
    function pobj_make (Object : Engine; Entries : Word) return Flag;
    pragma Import (C, pobj_make);

@@ -1,3 +1,5 @@
+--  SPDX-License-Identifier: MIT
+
 with Interfaces.C;
 
 with System.OS_Interface;
@@ -21,12 +23,12 @@ package body System.Tasking.Protected_Objects.Queues is
    pragma Import (C, Locking_Policy, "__gl_locking_policy");
 
    Most_Entries : constant := 65_535;
-   --  As pobj.h has it
+   --  As pobj.h declares it
 
    use type Interfaces.C.int;
    use System.OS_Interface;
 
-   --  A lock as System.Task_Primitives has it
+   --  A lock as System.Task_Primitives declares it
 
    type Lock_Parts is record
       RW : aliased pthread_rwlock_t;
@@ -43,20 +45,21 @@ package body System.Tasking.Protected_Objects.Queues is
    function Longest
      (Object : Protection_Entries_Access;
       E      : Protected_Entry_Index) return Natural;
-   --  How many calls the queue of the entry may have, 0 for any number: by
-   --  Max_Queue_Length, and by the restriction Max_Entry_Queue_Length (D.7).
+   --  How many calls the queue of the entry may have, by Max_Queue_Length and
+   --  the restriction Max_Entry_Queue_Length (D.7); 0 means any number.
 
    procedure Set_Limits (Object : Protection_Entries_Access);
-   --  Tells the engine the longest queue of each entry that has one
+   --  Tells the engine the limit of each entry that has one
 
    function pthread_mutex_trylock
      (Mutex : access pthread_mutex_t) return Interfaces.C.int;
    pragma Import (C, pthread_mutex_trylock);
 
    procedure Make_Adaptive (Object : Protection_Entries_Access);
-   --  Who finds the object's lock taken looks some hundred times whether it
-   --  is free before it sleeps, as a protected action is short. Under a
-   --  locking policy (D.3) the lock stays GNARL's.
+   --  Replaces the object's lock by one of another kind: a task that finds it
+   --  taken looks about a hundred times whether it is free before it sleeps,
+   --  as a protected action is short. Under a locking policy (D.3) the lock
+   --  stays GNARL's.
 
    ------------
    -- Serves --

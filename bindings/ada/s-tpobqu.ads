@@ -1,21 +1,23 @@
---  The entry queues of an object that the engine has, and the calls that are
---  put off until its lock is given up. Nothing is elaborated here, so that
---  programs which are linked already can use it.
+--  SPDX-License-Identifier: MIT
+--  The entry queues of an object that the engine serves, and the calls that
+--  are put off until its lock is given up. Nothing is elaborated here, so that
+--  programs that are already linked can use it.
 
 with System.Tasking.Protected_Objects.Entries;
 with System.Tasking.Protected_Objects.Pobj;
 
 package System.Tasking.Protected_Objects.Queues is
 
-   --  The first queue of GNARL's has no other use here: its Head is the
-   --  engine's, and its Tail the last of the calls that are put off. These
-   --  are in a ring, chained by Acceptor_Prev_Call.
+   --  GNARL's first queue has no other use here: its Head is the engine's,
+   --  and its Tail is the last of the calls that are put off. These are in a
+   --  ring, chained by Acceptor_Prev_Call.
 
    function Serves
      (Object : Entries.Protection_Entries_Access) return Boolean;
    pragma Inline (Serves);
-   --  Whether the engine has the object's entry calls: it has entries, and
-   --  the program isn't under Priority_Queuing (D.4), where GNARL keeps them.
+   --  Whether the engine serves the object's entry calls: if the object has
+   --  entries, and the program isn't under Priority_Queuing (D.4), where
+   --  GNARL keeps them.
 
    function Engine_Of
      (Object : Entries.Protection_Entries'Class) return Pobj.Engine;
@@ -24,18 +26,18 @@ package System.Tasking.Protected_Objects.Queues is
 
    procedure Make (Object : Entries.Protection_Entries_Access);
    pragma Export (Ada, Make, "pobj_ada_make");
-   --  Makes the queues of a new object, with the longest that each may get,
-   --  if the engine serves it. Raises Storage_Error if there is no memory for
-   --  them, or if the object has more than 65_535 entries.
+   --  Makes the queues of a new object, with the limit of each, if the engine
+   --  serves it. Raises Storage_Error if there is no memory for them, or if
+   --  the object has more than 65_535 entries.
 
    function Has_Own_Lock return Boolean;
    pragma Inline (Has_Own_Lock);
-   --  Whether the locks of objects are those that Make makes: under a locking
+   --  Whether the objects' locks are those that Make makes: under a locking
    --  policy (D.3) they stay GNARL's.
 
    function Is_Locked
      (Object : Entries.Protection_Entries_Access) return Boolean;
-   --  Takes such a lock, if it is free
+   --  Takes such a lock if it is free, and returns whether it was
 
    procedure Free (Object : Entries.Protection_Entries_Access);
    --  Frees the queues of an object, in which no call is queued any more
@@ -48,8 +50,8 @@ package System.Tasking.Protected_Objects.Queues is
    procedure Put_Off
      (Object : Entries.Protection_Entries_Access;
       Call   : Entry_Call_Link);
-   --  The call is looked after once the object's lock is given up: it has
-   --  ended, or a body requeued it to another object or to a task.
+   --  Puts a call off until the object's lock is given up: it has ended, or a
+   --  body requeued it to another object or to a task.
 
    procedure Take_Put_Off
      (Object : Entries.Protection_Entries_Access;
@@ -67,6 +69,6 @@ package System.Tasking.Protected_Objects.Queues is
 
    procedure Stop;
    pragma No_Return (Stop);
-   --  The engine refused a step, so this runtime is wrong: ends the program
+   --  Ends the program: the engine refused a step, so this runtime is wrong
 
 end System.Tasking.Protected_Objects.Queues;

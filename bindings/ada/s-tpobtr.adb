@@ -1,3 +1,5 @@
+--  SPDX-License-Identifier: MIT
+
 with Ada.Exceptions;
 with Interfaces.C;
 
@@ -19,14 +21,14 @@ package body System.Tasking.Protected_Objects.Traces is
    File       : Interfaces.C.int := -1;
 
    Room : constant := 2_000;
-   --  The most characters of a line; what is longer is cut
+   --  The greatest length of a line; a longer one is cut
 
    type Line is record
       Text : String (1 .. Room);
       Last : Natural;
    end record;
    pragma Suppress_Initialization (Line);
-   --  A line as it is put together
+   --  A line that is being put together
 
    procedure Begin_Line (L : out Line);
 
@@ -35,28 +37,28 @@ package body System.Tasking.Protected_Objects.Traces is
    procedure Put_Number (L : in out Line; Number : Natural);
 
    procedure Put_Address (L : in out Line; Where : System.Address);
-   --  In hexadecimal digits
+   --  Appends the number in hexadecimal digits
 
    function Code_Of (Action : System.Address) return System.Address;
-   --  The code of an entry's body. What stands for a nested one is a
-   --  descriptor, with one added to its address: the code is its second word.
+   --  The address of the code of an entry's body. A nested body is given by a
+   --  descriptor, with one added to its address: the second word is the code.
 
    procedure Put_Task (L : in out Line; T : Task_Id);
-   --  The task's name, and its address, since names may be the same
+   --  Appends the task's name, and its address because names may be the same
 
    procedure Put_Program (L : in out Line);
-   --  The running program's file, and where it stands in memory
+   --  Appends the running program's file, and the address it is loaded at
 
    function Is_Written
      (L : in out Line; Where : Interfaces.C.int) return Boolean;
-   --  Writes the line at once, and says whether all of it is written
+   --  Writes the line by one call, and returns whether all of it is written
 
    procedure Write (L : in out Line);
-   --  Writes the line to the record, behind those of other tasks. Where it
-   --  can't be written the record ends.
+   --  Appends the line to the record, after those of other tasks. If it can't
+   --  be written, the record ends.
 
    procedure Say (Text : String);
-   --  Tells on standard error what can't be recorded
+   --  Says on standard error what can't be recorded
 
    procedure Open_File (Path : System.Address);
 
@@ -163,7 +165,7 @@ package body System.Tasking.Protected_Objects.Traces is
                   Integer (C_Readlink
                     (Own'Address, Path'Address, Path'Length));
       Headers : constant := 3;
-      --  AT_PHDR: where the program's headers are
+      --  AT_PHDR: the address of the program's headers
    begin
       Put (L, "program ");
       Put_Address (L, C_Auxiliary (Headers));
@@ -256,7 +258,7 @@ package body System.Tasking.Protected_Objects.Traces is
          Say ("another program writes the file that POBJ_TRACE names:"
               & " nothing is traced here");
       else
-         --  What isn't a file can't be cut, and need not be
+         --  Something other than a file can't be cut, and need not be
 
          if C_Truncate (File, 0) /= 0 then
             null;

@@ -1,3 +1,4 @@
+# SPDX-License-Identifier: MIT
 # Shows the record of a program over pobj: awk -f trace.awk NAMES RECORD. NAMES has the addresses and names of entry bodies.
 
 function number_of(digits,   at, number) {
@@ -7,14 +8,14 @@ function number_of(digits,   at, number) {
     return number
 }
 
-# The task's name without its address, where no other task has it.
+# The task's name, without its address if no other task has the same name.
 function name_of(it,   short) {
     short = it
     sub(/_[0-9a-f]+$/, "", short)
     return tasks_of[short] == 1 ? short : it
 }
 
-# Learns a task, and that there is one more of its name.
+# Notes a task, and that there is one more of its name.
 function learn(it,   short) {
     if (it in is_known) return
     is_known[it] = 1
@@ -23,14 +24,14 @@ function learn(it,   short) {
     tasks_of[short]++
 }
 
-# The object that begins at this address: its number, and from the names of its bodies its type and its entries.
+# Notes the object made at this address: its number, and its type and entries from the names of its bodies.
 function make() {
     object_at[$1] = ++objects
     all[objects] = $3
     add(objects, 4)
 }
 
-# Entries of the object, from this word of the line on.
+# Adds entries of the object, from this word of the line on.
 function add(object, from,   at, next_one, parts, symbol, words, count) {
     for (at = from; at <= NF; at++) {
         next_one = ++entries[object]
@@ -47,7 +48,7 @@ function add(object, from,   at, next_one, parts, symbol, words, count) {
     gsub("__", ".", type_name[object])
 }
 
-# The entry of the object: by its name, or by its number where the program has no names; of a family the position in it.
+# The entry of the object: its name, or its number if the program has no names; in a family also the position.
 function entry_of(object, number,   at, name, behind) {
     for (at = entries[object]; at > 1 && first[object, at] + 0 > number; at--) {}
     name = entry_name[object, at]
@@ -56,7 +57,7 @@ function entry_of(object, number,   at, name, behind) {
     return behind - first[object, at] > 1 ? name "(#" number - first[object, at] + 1 ")" : name
 }
 
-# One more line of the object.
+# Adds a line of the object.
 function note(object, who, where, what) {
     lines_of[object]++
     who_of[object, lines_of[object]] = who

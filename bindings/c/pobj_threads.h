@@ -1,4 +1,5 @@
-/* Protected objects of Ada 2022 (ISO/IEC 8652:2023, 9.4 to 9.5.4) for threads of POSIX, over the proved engine of pobj.h.
+/* SPDX-License-Identifier: MIT */
+/* Protected objects of Ada 2022 (ISO/IEC 8652:2023, 9.4 to 9.5.4) for POSIX threads, over the proved engine of pobj.h.
 
    A program describes an object once, by its data and an array of entries, each with a barrier and a body:
 
@@ -7,21 +8,23 @@
        pobj_protected_make(&object, &buffer, entries, 2);
        pobj_entry_call(&object, GET, &item, NULL);
 
-   Threads call its entries, and an entry call waits while its barrier is closed. A mutex guards the object. Whoever holds it
-   carries out all that has become possible, the bodies of other callers too, and after the unlock it wakes exactly the
-   callers whose calls have ended. Each caller that waits has a condition variable of its own.
+   Threads call its entries, and an entry call waits while its barrier is closed. A mutex guards the object. The thread that
+   holds it carries out all that has become possible, the bodies of other callers too, and after the unlock it wakes exactly
+   the callers whose calls have ended. Each waiting caller has a condition variable of its own.
 
-   Barriers, bodies, procedures and functions run under the mutex, in whichever thread carries them out. They end by their
-   return alone: not by longjmp, an exception of C++ or the cancellation of their thread. They make no entry call, which is
-   potentially blocking (9.5.1). An operation on the object itself is refused there, but pobj_entry_count may be asked. There
+   Barriers, bodies, procedures and functions run under the mutex, in whichever thread carries them out. They must end by
+   returning: not by longjmp, a C++ exception or the cancellation of their thread. They make no entry call, which is
+   potentially blocking (9.5.1). There an operation on the object itself is refused; only pobj_entry_count is allowed. There
    are no priorities and no ceilings (D.3). pthread_cancel doesn't end a call that waits: pobj_abort does.
 
-   A barrier reads its own object alone. Bodies, procedures and functions may also run procedures and functions of other
+   A barrier reads only its own object. Bodies, procedures and functions may also run procedures and functions of other
    objects, and ask for counts there, as long as all threads lock objects in the same order. A requeue to another object
-   counts in this order: whoever carries it out locks that object, inside all objects that it is in.
+   counts in this order: the thread that carries it out locks that object while it is inside all its others. Two threads that
+   lock two objects in opposite orders may wait for each other for ever; the thread sanitizer (-fsanitize=thread) reports it.
 
-   This is a header alone, of C11 or C++17 with the atomics of GCC and Clang, for POSIX.1-2008. Under -std=c11, define
-   _POSIX_C_SOURCE as 200809L before the first header. Names that begin with pobj_threads_ aren't for programs. */
+   All code is in this header; it needs pobj.h and the library. It is C11 or C++17 with the atomics of GCC and Clang, for
+   POSIX.1-2008. Under -std=c11, define _POSIX_C_SOURCE as 200809L before the first header. Names that begin with
+   pobj_threads_ aren't for programs. */
 #ifndef POBJ_THREADS_H
 #define POBJ_THREADS_H
 
@@ -44,24 +47,24 @@ typedef struct pobj_call pobj_call;
 /* How a call ended. */
 typedef enum {
     POBJ_CALL_COMPLETED,     /* a body completed it (9.5.2) */
-    POBJ_CALL_ERROR,         /* a body completed it by an error, whose number is in the call's record */
-    POBJ_CALL_ABORTED,       /* it is cancelled by pobj_abort (9.5.3, 9.8) */
-    POBJ_CALL_EXPIRED,       /* it is cancelled: its time has come, or it is conditional and would wait (9.7.2, 9.7.3); if a body
-                                requeued it with abort, that body has run */
-    POBJ_CALL_PROGRAM_ERROR, /* the object is finalized (9.4), a barrier raised (9.5.3), another call's body answered
+    POBJ_CALL_ERROR,         /* a body completed it with an error, whose number is in the call's record */
+    POBJ_CALL_ABORTED,       /* pobj_abort cancelled it (9.5.3, 9.8) */
+    POBJ_CALL_EXPIRED,       /* it is cancelled: its time has come, or it is conditional and would wait (9.7.2, 9.7.3); if
+                                a body requeued it with abort, that body has run */
+    POBJ_CALL_PROGRAM_ERROR, /* the object is finalized (9.4), a barrier raised (9.5.3), another call's body returned
                                 POBJ_FAILED, or the queue was full (D.7) */
     POBJ_CALL_NO_MEMORY,     /* there was no memory to accept or to queue it; unless it was requeued, nothing has changed */
-    POBJ_CALL_MISUSE         /* no such entry or time; a record that is in use; a thread that is inside the object, be it one
-                                that carries out a requeue to it; a body that answered none of its numbers, or one of another
-                                requeue than its last */
+    POBJ_CALL_MISUSE         /* no such entry or time; the record is in use; the calling thread, or one that carries out a
+                                requeue to the object, is already inside it; or the body returned none of its numbers, or
+                                that of a requeue before its last */
 } pobj_outcome;
 
 /* An entry (9.5.2). */
 typedef struct {
     const char *name;                        /* for the reader */
-    bool (*barrier)(pobj_protected *object); /* whether it is open, or what pobj_raise_barrier answers; NULL: always open */
-    int (*body)(pobj_call *call);            /* POBJ_COMPLETED, or what pobj_raise or a requeue answers; or POBJ_FAILED, if the
-                                                data can't be relied upon: its own call is completed, by the error if
+    bool (*barrier)(pobj_protected *object); /* whether it is open, or what pobj_raise_barrier returns; NULL: always open */
+    int (*body)(pobj_call *call);            /* POBJ_COMPLETED, or what pobj_raise or a requeue returns; or POBJ_FAILED, if the
+                                                data can't be relied upon: its own call is completed, with the error if
                                                 pobj_raise was called before, all queued calls end by
                                                 POBJ_CALL_PROGRAM_ERROR, and later ones are taken as before */
 } pobj_entry;
@@ -69,7 +72,7 @@ typedef struct {
 /* A protected object (9.4). Barriers, procedures and functions read the first two parts; the rest isn't for programs. */
 struct pobj_protected {
     void *data;               /* the program's own, which the mutex guards */
-    uint64_t evaluated;       /* the entry whose barrier is evaluated: what one barrier of a family asks for (9.5.2) */
+    uint64_t evaluated;       /* the entry whose barrier is evaluated; a barrier that a family shares reads it (9.5.2) */
     const pobj_entry *entries;
     uint64_t number;          /* of the entries */
     bool raised;              /* the barrier that is evaluated raises */
@@ -78,19 +81,19 @@ struct pobj_protected {
     pthread_mutex_t mutex;
 };
 
-/* The record of a call, which begins as {0}, in C++ as {}. A thread may use one for all of its calls, one after the other. It
-   needs one only to be told the number of an error, or to be aborted. A body reads the first four parts; the rest isn't for
-   programs. */
+/* The record of a call, which begins as {0}, in C++ as {}. A thread may use one for all its calls, one after the other. It
+   needs one only to learn the number of an error, or to let others abort the call. A body reads the first four parts; the
+   rest isn't for programs. */
 struct pobj_call {
-    pobj_protected *object;   /* that the call is on; NULL: none, or it has ended */
+    pobj_protected *object;   /* that the call is on; NULL: there is no call, or it has ended */
     uint64_t entry;           /* whose body runs */
     void *parameters;         /* what the caller passed */
-    int error;                /* if the call ended by POBJ_CALL_ERROR: its number */
+    int error;                /* the number of the error, if the call ended by POBJ_CALL_ERROR */
     bool in_use;              /* from the beginning of a call until its thread goes on */
     bool aborted;
     bool due;                 /* it is conditional, or its time has come */
     bool without_abort;       /* its last requeue was without abort */
-    bool can_wait;            /* mutex and wake are made */
+    bool can_wait;            /* whether mutex and wake are made */
     bool woken;               /* the call has ended; the call's own mutex guards this */
     pobj_outcome outcome;
     pobj_protected *target;   /* of a requeue */
@@ -102,21 +105,21 @@ struct pobj_call {
     pthread_cond_t wake;
 };
 
-/* Inside a barrier: its evaluation raises, so that all queued calls end by POBJ_CALL_PROGRAM_ERROR (9.5.3). Answers what the
-   barrier is to return. */
+/* For a barrier: makes its evaluation raise, so that all queued calls end by POBJ_CALL_PROGRAM_ERROR (9.5.3). Returns what the
+   barrier has to return. */
 static inline bool pobj_raise_barrier(pobj_protected *object) {
     object->raised = true;
     return false;
 }
 
-/* Inside a body. All but the first answer what the body is to return. */
+/* For a body. All but the first return what the body has to return. */
 
-/* The data of the object. */
+/* Returns the data of the object. */
 static inline void *pobj_data(const pobj_call *call) {
     return call->object->data;
 }
 
-/* Completes the call by an error of this number, which isn't 0: its caller's answer is POBJ_CALL_ERROR (9.5.2). */
+/* Completes the call with an error of this number, which isn't 0: its caller gets POBJ_CALL_ERROR (9.5.2). */
 static inline int pobj_raise(pobj_call *call, int error) {
     call->error = error;
     return POBJ_COMPLETED;
@@ -129,20 +132,21 @@ static inline int pobj_threads_target(pobj_call *call, pobj_protected *object, u
     return how;
 }
 
-/* Requeues the call to an entry of this object, without abort: from now on it can't be cancelled, neither by pobj_abort nor
-   by its time, until it is requeued with abort (9.5.4). The entry takes the same parameters, or none. */
+/* Requeues the call to an entry of this object, without abort: from now on neither pobj_abort nor its time can cancel it,
+   until it is requeued with abort (9.5.4). The entry takes the same parameters, or none. */
 static inline int pobj_requeue(pobj_call *call, uint64_t entry) {
     return pobj_threads_target(call, call->object, entry, POBJ_REQUEUED, true);
 }
 
-/* The same with abort: it can be cancelled there, and is if it is aborted, or is due and would wait (9.5.4). */
+/* The same with abort: the call can be cancelled there, and is if it is aborted, or is due and would wait (9.5.4). */
 static inline int pobj_requeue_with_abort(pobj_call *call, uint64_t entry) {
     return pobj_threads_target(call, call->object, entry, POBJ_REQUEUED_WITH_ABORT, false);
 }
 
-/* Requeues the call without abort to an entry of another object. It is issued there as soon as this protected action is over
-   and its lock is left (9.5.4); its caller sleeps on. If that thread is inside the other object, as in a procedure of it, the
-   call ends by POBJ_CALL_MISUSE. Whoever destroys the other object joins the threads that can come there so before. */
+/* Requeues the call without abort to an entry of another object. The thread that runs the body issues it there as soon as this
+   protected action is over and this object's lock is left (9.5.4); its caller sleeps on. If that thread is inside the other
+   object, as in a procedure of it, the call ends by POBJ_CALL_MISUSE. Join all threads that may issue calls there in this way
+   before you destroy the other object. */
 static inline int pobj_requeue_elsewhere(pobj_call *call, pobj_protected *object, uint64_t entry) {
     return pobj_threads_target(call, object, entry, POBJ_REQUEUED_ELSEWHERE, true);
 }
@@ -152,8 +156,8 @@ static inline int pobj_requeue_elsewhere_with_abort(pobj_call *call, pobj_protec
     return pobj_threads_target(call, object, entry, POBJ_REQUEUED_ELSEWHERE, false);
 }
 
-/* What carries out the calls. A call's record is guarded by the mutex of the object that the call is on, but for what is said
-   otherwise of a part. A call that is requeued to another object is on that one from then on. */
+/* What carries out the calls. The mutex of the object that a call is on guards the call's record, except the parts whose
+   comments say otherwise. A call that is requeued to another object is on that one from then on. */
 
 typedef struct {
     pobj_call *first, *last;
@@ -164,8 +168,8 @@ typedef struct {
     pobj_protected *object;
     pobj_call *own;           /* the call of this very thread, which needs no waking */
     bool own_ended;
-    pobj_threads_list ended;  /* calls of other threads, which are to be woken */
-    pobj_threads_list moved;  /* calls that are to be issued on other objects */
+    pobj_threads_list ended;  /* calls of other threads, which have to be woken */
+    pobj_threads_list moved;  /* calls that have to be issued on other objects */
     pobj_step step;
 } pobj_threads_action;
 
@@ -190,8 +194,8 @@ static inline pobj_threads_action pobj_threads_action_of(pobj_call *own) {
     return action;
 }
 
-/* A call leaves an object only under that object's mutex. So who has locked the object that the call seemed to be on, and
-   still finds it there, may look at the call. */
+/* A call leaves an object only under that object's mutex. So a thread that has locked the object that the call seemed to be on,
+   and still finds it there, may look at the call. */
 static inline void pobj_threads_place(pobj_call *call, pobj_protected *object) {
     __atomic_store_n(&call->object, object, __ATOMIC_RELEASE);
 }
@@ -213,7 +217,7 @@ static inline bool pobj_threads_make_wake(pobj_call *call) {
     return made;
 }
 
-/* Makes what the caller sleeps on, once for a call. False: the system refused it. */
+/* Makes what the caller sleeps on, once for each call. Returns false if the system refuses it. */
 static inline bool pobj_threads_can_wait(pobj_call *call) {
     if (call->can_wait)
         return true;
@@ -226,7 +230,7 @@ static inline bool pobj_threads_can_wait(pobj_call *call) {
     return call->can_wait;
 }
 
-/* The call has ended so. */
+/* Ends the call with this outcome. */
 static inline void pobj_threads_end(pobj_threads_action *action, pobj_call *call, pobj_outcome outcome) {
     call->outcome = outcome;
     call->number = 0;
@@ -244,7 +248,7 @@ static inline void pobj_threads_wake(pobj_call *call) {
     pthread_mutex_unlock(&call->mutex);
 }
 
-/* What is known of the call when it is issued or requeued. */
+/* Returns the marks of the call when it is issued or requeued. */
 static inline uint64_t pobj_threads_marks(const pobj_call *call) {
     uint64_t due = call->due ? (uint64_t)POBJ_DUE : 0;
     return pobj_threads_is_aborted(call) ? due | POBJ_ABORTED : due;
@@ -271,7 +275,7 @@ static inline pobj_call *pobj_threads_caller(const pobj_threads_action *action) 
     return (pobj_call *)(uintptr_t)action->step.caller;
 }
 
-/* The call of the step is queued, and the barrier of an entry is asked for. */
+/* Keeps the ticket of the step's call, which is queued, and answers the barrier that the engine asks for. */
 static inline uint64_t pobj_threads_queued(pobj_threads_action *action, uint64_t entry) {
     pobj_call *call = pobj_threads_caller(action);
     call->key = action->step.key;
@@ -279,14 +283,14 @@ static inline uint64_t pobj_threads_queued(pobj_threads_action *action, uint64_t
     return pobj_threads_answer(action, entry);
 }
 
-/* The body has completed its call. */
+/* Tells the engine that the body has completed its call, and ends the call. */
 static inline uint64_t pobj_threads_complete(pobj_threads_action *action, pobj_call *call, int how, pobj_outcome outcome) {
     uint64_t answer = pobj_body_ended(&action->object->calls, (uint64_t)how, 0, 0, &action->step);
     pobj_threads_end(action, call, outcome);
     return answer;
 }
 
-/* The body has requeued its call to another object. */
+/* Tells the engine that the body has requeued its call to another object, and keeps the call for that one. */
 static inline uint64_t pobj_threads_move(pobj_threads_action *action, pobj_call *call) {
     uint64_t answer = pobj_body_ended(&action->object->calls, POBJ_REQUEUED_ELSEWHERE, 0, 0, &action->step);
     pobj_threads_append(&action->moved, call);
@@ -294,7 +298,7 @@ static inline uint64_t pobj_threads_move(pobj_threads_action *action, pobj_call 
     return answer;
 }
 
-/* The body has requeued its call. */
+/* Carries out the requeue of a call by its body. */
 static inline uint64_t pobj_threads_requeue(pobj_threads_action *action, pobj_call *call, int how) {
     if (call->target_entry >= call->target->number || (how != POBJ_REQUEUED_ELSEWHERE && call->target != action->object))
         return pobj_threads_complete(action, call, POBJ_COMPLETED, POBJ_CALL_MISUSE);
@@ -324,7 +328,7 @@ static inline uint64_t pobj_threads_run(pobj_threads_action *action, uint64_t en
     return pobj_threads_complete(action, call, POBJ_COMPLETED, POBJ_CALL_MISUSE);
 }
 
-/* The call of the step has ended without a body. */
+/* Ends the step's call, which no body completed. */
 static inline uint64_t pobj_threads_unserved(pobj_threads_action *action, pobj_outcome outcome) {
     pobj_threads_end(action, pobj_threads_caller(action), outcome);
     return pobj_next(&action->object->calls, &action->step);
@@ -335,7 +339,7 @@ static inline uint64_t pobj_threads_cancelled(pobj_threads_action *action) {
     return pobj_threads_unserved(action, is_aborted ? POBJ_CALL_ABORTED : POBJ_CALL_EXPIRED);
 }
 
-/* Does what is answered, until the protected action is over. */
+/* Does what the engine answers, until the protected action is over. */
 static inline void pobj_threads_drive(pobj_threads_action *action, uint64_t answer) {
     for (;;)
         switch (pobj_action_of(answer)) {
@@ -361,7 +365,7 @@ static inline void pobj_threads_drive(pobj_threads_action *action, uint64_t answ
         }
 }
 
-/* Begins a protected action on the object. False: this thread is inside it. */
+/* Begins a protected action on the object. Returns false if this thread is inside it. */
 static inline bool pobj_threads_enter(pobj_threads_action *action, pobj_protected *object) {
     action->object = object;
     return pthread_mutex_lock(&object->mutex) == 0;
@@ -374,7 +378,7 @@ static inline void pobj_threads_unlock(pobj_threads_action *action) {
         pobj_threads_wake(call);
 }
 
-/* Issues the call on the object of the action. If it may come to wait, whether it can is looked at first. */
+/* Issues the call on the object of the action. If the call may have to wait, first makes what its caller sleeps on. */
 static inline uint64_t pobj_threads_accept(pobj_threads_action *action, pobj_call *call, uint64_t entry) {
     pobj_protected *object = action->object;
     uint64_t barrier = pobj_threads_barrier(object, entry);
@@ -384,7 +388,7 @@ static inline uint64_t pobj_threads_accept(pobj_threads_action *action, pobj_cal
     return pobj_issue(&object->calls, (uint64_t)(uintptr_t)call, entry, marks, barrier, &action->step);
 }
 
-/* Issues the call on the object of the action, and does what is answered. */
+/* Issues the call on the object of the action, and does what the engine answers. */
 static inline void pobj_threads_issue(pobj_threads_action *action, pobj_call *call, uint64_t entry) {
     if (action->object->finalized) {
         pobj_threads_end(action, call, POBJ_CALL_PROGRAM_ERROR);
@@ -397,19 +401,19 @@ static inline void pobj_threads_issue(pobj_threads_action *action, pobj_call *ca
         pobj_threads_drive(action, answer);
 }
 
-/* A call that was requeued to another object goes on there. */
+/* Issues a call that was requeued to another object there. */
 static inline void pobj_threads_go_on(pobj_threads_action *action, pobj_call *call) {
     if (pobj_threads_enter(action, call->target)) {
         pobj_threads_issue(action, call, call->target_entry);
         pobj_threads_unlock(action);
         return;
     }
-    pobj_threads_end(action, call, POBJ_CALL_MISUSE); /* this thread is inside that object, and can't begin anew there */
+    pobj_threads_end(action, call, POBJ_CALL_MISUSE); /* this thread is inside that object, and can't begin an action there */
     if (call != action->own)
         pobj_threads_wake(pobj_threads_take(&action->ended));
 }
 
-/* Ends the protected action. The calls that are requeued to other objects then go on there. */
+/* Ends the protected action, then issues the calls that were requeued to other objects. */
 static inline void pobj_threads_leave(pobj_threads_action *action) {
     pobj_threads_unlock(action);
     for (pobj_call *call; (call = pobj_threads_take(&action->moved)) != NULL;)
@@ -431,7 +435,7 @@ static inline unsigned pobj_threads_withdraw(pobj_threads_action *action, pobj_c
     return (unsigned)made;
 }
 
-/* An attempt to cancel the call, wherever it is (9.5.3). */
+/* Attempts to cancel the call, wherever it is (9.5.3). */
 static inline unsigned pobj_threads_cancel(pobj_call *call, pobj_call *own, bool expired) {
     pobj_threads_action action = pobj_threads_action_of(own);
     for (pobj_protected *object; (object = pobj_threads_where(call)) != NULL; pobj_threads_unlock(&action)) {
@@ -446,7 +450,7 @@ static inline unsigned pobj_threads_cancel(pobj_call *call, pobj_call *own, bool
     return POBJ_CANCEL_UNKNOWN;
 }
 
-/* Sleeps until the call has ended: true; or until its time has come: false. */
+/* Sleeps until the call has ended or its time has come. Returns whether it has ended. */
 static inline bool pobj_threads_sleep(pobj_call *call, const struct timespec *until) {
     int error = 0;
     pthread_mutex_lock(&call->mutex);
@@ -469,7 +473,7 @@ static inline void pobj_threads_await(pobj_call *call, const struct timespec *un
     pthread_setcancelstate(before, &before);
 }
 
-/* Makes the call that a record of this thread describes. */
+/* Makes the call that a record of this thread describes, and waits until it has ended. */
 static inline pobj_outcome pobj_threads_make(
     pobj_protected *object, uint64_t entry, pobj_call *call, const struct timespec *until) {
     pobj_threads_action action = pobj_threads_action_of(call);
@@ -488,8 +492,9 @@ static inline pobj_outcome pobj_threads_make(
     return call->outcome;
 }
 
-/* Takes the record for a call. False: it is in use. Either an abort finds the call then, or the call sees the abort: one
-   writes where the call is and then reads whether it is aborted, the other in reverse, and all that in one order. */
+/* Takes the record for a call. Returns false if it is in use. Afterwards either an abort finds the call, or the call sees the
+   abort: the caller writes where the call is and then reads whether it is aborted, the aborting thread writes that it is
+   aborted and then reads where it is, and these accesses are sequentially consistent. */
 static inline bool pobj_threads_claim(pobj_call *call, pobj_protected *object) {
     if (__atomic_exchange_n(&call->in_use, true, __ATOMIC_ACQUIRE))
         return false;
@@ -499,7 +504,7 @@ static inline bool pobj_threads_claim(pobj_call *call, pobj_protected *object) {
 
 static inline pobj_outcome pobj_threads_call(
     pobj_protected *object, uint64_t entry, void *parameters, bool due, const struct timespec *until, pobj_call *record) {
-    pobj_call own; /* most of it is written only if the call waits */
+    pobj_call own; /* most parts are written only if the call waits */
     pobj_call *call = record == NULL ? &own : record;
     if (entry >= object->number)
         return POBJ_CALL_MISUSE;
@@ -528,7 +533,7 @@ static inline bool pobj_threads_make_mutex(pthread_mutex_t *mutex) {
     return made;
 }
 
-/* All of an object but the calls, which are made. */
+/* Makes all of an object except the calls, which are already made. Frees these if that fails. */
 static inline bool pobj_threads_set_up(pobj_protected *object, void *data, const pobj_entry *entries, uint64_t number) {
     object->data = data;
     object->evaluated = 0;
@@ -544,15 +549,15 @@ static inline bool pobj_threads_set_up(pobj_protected *object, void *data, const
 
 /* Objects. All but the first two functions require an object that is made. */
 
-/* Makes a protected object with these data and so many entries, an array of them (9.4). It takes memory as its calls need it.
-   The array and the data stay where they are for as long as the object is used. False, and no object: there is no memory, or
-   there are more than 65,535 entries. */
+/* Makes a protected object with these data and an array of `number` entries (9.4). It takes memory as its calls need it. The
+   array and the data have to stay where they are as long as the object is used. Returns whether the object is made: false if
+   there is no memory, or if `number` is more than 65,535. */
 static inline bool pobj_protected_make(pobj_protected *object, void *data, const pobj_entry *entries, uint64_t number) {
     object->calls.at = NULL;
     return pobj_make(&object->calls, number) && pobj_threads_set_up(object, data, entries, number);
 }
 
-/* The same with all its memory, for so many calls at once that are queued or being served. Any more calls are answered
+/* The same, but takes all memory now, for `calls` calls that are queued or being served at once. Any more end by
    POBJ_CALL_NO_MEMORY. */
 static inline bool pobj_protected_make_fixed(
     pobj_protected *object, void *data, const pobj_entry *entries, uint64_t number, size_t calls) {
@@ -560,8 +565,8 @@ static inline bool pobj_protected_make_fixed(
     return pobj_make_fixed(&object->calls, number, calls) && pobj_threads_set_up(object, data, entries, number);
 }
 
-/* From now on at most so many calls may be queued on the entry (Max_Entry_Queue_Length, D.7); 0: any number. Any more end by
-   POBJ_CALL_PROGRAM_ERROR. False: there is no such entry, or this thread is inside the object. */
+/* Limits the entry's queue to `longest` calls from now on (Max_Entry_Queue_Length, D.7); 0 means no limit. Any more end by
+   POBJ_CALL_PROGRAM_ERROR. Returns false if there is no such entry, or this thread is inside the object. */
 static inline bool pobj_protected_limit(pobj_protected *object, uint64_t entry, uint64_t longest) {
     if (pthread_mutex_lock(&object->mutex) != 0)
         return false;
@@ -571,7 +576,7 @@ static inline bool pobj_protected_limit(pobj_protected *object, uint64_t entry, 
 }
 
 /* Finalizes the object: each queued call ends by POBJ_CALL_PROGRAM_ERROR, and so does each later call, procedure and
-   function (9.4). False: this thread is inside the object. */
+   function (9.4). Returns false if this thread is inside the object. */
 static inline bool pobj_protected_finalize(pobj_protected *object) {
     pobj_threads_action action = pobj_threads_action_of(NULL);
     if (!pobj_threads_enter(&action, object))
@@ -584,16 +589,16 @@ static inline bool pobj_protected_finalize(pobj_protected *object) {
     return true;
 }
 
-/* Frees what the object takes. Required is that no thread is in an operation on it, or comes to one: so finalize it, and join
-   the threads that call it, whose calls are requeued to it, that carry out such a requeue, or that abort such calls. */
+/* Frees what the object takes. No thread may be in an operation on it, or begin one later. So first finalize it, and join the
+   threads that call it, whose calls are requeued to it, that carry out such a requeue, or that abort such calls. */
 static inline void pobj_protected_destroy(pobj_protected *object) {
     pobj_free(&object->calls);
     pthread_mutex_destroy(&object->mutex);
 }
 
-/* How many calls are queued on the entry ('Count, 9.9); 0 if there is no such entry. In the object's own barriers, bodies,
-   procedures and functions it holds while they run. Elsewhere it may have changed when it is read, and the object is locked
-   for it. */
+/* Returns how many calls are queued on the entry ('Count, 9.9), or 0 if there is no such entry. In the object's own barriers,
+   bodies, procedures and functions the count stays true while they run. Elsewhere this locks the object, and the count may have
+   changed by the time you read it. */
 static inline uint64_t pobj_entry_count(pobj_protected *object, uint64_t entry) {
     bool is_outside = pthread_mutex_lock(&object->mutex) == 0;
     uint64_t count = pobj_count(&object->calls, entry);
@@ -602,22 +607,22 @@ static inline uint64_t pobj_entry_count(pobj_protected *object, uint64_t entry) 
     return count;
 }
 
-/* Operations. Each requires an object that is made, and that its thread holds no lock that a barrier or a body takes. */
+/* Operations. Each requires an object that is made, and a thread that holds no lock that a barrier or a body takes. */
 
-/* An entry call: it waits until a body has completed it, or it has ended otherwise (9.5.3). The record may be NULL, as with
-   the other kinds of calls. */
+/* Makes an entry call: it waits until a body has completed it, or it has ended otherwise (9.5.3). The record may be NULL, as
+   with the other kinds of calls. */
 static inline pobj_outcome pobj_entry_call(pobj_protected *object, uint64_t entry, void *parameters, pobj_call *record) {
     return pobj_threads_call(object, entry, parameters, false, NULL, record);
 }
 
-/* A conditional entry call: it ends by POBJ_CALL_EXPIRED if it would wait (9.7.3), unless the queue is full (D.7). It waits
-   only if a body requeued it without abort (9.5.4). */
+/* Makes a conditional entry call: it ends by POBJ_CALL_EXPIRED if it would wait (9.7.3), unless the queue is full (D.7). It
+   waits only if a body requeued it without abort (9.5.4). */
 static inline pobj_outcome pobj_conditional_call(pobj_protected *object, uint64_t entry, void *parameters, pobj_call *record) {
     return pobj_threads_call(object, entry, parameters, true, NULL, record);
 }
 
-/* A timed entry call: it ends by POBJ_CALL_EXPIRED if it still waits at this time of CLOCK_MONOTONIC (9.7.2). If a body
-   requeued it without abort, it waits on (9.5.4). */
+/* Makes a timed entry call: it ends by POBJ_CALL_EXPIRED if it still waits at this time of CLOCK_MONOTONIC (9.7.2), which
+   pobj_time_from_now gives. If a body requeued it without abort, it waits on (9.5.4). */
 static inline pobj_outcome pobj_timed_call(
     pobj_protected *object, uint64_t entry, void *parameters, const struct timespec *until, pobj_call *record) {
     if (until == NULL || until->tv_sec < 0 || until->tv_nsec < 0 || until->tv_nsec > 999999999)
@@ -625,7 +630,7 @@ static inline pobj_outcome pobj_timed_call(
     return pobj_threads_call(object, entry, parameters, false, until, record);
 }
 
-/* The time of CLOCK_MONOTONIC so many nanoseconds from now. */
+/* Returns the time of CLOCK_MONOTONIC that is this number of nanoseconds from now: 1000000000 for one second. */
 static inline struct timespec pobj_time_from_now(uint64_t nanoseconds) {
     struct timespec time;
     clock_gettime(CLOCK_MONOTONIC, &time);
@@ -635,18 +640,22 @@ static inline struct timespec pobj_time_from_now(uint64_t nanoseconds) {
     return time;
 }
 
-/* Aborts the caller of the record (9.8). A queued call ends by POBJ_CALL_ABORTED, and the answer is POBJ_CANCEL_MADE. Else the
-   abort is remembered: POBJ_CANCEL_KEPT, for a call that a requeue without abort protects until it is requeued with abort
-   (9.5.4); POBJ_CANCEL_UNKNOWN, if no call is queued, for the next that comes to be. POBJ_CANCEL_REFUSED: this thread is
-   inside the object that the call is on, and is to do it again from outside. An abort is for good: the record is of use again
-   when it is made {0}. Required is that the record stays, and isn't made {0}, until this has returned. */
+/* Aborts the caller of the record (9.8). A queued call ends by POBJ_CALL_ABORTED, and this returns POBJ_CANCEL_MADE. Otherwise
+   the abort is remembered. POBJ_CANCEL_KEPT: a requeue without abort protects the call until it is requeued with abort (9.5.4).
+   POBJ_CANCEL_UNKNOWN: no call is queued, and the next one that would be is aborted. POBJ_CANCEL_REFUSED: this thread is inside
+   the object that the call is on, and has to repeat this from outside. An abort is for good: set the record to {0} to use it
+   again. Until this has returned, the record has to stay where it is, and mustn't be set to {0}. */
 static inline unsigned pobj_abort(pobj_call *record) {
     __atomic_store_n(&record->aborted, true, __ATOMIC_SEQ_CST);
     return pobj_threads_cancel(record, NULL, false);
 }
 
-/* A protected procedure (9.5.1): it runs under the lock, and then what it has made possible is carried out. The answer is
-   POBJ_CALL_COMPLETED; or POBJ_CALL_PROGRAM_ERROR, if the object is finalized, or POBJ_CALL_MISUSE, and then it didn't run. */
+/* Runs a protected procedure (9.5.1) under the lock, then carries out what it has made possible. The program writes it as:
+
+       static void clear(pobj_protected *object, void *parameters);
+
+   It finds the data in object->data, and gets the pointer passed here as its parameters. Returns POBJ_CALL_COMPLETED. If the
+   object is finalized returns POBJ_CALL_PROGRAM_ERROR, and if this thread is inside it POBJ_CALL_MISUSE: then it didn't run. */
 static inline pobj_outcome pobj_procedure(
     pobj_protected *object, void (*procedure)(pobj_protected *object, void *parameters), void *parameters) {
     pobj_threads_action action = pobj_threads_action_of(NULL);
@@ -661,8 +670,8 @@ static inline pobj_outcome pobj_procedure(
     return runs ? POBJ_CALL_COMPLETED : POBJ_CALL_PROGRAM_ERROR;
 }
 
-/* A protected function (9.5.1): it runs under the lock, and changes nothing that a barrier reads, so no queue is looked at.
-   The answer is as that of a procedure. */
+/* Runs a protected function (9.5.1) under the lock. It changes nothing that a barrier reads, so no queue is looked at. Its
+   signature and the values returned are those of a procedure. */
 static inline pobj_outcome pobj_function(
     pobj_protected *object, void (*function)(pobj_protected *object, void *parameters), void *parameters) {
     if (pthread_mutex_lock(&object->mutex) != 0)

@@ -1,5 +1,6 @@
-/* What calls cost, beside the same by a mutex and condition variables alone. A row has the nanoseconds of one call, or of one
-   item of a buffer, here and there: medians of 9 rounds, which take turns. */
+/* SPDX-License-Identifier: MIT */
+/* What calls cost here, by the library, and there, the same work by a mutex and condition variables alone. A row has the
+   nanoseconds of one call, or of one item of a buffer, here and there: medians of 9 rounds, which take turns. */
 #define _POSIX_C_SOURCE 200809L
 
 #include "pobj_threads.h"
@@ -28,7 +29,7 @@ static int take(struct data *data) {
     return item;
 }
 
-/* Here. */
+/* Here: by the library. */
 
 static struct data here;
 static pobj_protected object;
@@ -110,7 +111,7 @@ static void *get_all(void *none) {
     return none;
 }
 
-/* There. */
+/* There: by a mutex and condition variables. */
 
 static struct data there;
 static pthread_mutex_t mutex = PTHREAD_MUTEX_INITIALIZER;
@@ -156,7 +157,7 @@ static void *get_all_by_conditions(void *none) {
     return none;
 }
 
-/* Both. */
+/* What measures both. */
 
 static void start(pthread_t *thread, void *(*what)(void *), void *argument) {
     if (pthread_create(thread, NULL, what, argument) != 0)
@@ -215,7 +216,7 @@ static void row(const char *name, int times, void (*job_here)(void), void (*job_
     printf("%-40s%10.1f%10.1f\n", name, median(times_here), median(times_there));
 }
 
-/* Beside a thread that sleeps, locks are those of a program with threads. */
+/* A second thread, which sleeps, makes the locks those of a program with threads. */
 static void *sleep_for_good(void *none) {
     for (;;)
         pause();

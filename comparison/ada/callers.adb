@@ -21,10 +21,10 @@ package body Callers is
    package Caller_Vectors is new Ada.Containers.Vectors (Positive, Caller_Access);
    package Number_Vectors is new Ada.Containers.Vectors (Positive, Positive);
 
-   --  The tasks, that of a call in the place of its number.
+   --  The tasks, each at the place of its call's number.
    Tasks : Caller_Vectors.Vector;
 
-   --  The numbers of the calls whose tasks were aborted, and are not known to be gone.
+   --  The numbers of the calls whose tasks were aborted and aren't known to be gone.
    Aborted : Number_Vectors.Vector;
 
    task body Caller is

@@ -5,7 +5,7 @@ with Units; use Units;
 
 package Callers is
 
-   --  Starts a task that makes the call; its number is the next one.
+   --  Starts a task that makes the call, which gets the next number.
    procedure Start (Object : not null Unit_Access; To : Target; How : Manner; Item : Value);
 
    --  How many calls have been made.
@@ -14,8 +14,8 @@ package Callers is
    --  Aborts the task that makes the call.
    procedure Attempt_To_Cancel (Number : Positive);
 
-   --  Tells the ends of the calls whose tasks were aborted and have gone, which they couldn't do themselves. What no body
-   --  has ended has ended in that way.
+   --  Tells the ends of calls whose tasks were aborted and have gone, as these couldn't do so themselves. A call that no body
+   --  has ended counts as ended in this way.
    procedure Tell_For_Aborted (Otherwise_Finalized : Boolean);
 
 end Callers;

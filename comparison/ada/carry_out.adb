@@ -1,6 +1,6 @@
---  Carries out the script on standard input on a protected object of GNAT, and writes what `pobj run` writes. The word of
---  the command line is the step of time in milliseconds that a task is given to take note of something.
---  Status 0 at the end, 3 where the lines above a tick took longer than was planned: then a longer step is wanted.
+--  Carries out the script on standard input by a protected object of GNAT, and writes what `pobj run` writes. The word of the
+--  command line is the step of time, in milliseconds, that a task is given to take note of something. The status is 0 at the
+--  end, and 3 if the lines before a tick took longer than planned: then a longer step is needed.
 with Ada.Command_Line;
 with Ada.Text_IO; use Ada.Text_IO;
 with GNAT.OS_Lib;

@@ -14,27 +14,27 @@ package body Commands is
 
    procedure Free is new Ada.Unchecked_Deallocation (Unit'Class, Unit_Access);
 
-   --  How long, beside some steps of time, a call may be neither queued nor over before it counts as never woken.
+   --  How long, in addition to some steps of time, a call may be neither queued nor over before it counts as never woken.
    Patience : constant Time_Span := Seconds (1);
 
    type Declarations_Access is access Declarations;
 
    Step : Time_Span;
 
-   --  The object, which is there from the command `unit` up to `final`, and what is known of it afterwards too.
+   --  The object, which exists from the command `unit` until `final`, and what is known of it, also afterwards.
    Object         : Unit_Access;
    Finalized      : Boolean := False;
    Entry_List     : Declarations_Access;
    Procedure_Name : Unbounded_String;
 
-   --  What the script's clock shows.
+   --  The time of the script's clock.
    Clock_Now : Value := 0;
 
    --  How many ends have been written, and how many calls are never woken.
    Written : Natural := 0;
    Lost    : Natural := 0;
 
-   --  A command that Ada's own rules refuse, mostly when a program is compiled; the number is that of pobj.
+   --  A command that Ada's own rules refuse, mostly at compile time. The number is pobj's.
    Refused : exception;
 
    --  The decimal digits of the number.
@@ -44,7 +44,7 @@ package body Commands is
       return Spaced (Spaced'First + 1 .. Spaced'Last);
    end Image;
 
-   --  Writes a line: the text, and the number right behind it.
+   --  Writes a line: the text, and the number right after it.
    procedure Write (Text : String; Number : Value) is
    begin
       Put_Line (Text & Image (Number));
@@ -66,14 +66,14 @@ package body Commands is
       return Sum;
    end Calls_Queued;
 
-   --  How many calls are neither queued nor over. A call leaves its queue before it is told, so the queues come last.
+   --  How many calls are neither queued nor over. A call leaves its queue before its end is told, so the queues are read last.
    function Calls_Underway return Integer is
       Not_Told : constant Integer := Callers.Made - Lost - Ends.Told;
    begin
       return Not_Told - Calls_Queued;
    end Calls_Underway;
 
-   --  Waits until each call is queued or over. Calls that are neither for too long are never woken.
+   --  Waits until each call is queued or over. Calls that are neither for too long count as never woken.
    procedure Wait_For_Rest (Finalizing : Boolean := False) is
       Limit : constant Time := Clock + Patience + 5 * Step;
    begin
@@ -88,7 +88,7 @@ package body Commands is
       end loop;
    end Wait_For_Rest;
 
-   --  Waits until the call is over, but no longer than a step of time: it may be protected from being cancelled.
+   --  Waits until the call is over, but no longer than a step of time: it may be protected against cancellation.
    procedure Wait_For_End (Number : Positive) is
       Limit : constant Time := Clock + Step;
    begin
@@ -99,7 +99,7 @@ package body Commands is
       end loop;
    end Wait_For_End;
 
-   --  Writes the ends that were not written yet.
+   --  Writes the ends that aren't written yet.
    procedure Write_Ends is
       Ended : Ends.Call_End;
    begin
@@ -119,7 +119,7 @@ package body Commands is
       Written := Ends.Known;
    end Write_Ends;
 
-   --  Ends the command: what it led to, and calls that were lost by it.
+   --  Ends the command: writes what it led to, and which calls were lost.
    procedure Settle (Finalizing : Boolean := False) is
       Lost_Before : constant Natural := Lost;
    begin
@@ -134,7 +134,7 @@ package body Commands is
    -- Refusals --
    --------------
 
-   --  Ends the command as refused with that number where the condition holds.
+   --  Ends the command as refused with that number, if the condition holds.
    procedure Refuse_If (Condition : Boolean; Code : Positive) is
    begin
       if Condition then
@@ -191,7 +191,7 @@ package body Commands is
       Procedure_Name := To_Unbounded_String (Object.Procedure_Name);
    end Make_Unit;
 
-   --  `call`, `cond` and `timed`: a task makes the call. A timed one whose deadline is past may be queued for a moment.
+   --  `call`, `cond` and `timed`: a task makes the call. A timed call whose deadline is past may be queued for a moment.
    procedure Make_Call (To : String; How : Manner; Item : String; Is_Past : Boolean := False) is
       Its_Entry : constant Target := Named (To);
    begin
@@ -227,7 +227,7 @@ package body Commands is
       Write ("value ", Object.State);
    end Call_Function;
 
-   --  `cancel`: a call that hasn't ended after a step of time is kept.
+   --  `cancel`: a call that hasn't ended after a step of time counts as kept.
    procedure Cancel (Number : Value) is
    begin
       Refuse_If (Number = 0 or else Number > Value (Callers.Made), 5);

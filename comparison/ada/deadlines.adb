@@ -12,14 +12,14 @@ package body Deadlines is
    package Place_Vectors is new Ada.Containers.Vectors (Positive, Positive);
    use type Moment_Vectors.Vector;
 
-   --  A moment for each line of the script. A timed call's deadline is To, and it is due where that is past.
+   --  A moment for each line of the script. A timed call's deadline is To, and the call is due if that is past.
    Moments : Moment_Vectors.Vector;
 
    --  How many steps of time the line may take.
    function Steps (Command : String) return Positive is
      (if Command in "cancel" | "timed" then 6 else 1);
 
-   --  The deadlines among the waiting lines that have come at that clock, one after the other behind that time.
+   --  Gives the waiting lines whose deadlines have come at that clock times one after the other, after that time.
    procedure Make_Due
      (Script  : Scripts.Line_Vectors.Vector;
       Waiting : in out Place_Vectors.Vector;

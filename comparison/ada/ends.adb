@@ -2,7 +2,7 @@ package body Ends is
 
    package Place_Vectors is new Ada.Containers.Vectors (Positive, Positive);
 
-   --  The ends in their order, and the numbers of the calls that were told.
+   --  The ends in their order, and the numbers of the calls whose ends were told.
    protected Book is
       procedure Note (Ended : Call_End);
       procedure Tell (Ended : Call_End);
@@ -18,7 +18,7 @@ package body Ends is
 
    protected body Book is
 
-      --  The place of the call's end in the order, or 0 where none is noted.
+      --  The place of the call's end in the order, or 0 if none is noted.
       function Place_Of (Number : Positive) return Natural is
       begin
          for Place in 1 .. Natural (Order.Length) loop

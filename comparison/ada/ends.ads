@@ -1,5 +1,5 @@
---  How calls end. A body notes an end under the lock of its object, which gives the order; the task that made the call
---  tells it once it is out of the call, which shows that it was woken, and with what.
+--  How calls end. A body notes an end under the lock of its object, which gives the order. The task that made the call tells
+--  the end when it is out of the call, which shows that it was woken, and with what.
 with Calls; use Calls;
 private with Ada.Containers.Vectors;
 
@@ -13,16 +13,16 @@ package Ends is
       Item   : Value := 0;
    end record;
 
-   --  A body completes the call.
+   --  Notes that a body completes the call.
    procedure Complete (Ended : Call);
 
-   --  A body is about to raise the exception of that number.
+   --  Notes that a body is about to raise the exception of that number.
    procedure Fail (Ended : Call; Code : Value);
 
-   --  The call is over, as its task says, or as is known of a task that was aborted.
+   --  Tells that the call is over: its task says so, or its task was aborted and is gone.
    procedure Tell (Ended : Call_End);
 
-   --  The aborted task of the call has gone: its end is the one that a body noted, or else that kind.
+   --  Tells that the aborted task of the call is gone. The end is the one that a body noted, or else that kind.
    procedure Tell_For_Aborted (Number : Positive; Otherwise : Kind_Of_End);
 
    function Is_Told (Number : Positive) return Boolean;
@@ -30,7 +30,7 @@ package Ends is
    --  How many calls are over.
    function Told return Natural;
 
-   --  How many ends are noted or told, and the one at a place of their order.
+   --  How many ends are noted or told, and the end at a place in their order.
    function Known return Natural;
    function Known_End (Place : Positive) return Call_End;
 

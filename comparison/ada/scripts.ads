@@ -1,4 +1,4 @@
---  The lines of a script that say something, and their words.
+--  The lines of a script that are commands, and their words.
 with Ada.Containers.Indefinite_Vectors;
 
 package Scripts is
@@ -8,7 +8,7 @@ package Scripts is
    --  The lines of standard input, without those that are skipped.
    function Read return Line_Vectors.Vector;
 
-   --  The word at that place of the line, or no text where it has fewer words.
+   --  The word at that place of the line, or no text if the line has fewer words.
    function Word (Line : String; Place : Positive) return String;
 
 end Scripts;

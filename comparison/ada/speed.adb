@@ -1,5 +1,5 @@
---  Times what tasks do over and over with a protected object, as bench_calls does it with threads and an object of
---  pobj: the words are WORK TASKS TURNS, and it writes WORK TASKS DONE NANOSECONDS.
+--  Times what tasks do over and over with a protected object, as bench_calls does with threads and an object of pobj. Its words
+--  are WORK TASKS TURNS, and it writes WORK TASKS DONE NANOSECONDS.
 with Ada.Command_Line;
 with Ada.Real_Time; use Ada.Real_Time;
 with Ada.Synchronous_Barriers;
@@ -24,7 +24,7 @@ procedure Speed is
    Tasks : constant Positive := Positive'Value (Ada.Command_Line.Argument (2));
    Turns : constant Natural := Natural'Value (Ada.Command_Line.Argument (3));
 
-   --  A level of the trap at which the entries of its family are open.
+   --  A level of the trap at which the entries of the family are open.
    Open : constant Value := 3;
 
    The_Trap      : Trap;

@@ -1,5 +1,5 @@
---  Two tasks call the same function of one object. Each stays in it until the other one is there too, or for a second.
---  They meet unless functions of one object exclude each other.
+--  Two tasks call the same function of one object. Each stays in it until the other is there too, or for a second. They meet
+--  unless functions of one object exclude each other.
 with Ada.Real_Time; use Ada.Real_Time;
 with Ada.Text_IO;   use Ada.Text_IO;
 

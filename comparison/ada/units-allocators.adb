@@ -4,7 +4,7 @@ package body Units.Allocators is
 
    protected body Allocator is
 
-      --  Whether there are ever as many pieces as the call asks for; where not, its exception is noted.
+      --  Whether there can ever be as many pieces as the call asks for. If not, notes the call's exception.
       function Can_Be_Had (Item : Call) return Boolean is
       begin
          if Item.Item = 0 or else Item.Item > Value (Size) then

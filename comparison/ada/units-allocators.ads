@@ -1,4 +1,4 @@
---  The allocator: so many pieces of a resource, asked for and given back.
+--  The allocator: a number of pieces of a resource, which calls ask for and give back.
 package Units.Allocators is
 
    protected type Allocator (Size : Positive) is

@@ -1,4 +1,4 @@
---  The meeting: calls wait for one another, until as many are there as it is of.
+--  The meeting: calls wait for each other until there are as many as its size.
 package Units.Meetings is
 
    protected type Meeting (Size : Positive) is

@@ -1,4 +1,4 @@
---  The pulse: Signal lets all calls go that wait, and ends behind them.
+--  The pulse: Signal lets all waiting calls go, and ends after them.
 package Units.Pulses is
 
    protected type Pulse is

@@ -1,4 +1,4 @@
---  The signal: each Wait takes one that was sent.
+--  The signal: each Wait takes one signal that was sent.
 package Units.Signals is
 
    protected type Signal is

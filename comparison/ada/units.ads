@@ -1,14 +1,14 @@
---  What the program asks of a unit, whatever protected type stands behind it.
+--  What the program asks of a unit, whatever protected type carries it out.
 with Ada.Real_Time;
 with Calls; use Calls;
 with Names;
 
 package Units is
 
-   --  An operation raised an exception on its own account; the message is its number.
+   --  Raised by an operation as its own exception, whose number is the message.
    Failure : exception;
 
-   --  A single entry has no members, a family those from 1 to Members.
+   --  A single entry has no members; a family has those from 1 to Members.
    type Declaration is record
       Name    : Names.Entry_Name;
       Public  : Boolean := True;
@@ -17,10 +17,10 @@ package Units is
 
    type Declarations is array (Positive range <>) of Declaration;
 
-   --  How many calls wait on each entry, in the order of the declarations, members one by one.
+   --  How many calls wait on each entry, in the order of the declarations, with each member of a family.
    type Counts is array (Positive range <>) of Natural;
 
-   --  The entry that is called, and which member where it is a family.
+   --  The entry that is called, and the member if it is a family.
    type Target is record
       Name  : Names.Entry_Name;
       Index : Integer := 0;
@@ -28,7 +28,7 @@ package Units is
 
    type Kind_Of_Call is (Simple, Conditional, Timed);
 
-   --  How a call is made: the deadline is that of a timed call.
+   --  How a call is made. The deadline is for a timed call.
    type Manner is record
       Kind     : Kind_Of_Call;
       Deadline : Ada.Real_Time.Time := Ada.Real_Time.Time_First;
@@ -40,7 +40,7 @@ package Units is
 
    function Entries (Self : Unit) return Declarations is abstract;
 
-   --  The name of the procedure, or no text where the unit has none.
+   --  The name of the procedure, or no text if the unit has none.
    function Procedure_Name (Self : Unit) return String is ("");
 
    --  Calls the entry, and says in Selected whether the call was served.
@@ -54,10 +54,10 @@ package Units is
 
    function Waiting (Self : Unit) return Counts is abstract;
 
-   --  What the program asks for although no script that pobj carries out can name it.
+   --  Raised if the program asks for something that no script that pobj carries out can name.
    No_Such_Unit, No_Such_Entry : exception;
 
-   --  A new object of the unit; the size counts for those units alone that have one.
+   --  Makes a new object of the unit. Units without a size ignore the size.
    function Made (Name : String; Size : Positive) return not null Unit_Access;
 
 end Units;

@@ -1,12 +1,12 @@
---  Tasks are aborted while their calls are queued: three plain calls, three that a requeue with abort queued, and three that
---  a requeue without abort queued.
+--  Tasks are aborted while their calls are queued: three plain calls, three queued by a requeue with abort, and three queued
+--  by a requeue without abort.
 --
 --  9.8: the abort of a task that waits in an entry queue cancels its call. 9.5.4: a call that was requeued without abort is
---  protected against cancellation, so its body runs, and the task completes behind it: what stands behind the call isn't
---  carried out. D.4: those that stay keep their order.
+--  protected against cancellation, so its body runs, and then the task completes: what follows the call isn't carried out.
+--  D.4: those that stay keep their order.
 --
---  Prints how many wait before and behind the aborts, who was served in which order, and that all tasks came to their end
---  while only those that weren't aborted went on.
+--  Prints how many wait before and after the aborts, which calls were served in which order, and that all tasks ended while
+--  only those that weren't aborted went on.
 with Ada.Text_IO; use Ada.Text_IO;
 
 procedure Abort_While_Queued is

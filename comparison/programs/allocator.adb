@@ -1,11 +1,11 @@
 --  An allocator of three units. Request, which is always open, requeues each call with abort to the member of Grant that
---  is open when there are enough units: the classic use of requeue, as in the standard's own examples.
+--  is open when there are enough units: the classic use of requeue, as in the standard's examples.
 --
---  9.5.4: the requeue completes the body of Request, and the parameter goes along. 9.5.2: the barrier of a member of a family
+--  9.5.4: the requeue completes the body of Request, and passes the parameter on. 9.5.2: the barrier of a member of a family
 --  may use its index. 9.5.3: each release is a protected action, and grants what has become possible.
 --
---  Prints how many requests were granted and given back, the most that was ever in use, what is free in the end, and what
---  waits then.
+--  Prints how many requests were granted and given back, the most units ever in use, and how many units are free and how many
+--  calls wait at the end.
 with Ada.Text_IO; use Ada.Text_IO;
 
 procedure Allocator is

@@ -1,8 +1,8 @@
 --  Asynchronous selects whose trigger is an entry call, or a delay.
 --
---  9.7.4: where the trigger's call isn't queued, the abortable part doesn't begin. Where the abortable part completes first,
---  an attempt is made to cancel the call; where the call completes first, or the delay expires, the part is aborted. 9.5.4:
---  a call that was requeued without abort is protected against cancellation. 9.8: Finalize is carried out all the same.
+--  9.7.4: if the trigger's call isn't queued, the abortable part doesn't begin. If the abortable part completes first, an
+--  attempt is made to cancel the call. If the call completes first, or the delay expires, the part is aborted. 9.5.4: a call
+--  that was requeued without abort is protected against cancellation. 9.8: Finalize is still carried out.
 --
 --  Prints what happened in each select, and that nothing is left in a queue.
 with Ada.Finalization;
@@ -53,7 +53,7 @@ procedure Asynchronous_Selects is
 
    end Gate;
 
-   --  Opens the gate so many times, each time when a call waits at it and some time has gone by.
+   --  Opens the gate this number of times, each time when a call waits at it and some time has passed.
    task type Opener (Times : Positive);
 
    task body Opener is

@@ -1,10 +1,10 @@
---  A barrier raises an exception: when a call arrives, when a procedure has changed what it reads, behind a body, and while
+--  A barrier raises an exception: when a call arrives, when a procedure has changed what it reads, after a body, and while
 --  calls wait on other entries too.
 --
---  9.5.3: if the evaluation of a barrier raises, Program_Error is raised by all calls that are queued on the object, of all
---  its entries. The object isn't harmed: calls that come later are served as ever.
+--  9.5.3: if the evaluation of a barrier raises, all calls that are queued on the object, on any entry, raise Program_Error.
+--  The object isn't harmed: later calls are served as before.
 --
---  Prints which calls were served (S) and which got Program_Error (P), and that the object serves afterwards.
+--  Prints which calls were served (S) and which got Program_Error (P), and that the object still serves calls afterwards.
 with Ada.Exceptions;
 with Ada.Text_IO; use Ada.Text_IO;
 
@@ -113,7 +113,7 @@ begin
       when Occurrence : others =>
          Put_Line ("alone: " & Ada.Exceptions.Exception_Name (Occurrence));
    end;
-   --  An entry whose barrier isn't evaluated for nobody.
+   --  An entry whose barrier isn't evaluated while no call needs it.
    Gates.Set (Broken, Opened);
    Gates.Right;
    Put_Line ("the other entry serves");

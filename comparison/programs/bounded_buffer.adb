@@ -1,10 +1,10 @@
---  A bounded buffer between four producers and three consumers. Each value says who put it and as which one of his.
+--  A bounded buffer between four producers and three consumers. Each value says which producer put it, and its number there.
 --
 --  9.5.3: a caller waits as long as its barrier is closed, and queues are serviced at the end of each protected action, so
---  every call is selected some time. D.4: of one queue the call that came first goes first. So each value is got once,
+--  every call is selected at some time. D.4: of one queue the call that came first goes first. So each value is taken once,
 --  and a consumer gets the values of one producer in the order in which they were put.
 --
---  Prints how many were put and got, how many were got once, how many a consumer got out of order, and what is left.
+--  Prints how many were put and taken, how many were taken once, how many a consumer got out of order, and what is left.
 with Ada.Text_IO; use Ada.Text_IO;
 
 procedure Bounded_Buffer is
@@ -55,7 +55,7 @@ procedure Bounded_Buffer is
 
    end Buffer;
 
-   --  How often each value was got, by each consumer; and how many came to him out of order.
+   --  How often each consumer got each value, and how many values it got out of order.
    type Times is array (Producer_Number, 1 .. Each) of Natural;
 
    Got          : array (Consumer_Number) of Times   := [others => [others => [others => 0]]];

@@ -1,8 +1,8 @@
---  A conditional call on an entry that is closed, and opens when enough calls are counted in its queue.
+--  A conditional call on an entry that is closed, and opens when its queue counts enough calls.
 --
---  9.7.3: a conditional call is cancelled unless it is selected immediately. Whether it is queued, and counted, for a moment
---  is left open: the standard's own note says that it may briefly raise Count. So both outputs are allowed; the one beside
---  this program is that of an entry that does count it.
+--  9.7.3: a conditional call is cancelled unless it is selected immediately. The standard leaves open whether it is queued,
+--  and counted, for a moment: its note says that the call may briefly increase Count. So both outputs are allowed; the one
+--  beside this program is that of an entry that counts the call.
 --
 --  Prints what came of the conditional calls, how many wait, and how many were served.
 with Ada.Text_IO; use Ada.Text_IO;

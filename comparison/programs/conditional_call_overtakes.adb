@@ -1,8 +1,8 @@
 --  Calls wait on Last. A conditional call, which a requeue without abort protected against cancellation, is requeued with
---  abort to Last in the protected action that opens it.
+--  abort to Last in the protected action that opens Last.
 --
 --  9.5.4: a requeue to an entry of the same object adds the call to the queue of the entry, and the protected action goes on.
---  D.4: of one queue the call that came first is selected first. So the conditional call comes behind those that wait.
+--  D.4: of one queue the call that came first is selected first. So the conditional call comes after those that wait.
 --
 --  Prints in which order the calls were served.
 with Ada.Text_IO; use Ada.Text_IO;

@@ -1,8 +1,8 @@
 --  Barriers that use Count: a meeting of three, whose callers wait until three are there and then all go; and a pulse, which
---  lets go all that wait when it comes, and nobody who comes later.
+--  lets all calls go that wait when it comes, and no later ones.
 --
---  9.5.3: a barrier that uses Count is evaluated again when the queue has changed, also where a call was queued or was
---  cancelled. 9.9: Count is the number of calls in the queue.
+--  9.5.3: a barrier that uses Count is evaluated again when the queue has changed, also when a call was queued or cancelled.
+--  9.9: Count is the number of calls in the queue.
 --
 --  Prints how many wait, and how many were let go, after each step.
 with Ada.Text_IO; use Ada.Text_IO;
@@ -156,7 +156,7 @@ begin
    Pulse.Come;
    Say ("pulse for one", Pulse.Waiting, Pulse.Gone);
 
-   --  Two wait; one of them is aborted, and its leaving opens the entry for the other one.
+   --  Two wait; one of them is aborted, and as it leaves, the entry opens for the other.
    declare
       First, Second : Stayer;
    begin

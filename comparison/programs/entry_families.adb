@@ -1,10 +1,10 @@
 --  Families of entries: over an enumeration, over a range of integers, and one without a member.
 --
---  9.5.2: each member of a family has a queue and a barrier of its own, which may use the index; the index of a call is
---  evaluated before it, and Constraint_Error is raised where there is no such member. 9.9: Count is that of the member.
---  9.5.4: a requeue may go to any member. C.7.1: Caller in a body is the task whose call it serves.
+--  9.5.2: each member of a family has a queue and a barrier of its own, which may use the index. The index of a call is
+--  evaluated before the call, and Constraint_Error is raised if there is no such member. 9.9: Count is that of the member.
+--  9.5.4: a requeue may go to any member. C.7.1: Caller in a body is the task whose call the body serves.
 --
---  Prints Count of each member, who was served through which, and what calls of no member raise.
+--  Prints Count of each member, which calls were served through which member, and what a call of no member raises.
 with Ada.Strings.Unbounded;   use Ada.Strings.Unbounded;
 with Ada.Task_Identification; use Ada.Task_Identification;
 with Ada.Text_IO;             use Ada.Text_IO;
@@ -49,7 +49,7 @@ procedure Entry_Families is
          Last := Paint'Caller;
       end Paint;
 
-      --  A ride goes to the floor above, until there is none.
+      --  A ride goes to the next floor up, until there is none.
       entry Ride (for The_Floor in Floor) (Number : Positive) when Here = The_Floor is
       begin
          Note (The_Floor'Image & Number'Image & " ");
@@ -104,7 +104,7 @@ procedure Entry_Families is
       Told : constant Painter_Access := Painters (Expected);
    begin
       House.Dry (The_Colour);
-      --  The caller terminates behind its call.
+      --  The caller terminates after its call.
       while not Told.all'Terminated loop
          delay 0.001;
       end loop;
@@ -144,7 +144,7 @@ begin
    Dry (Blue, 5);
    Say_Served;
 
-   --  From floor 0 over 1 and 2 to 3, twice.
+   --  From floor 0 by 1 and 2 to 3, twice.
    House.Ride (0) (6);
    Say_Served;
    House.Ride (0) (7);

@@ -1,11 +1,11 @@
---  Bodies that raise: of an entry whose call is served at once, of one whose call waited, of one to which a call was
---  requeued, of a procedure, and of a function.
+--  Bodies that raise exceptions: of an entry whose call is served at once, of one whose call waited, of one to which a call
+--  was requeued, of a procedure, and of a function.
 --
---  9.5.2 and 9.5.3: an exception that a body doesn't handle is raised by the call that it serves, and by no other; the
---  servicing goes on. 9.5.1: a protected action ends by an exception of its procedure too, and the queues are serviced then:
---  what the body changed stays. The message comes along (11.4.1).
+--  9.5.2 and 9.5.3: an exception that a body doesn't handle is raised by the call that it serves, and by no other; servicing
+--  goes on. 9.5.1: an exception of its procedure also ends a protected action; then the queues are serviced, and what the
+--  body changed stays. The exception keeps its message (11.4.1).
 --
---  Prints what each call raised, and who was served beside it.
+--  Prints what each call raised, and which other calls were served.
 with Ada.Exceptions;        use Ada.Exceptions;
 with Ada.Strings.Unbounded; use Ada.Strings.Unbounded;
 with Ada.Text_IO;           use Ada.Text_IO;

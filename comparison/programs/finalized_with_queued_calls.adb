@@ -1,10 +1,10 @@
 --  Objects are finalized while calls are queued on them: one that was allocated, and one whose block is left. Some of the
---  calls are timed, and one is the trigger of an asynchronous select; two of the tasks were aborted before,
---  while their calls were protected against cancellation.
+--  calls are timed, and one is the trigger of an asynchronous select. Two of the tasks were aborted before, while their
+--  calls were protected against cancellation.
 --
---  9.4: at the finalization of a protected object Program_Error is raised by each call that is queued on it.
+--  9.4: when a protected object is finalized, each call that is queued on it raises Program_Error.
 --
---  Prints how many calls were served (S), how many raised Program_Error (P), and that all tasks came to their end.
+--  Prints how many calls were served (S), how many raised Program_Error (P), and that all tasks ended.
 with Ada.Text_IO; use Ada.Text_IO;
 with Ada.Unchecked_Deallocation;
 

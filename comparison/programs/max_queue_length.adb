@@ -1,7 +1,7 @@
 --  Entries whose queues are bounded: one by two calls, and a family by one call for each member.
 --
 --  D.4: a call or a requeue that would make a queue longer than its bound raises Program_Error, and the queue is as before.
---  GNAT 12 takes the standard's aspect Max_Entry_Queue_Length and passes it over: Max_Queue_Length, its own, is what counts.
+--  GNAT 12 accepts the standard's aspect Max_Entry_Queue_Length but ignores it; its own, Max_Queue_Length, is what counts.
 --
 --  Prints what calls raise, and how many wait.
 with Ada.Text_IO; use Ada.Text_IO;
@@ -116,7 +116,7 @@ begin
    end loop;
    Gate.Shut;
 
-   --  A place in the queue is free again when a call was cancelled.
+   --  A place in the queue is free again after a call was cancelled.
    Wait_Too (Plain);
    Wait_Too (Plain);
    abort A_Caller.all;

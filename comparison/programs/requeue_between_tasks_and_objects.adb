@@ -1,9 +1,9 @@
---  Requeues between entries of tasks and of protected objects: a body of an entry to an entry of a task, an accept statement
---  to an entry of an object, there and back again, with and without abort.
+--  Requeues between entries of tasks and of protected objects: from an entry body to an entry of a task, from an accept
+--  statement to an entry of an object, there and back again, with and without abort.
 --
---  9.5.4: the target of a requeue may be an entry of a task or of a protected object. It completes the body or the accept
---  statement; the parameter goes along, and the caller waits until the last one completes. A timed call that is requeued with
---  abort is cancelled wherever it waits then.
+--  9.5.4: the target of a requeue may be an entry of a task or of a protected object. The requeue completes the body or the
+--  accept statement and passes the parameter on, and the caller waits until the last one completes. A timed call that is
+--  requeued with abort is cancelled wherever it waits when its time comes.
 --
 --  Prints what the bodies and accept statements made of the parameter, and that nothing is left in a queue.
 with Ada.Text_IO; use Ada.Text_IO;

@@ -1,11 +1,11 @@
 --  Two calls wait, protected by a requeue without abort: a conditional one, then a simple one. A procedure opens their entry,
---  whose body requeues each with abort: the conditional one to an entry that is closed, where it is cancelled, and then the
---  simple one to an entry that is open.
+--  whose body requeues each with abort: first the conditional one to a closed entry, on which it is cancelled, and then the
+--  simple one to an open entry.
 --
---  9.5.3: as long as an entry is open that has a queued call, such a call is selected, before the protected action completes.
---  A cancelled call doesn't end that.
+--  9.5.3: as long as an open entry has a queued call, such a call is selected before the protected action completes. A
+--  cancelled call doesn't end that.
 --
---  Prints how many calls wait and were served right behind the procedure, and what came of the conditional call.
+--  Prints how many calls wait and were served right after the procedure, and what came of the conditional call.
 with Ada.Text_IO; use Ada.Text_IO;
 
 procedure Servicing_Ends_Early is
@@ -98,7 +98,7 @@ begin
       end loop;
       Put_Line ("waiting" & Waiting'Image & ", served" & Served'Image);
    end;
-   --  A further protected action serves what was left.
+   --  Another protected action serves what was left.
    Relay.Open;
    Put_Line ("waiting" & Relay.Waiting'Image & ", served" & Relay.Served'Image);
 end Servicing_Ends_Early;

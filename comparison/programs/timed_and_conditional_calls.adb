@@ -1,9 +1,9 @@
 --  Timed and conditional calls of one entry whose barrier is closed, open, or opened while the call waits, and of entries
 --  that requeue them.
 --
---  9.7.2: a timed call is cancelled when its time has come and it wasn't selected; one of no time is made all the same.
---  9.7.3: a conditional call is cancelled unless it is selected at once. 9.5.4: with abort the time stays that of the call;
---  without abort the call is protected against cancellation, and waits as long as it takes.
+--  9.7.2: a timed call is cancelled when its time has come and it wasn't selected; one whose time is zero is still made.
+--  9.7.3: a conditional call is cancelled unless it is selected at once. 9.5.4: requeued with abort, a call keeps its time;
+--  requeued without abort, it is protected against cancellation, and waits as long as it takes.
 --
 --  Prints what came of each call, and that no cancelled call is left in a queue.
 with Ada.Real_Time; use Ada.Real_Time;
@@ -48,7 +48,7 @@ procedure Timed_And_Conditional_Calls is
 
    end Gate;
 
-   --  Opens the gate as soon as a call waits at it, and so long has gone by.
+   --  Opens the gate when a call waits at it and this time has passed.
    task type Opener (Milliseconds : Natural);
 
    task body Opener is

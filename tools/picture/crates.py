@@ -1,7 +1,8 @@
-"""Draws the graph of the product's crates by crates.txt: a crate stands above those that it stands on, and an arrow goes to each of
-these that no other one of them stands on.
+# SPDX-License-Identifier: MIT
+"""Draws the graph of the product's crates by crates.txt. A crate is above those that it depends on. It has an arrow to each of
+these, except if another one of them depends on it.
 
-    crates.py CRATES_TXT          the picture, on standard output
+    crates.py CRATES_TXT          writes the picture to standard output
 """
 
 import pathlib
@@ -13,17 +14,17 @@ sys.path.insert(0, str(pathlib.Path(__file__).resolve().parent))
 
 from svg import box, picture, tag, text, told
 
-# What is no part of the product: tests, examples, and programs for the gate and for measuring.
+# The crates that are no part of the product: tests, examples, and programs that measure.
 NO_PRODUCT = re.compile(r"(test|example|bench)_.*")
-# In pixels: the margin, the height of a box, what is between two layers and between two boxes beside each other, and the room for
-# an arrow that passes a layer.
+# In pixels: the margin, the height of a box, the distance of two layers and of two neighbouring boxes, and the room for an arrow
+# that passes a layer.
 MARGIN, HIGH, BETWEEN, BESIDE, PASSING = 16, 26, 34, 14, 16
 LETTER = 6.7
 SWEEPS = 24
 
 
 def needs_in(words):
-    """The crates of the product that each one of them stands on, by the lines of crates.txt."""
+    """Returns for each crate of the product those that it depends on, by the text of crates.txt."""
     lines = [it.partition(":") for it in words.splitlines() if it and not it.startswith("#")]
     names = {it[0].split(" ")[0]: it[2].split() for it in lines}
     names = {name: needs for name, needs in names.items() if not NO_PRODUCT.fullmatch(name)}
@@ -31,7 +32,7 @@ def needs_in(words):
 
 
 def below(needs, name):
-    """All that a crate stands on."""
+    """Returns all crates that a crate depends on, directly or not."""
     found = set()
     for it in needs[name]:
         found |= {it} | below(needs, it)
@@ -39,12 +40,12 @@ def below(needs, name):
 
 
 def direct(needs):
-    """The arrows: what a crate stands on, without what stands below another one of these."""
+    """Returns the arrows: what each crate depends on, without what another one of these depends on."""
     return {name: [it for it in on if not any(it in below(needs, other) for other in on)] for name, on in needs.items()}
 
 
 def layers_of(arrows):
-    """The layer of each crate, from 0 at the bottom."""
+    """Returns the layer of each crate, from 0 at the bottom."""
 
     def layer(name):
         return 1 + max((layer(it) for it in arrows[name]), default=-1)
@@ -53,7 +54,7 @@ def layers_of(arrows):
 
 
 class Graph:
-    """The crates in layers. An arrow that passes layers has a place in each of them, so that it passes between the boxes."""
+    """The crates in layers. An arrow that passes layers has a place in each of them, so it goes between the boxes."""
 
     def __init__(self, needs):
         self.arrows = direct(needs)
@@ -72,7 +73,7 @@ class Graph:
         self.beside[node] = []
 
     def way(self, name, target):
-        """The way of an arrow, from layer to layer down."""
+        """Adds an arrow, and returns the boxes and places that it joins, from the upper box down."""
         way = [name]
         for layer in range(self.layers[name] - 1, self.layers[target], -1):
             way.append((name, target, layer))
@@ -85,11 +86,11 @@ class Graph:
 
     @staticmethod
     def width(node):
-        """How wide a box is, or the room for an arrow."""
+        """Returns the width of a box, or of the place of an arrow."""
         return LETTER * len(node) + 18 if isinstance(node, str) else PASSING
 
     def arrange(self):
-        """Orders each layer by the middle of what its boxes are joined with, up and down in turns, and then finds the places."""
+        """Orders each layer so that its boxes come near those that they are joined with, upwards and downwards in turns."""
         for row in self.rows:
             self.spread(row, range(len(row)))
         for turn in range(SWEEPS):
@@ -100,12 +101,12 @@ class Graph:
         self.centres = {it: x - low + MARGIN for it, x in self.centres.items()}
 
     def wishes(self, row):
-        """Where each of a layer would be best: in the middle of all that it is joined with."""
+        """Returns the best place for each box of a layer: the middle of all that it is joined with."""
         joined = [[self.centres[it] for it in self.beside[node]] or [self.centres[node]] for node in row]
         return [sum(places) / len(places) for places in joined]
 
     def spread(self, row, wishes):
-        """Orders a layer by its wishes, and sets its places as near to these as room allows."""
+        """Orders a layer by its wishes, and sets its places as near to them as room allows."""
         order = sorted(range(len(row)), key=lambda n: (wishes[n], n))
         wanted = [wishes[n] for n in order]
         row[:] = [row[n] for n in order]
@@ -116,7 +117,7 @@ class Graph:
 
 
 def rising(wanted):
-    """The rising numbers that are nearest to these: runs that fall become their mean."""
+    """Returns the rising numbers that are nearest to these: falling runs become their mean."""
     runs = []
     for it in wanted:
         runs.append([it, 1])
@@ -127,7 +128,7 @@ def rising(wanted):
 
 
 def arrow(graph, way, y):
-    """An arrow, with its words."""
+    """Returns an arrow, with its words."""
     middle = HIGH / 2
     x = graph.centres
     points = [f"M{x[way[0]]:.1f} {y(way[0]) + middle:.1f}"]
@@ -139,11 +140,11 @@ def arrow(graph, way, y):
         points.append("" if last else f"V{y(other) + middle:.1f}")
     end = x[way[-1]], y(way[-1]) - middle
     head = tag("path", {"d": f"M{end[0]:.1f} {end[1]:.1f}l-4 -7h8z", "class": "head-of"})
-    return told(f"{way[0]} stands on {way[-1]}", tag("path", {"d": "".join(points), "class": "arrow"}), head)
+    return told(f"{way[0]} depends on {way[-1]}", tag("path", {"d": "".join(points), "class": "arrow"}), head)
 
 
 def draw(words):
-    """The picture of the graph."""
+    """Returns the picture of the graph."""
     needs = needs_in(words)
     graph = Graph(needs)
     top = MARGIN + 34
@@ -153,16 +154,16 @@ def draw(words):
         return top + (len(graph.rows) - 1 - layer) * (HIGH + BETWEEN) + HIGH / 2
 
     width = max(graph.centres[it] + graph.width(it) / 2 for row in graph.rows for it in row) + MARGIN
-    parts = [text(MARGIN, 26, "The crates of the product, and what each stands on", "prose head")]
+    parts = [text(MARGIN, 26, "The crates of the product, and what each depends on", "prose head")]
     parts += [arrow(graph, way, y) for way in graph.ways]
     for name in graph.arrows:
         x, wide = graph.centres[name], graph.width(name)
         on = ", ".join(graph.arrows[name])
         square = box(x - wide / 2, y(name) - HIGH / 2, wide, float(HIGH), "crate", 3.0)
-        parts.append(told(f"{name}: stands on {on or 'no other crate'}", square, text(x, y(name) + 4, name, "", "middle")))
+        parts.append(told(f"{name}: depends on {on or 'no other crate'}", square, text(x, y(name) + 4, name, "", "middle")))
     height = top + len(graph.rows) * (HIGH + BETWEEN) - BETWEEN + MARGIN
-    said = " ".join(f"{name} stands on {', '.join(on)}." for name, on in graph.arrows.items() if on)
-    described = f"An arrow goes from a crate to one that it stands on. {said}"
+    said = " ".join(f"{name} depends on {', '.join(on)}." for name, on in graph.arrows.items() if on)
+    described = f"An arrow goes from a crate to one that it depends on. {said}"
     return picture(width, height, "The crates of the product", described, "graph", parts)
 
 

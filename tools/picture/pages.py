@@ -1,8 +1,8 @@
+# SPDX-License-Identifier: MIT
 """The pictures of the pages, docs/pictures/NAME.svg. Those of scripts are drawn from examples/NAME.pobj or
-comparison/differences/NAME.pobj, and from NAME.out beside the picture, which has what is answered to the copy of the script that
-asks for the state.
+comparison/differences/NAME.pobj, and from NAME.out beside the picture: the answers to a copy of the script that asks for the state.
 
-    pages.py asking NAME          that copy, on standard output
+    pages.py asking NAME          writes that copy to standard output
     pages.py draw                 draws all pictures of the pages
 """
 
@@ -23,7 +23,7 @@ SCRIPTS = (TOP / "examples", TOP / "comparison/differences")
 
 
 def script_of(name):
-    """The file of the script of that name."""
+    """Returns the file of the script of that name."""
     for folder in SCRIPTS:
         if (folder / f"{name}.pobj").exists():
             return folder / f"{name}.pobj"
@@ -31,14 +31,14 @@ def script_of(name):
 
 
 def of_script(name):
-    """The picture of a script."""
+    """Returns the picture of a script."""
     file = script_of(name)
     told = story.read(file.read_bytes(), (PICTURES / f"{name}.out").read_text())
     return timeline.draw(told, file.name)
 
 
 def all_pictures():
-    """All pictures of the pages, by their names."""
+    """Returns all pictures of the pages, by their names."""
     pictures = {file.stem: of_script(file.stem) for file in sorted(PICTURES.glob("*.out"))}
     pictures["crates"] = crates.draw((TOP / "crates.txt").read_text())
     pictures["waiting"] = sequence.draw()
@@ -46,7 +46,7 @@ def all_pictures():
 
 
 def main(words):
-    """Carries out the words, and gives the status."""
+    """Carries out the words, and returns the status."""
     if words[:1] == ["asking"] and len(words) == 2:
         sys.stdout.buffer.write(story.asking(script_of(words[1]).read_bytes())[0])
     elif words == ["draw"]:

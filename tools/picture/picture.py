@@ -1,7 +1,8 @@
-"""Draws what a script does as a time line, in SVG, on standard output. It has the program carry out a copy of the script, which
-asks for the state behind each command.
+# SPDX-License-Identifier: MIT
+"""Draws what a script does as a time line, in SVG. It has the program carry out a copy of the script, which asks for the state
+after each command.
 
-    picture.py PROGRAM [FILE]     PROGRAM carries out scripts, as `pobj` does; without a file the script is read from standard input
+    picture.py PROGRAM [FILE] [-o PICTURE]     PROGRAM carries out scripts, as `pobj` does
 """
 
 import os
@@ -17,12 +18,14 @@ sys.path.insert(0, str(pathlib.Path(__file__).resolve().parent))
 import story
 import timeline
 
-USAGE = """usage: pobj picture [FILE] > PICTURE.svg    draws a time line of what the script does
+USAGE = """usage: pobj picture [FILE] -o PICTURE.svg    draws a time line of what the script does
+       pobj picture [FILE] > PICTURE.svg
 
-Without a file the script is read from standard input. The picture is SVG, on standard output. Of a script with a fault it has what
-ran before. A script has at most 2,000 commands and 8 MiB.
+Without FILE the script is read from standard input. Without -o the picture, which is SVG, goes to standard output. If it can't be
+drawn, -o leaves PICTURE.svg as it was. If the script has a fault, the picture shows what ran before it. A script has at most 2,000
+commands and 8 MiB.
 
-Statuses: as of `pobj run`; 1 also where there is nothing to draw, or too much."""
+Statuses: those of `pobj run`; 1 also if there is nothing to draw, or too much."""
 MOST_COMMANDS, MOST_BYTES = 2_000, 8 * 2**20
 FAULT = re.compile(rb"pobj: line ([0-9]+): (.*)\n?")
 
@@ -36,7 +39,7 @@ class Refused(Exception):
 
 
 def script_in(words):
-    """The script that the words name, and the name of its file."""
+    """Returns the script that the words name, and the name of its file."""
     if not words:
         return sys.stdin.buffer.read(MOST_BYTES + 1), ""
     path = pathlib.Path(words[0])
@@ -48,9 +51,9 @@ def script_in(words):
 
 
 def look_at(script):
-    """Refuses a script of which no picture can be drawn."""
+    """Refuses a script that can't be drawn."""
     if len(script) > MOST_BYTES:
-        raise Refused("a picture is drawn of a script of at most 8 MiB", 1)
+        raise Refused("a script that is drawn has at most 8 MiB", 1)
     commands = list(story.commands_of(script))
     if not commands:
         raise Refused("the script has no command, so there is nothing to draw", 1)
@@ -59,7 +62,8 @@ def look_at(script):
 
 
 def own_line(said, numbers):
-    """What the program says of a line of the copy, of the script's own line, with that line and what is wrong; else as it is."""
+    """Returns what the program said on standard error, and the fault. If it names a line of the copy, the text names the script's
+    own line instead, and the fault is that line and what is wrong with it; else the text is as it was, and the fault None."""
     found = FAULT.fullmatch(said)
     if found is None or not 0 < int(found[1]) <= len(numbers):
         return said, None
@@ -68,8 +72,8 @@ def own_line(said, numbers):
 
 
 def carried_out(program, script):
-    """What the program answers to the copy of the script, the fault that ended it, and the status. What the program says goes to
-    standard error at once, as a trial says first that it takes a minute."""
+    """Returns what the program answers to the copy of the script, the fault that ended it, and the status. What the program writes
+    on standard error is passed on at once, since a trial says first that it takes a minute."""
     copy, numbers = story.asking(script)
     fault = None
     with tempfile.TemporaryFile() as given, tempfile.TemporaryFile() as taken:
@@ -86,7 +90,7 @@ def carried_out(program, script):
 
 
 def drawn(program, words):
-    """The picture of the script that the words name, and the status of its run."""
+    """Returns the picture of the script that the words name, or "" if there is none, and the status of its run."""
     script, name = script_in(words)
     look_at(script)
     answers, fault, status = carried_out(program, script)
@@ -96,22 +100,61 @@ def drawn(program, words):
     return timeline.draw(told, name) if told.commands else "", status
 
 
+def asked(words):
+    """Returns the words without `-o PICTURE`, and PICTURE or None. Instead of words that are refused it returns None."""
+    words, output = list(words), None
+    if "-o" in words[:-1]:
+        at = words.index("-o")
+        output = words[at + 1]
+        del words[at : at + 2]
+    return (None if len(words) > 1 or any(it.startswith("-") for it in words) else words), output
+
+
+def look_for_room(output):
+    """Refuses a file that can't be written, before the script takes its time."""
+    path = pathlib.Path(output)
+    if path.exists() and not path.is_file():
+        raise Refused(f"{output} isn't a file", 4)
+    if not os.access(path.resolve().parent, os.W_OK):
+        raise Refused(f"{output} can't be written: its folder isn't there, or can't be written", 4)
+
+
+def replace(output, picture):
+    """Writes the picture beside the file, and gives it the file's name once it is whole."""
+    path = pathlib.Path(output).resolve()
+    beside = path.with_name(f"{path.name}.{os.getpid()}")
+    try:
+        beside.write_text(picture)
+        beside.replace(path)
+    finally:
+        beside.unlink(missing_ok=True)
+
+
 def write(picture):
-    """Writes the picture to standard output, without a buffer that could be written once more."""
+    """Writes the picture to standard output, without a buffer that Python would write once more at its end."""
     rest = memoryview(picture.encode())
     while rest:
         rest = rest[os.write(1, rest) :]
 
 
-def main(program, words):
-    """Draws the picture, and gives the status."""
-    if words in (["--help"], ["-h"]):
-        print(USAGE)
-        return 0
-    if len(words) > 1 or (words and words[0].startswith("-")):
-        print(USAGE, file=sys.stderr)
-        return 2
+def put(picture, output):
+    """Writes the picture to the file, or to standard output if none is named, and returns the status."""
     try:
+        if output is None:
+            write(picture)
+        elif picture:
+            replace(output, picture)
+    except OSError as fault:
+        print("pobj: write failed" + (f": {output}: {fault.strerror}" if output else ""), file=sys.stderr)
+        return 4
+    return 0
+
+
+def carry_out(program, words, output):
+    """Draws the picture and writes it, and returns the status."""
+    try:
+        if output is not None:
+            look_for_room(output)
         picture, status = drawn(program, words)
     except Refused as refusal:
         print(f"pobj: {refusal}", file=sys.stderr)
@@ -121,12 +164,19 @@ def main(program, words):
         return 4
     except KeyboardInterrupt:
         return 130
-    try:
-        write(picture)
-    except OSError:
-        print("pobj: write failed", file=sys.stderr)
-        return 4
-    return status
+    return put(picture, output) or status
+
+
+def main(program, words):
+    """Carries out the words, and returns the status."""
+    if words in (["--help"], ["-h"]):
+        print(USAGE)
+        return 0
+    words, output = asked(words)
+    if words is None:
+        print(USAGE, file=sys.stderr)
+        return 2
+    return carry_out(program, words, output)
 
 
 if __name__ == "__main__":

@@ -1,11 +1,12 @@
-"""What a script did: its commands, and where each call was behind each of them. It is read off the answers of a run of a copy of
-the script, which asks for `State` and for `show` behind each command."""
+# SPDX-License-Identifier: MIT
+"""The story of a script: its commands, and on which queue each call was after each of them. It is worked out from the answers to a
+copy of the script, which asks for `State` and `show` after each command."""
 
 import re
 from dataclasses import dataclass, field
 
 END = re.compile(r"([0-9]+) (done [0-9]+|raised [0-9]+|cancelled|program_error)")
-# What the copy has behind each command.
+# What the copy has after each command.
 ASKED = b"func State 0\nshow\n"
 
 
@@ -15,8 +16,8 @@ class Unread(Exception):
 
 @dataclass
 class Command:
-    """A command that was carried out: its line, its words, its own answer, the calls that it ended and how; and behind it what
-    the function State answers, how many calls wait on each entry, and the clock."""
+    """A command that was carried out: its line, its words, its own answer, and the calls that it ended and how. Then the state
+    after it: what the function State answers, how many calls wait on each entry, and the clock."""
 
     line: int
     words: list
@@ -28,15 +29,15 @@ class Command:
 
     @property
     def text(self):
-        """The command as it is written."""
+        """Returns the command as it is written."""
         return " ".join(self.words)
 
 
 @dataclass
 class Call:
-    """A call: its number, its words, the place of its command; its stays in queues as lists of the entry and the places of the
-    commands at which it came and left, None where it never did; the places at which it was kept; and the place at which it
-    ended, and how."""
+    """A call: its number, its words, and the command that issued it. Then its stays in queues, each a list of the entry and of the
+    commands at which the call came and left (None if it never left); the commands that failed to cancel it (`kept`); and the
+    command at which it ended, and how. A command is given by its place among all commands."""
 
     number: int
     words: list
@@ -48,13 +49,13 @@ class Call:
 
     @property
     def text(self):
-        """The call as it is written."""
+        """Returns the call as it is written."""
         return f"#{self.number} {' '.join(self.words)}"
 
 
 @dataclass
 class Story:
-    """All commands but `show`, the calls by their numbers, the entries in order, and the fault that ended the script: its line,
+    """All commands except `show`, the calls by their numbers, the entries in order, and the fault that ended the script: its line,
     what the line says, and what is wrong with it."""
 
     commands: list
@@ -64,24 +65,24 @@ class Story:
 
 
 def lines_of(script):
-    """The lines of the script, which has any bytes, as texts."""
+    """Returns the lines of the script as texts. It may have any bytes."""
     lines = script.split(b"\n")
     return [it.decode("utf-8", "replace") for it in (lines if lines[-1] else lines[:-1])]
 
 
 def words_of(line):
-    """The words of a line, none where it is skipped."""
+    """Returns the words of a line, or none if the line is a comment."""
     words = [it for it in line.split(" ") if it]
     return [] if words and words[0].startswith("#") else words
 
 
 def commands_of(script):
-    """The lines that say something, by their numbers, with their words."""
+    """Returns the words of each line that has a command, by its number."""
     return {n: words for n, it in enumerate(lines_of(script), 1) if (words := words_of(it))}
 
 
 def asking(script):
-    """The copy of the script, and for each of its lines the number of the script's own."""
+    """Returns the copy that asks for the state, and for each of its lines the number of the script's own line."""
     commands, copy, numbers = commands_of(script), [], []
     for number, it in enumerate(script.split(b"\n")[: len(lines_of(script))], 1):
         copy += [it + b"\n", ASKED if number in commands else b""]
@@ -90,7 +91,7 @@ def asking(script):
 
 
 def segments(commands, answers):
-    """Each command that was carried out, with all that was answered up to the end of the `show` behind it."""
+    """Yields each command that was carried out, with all answers up to the end of the `show` after it."""
     rest = iter(answers)
     for number, words in list(commands.items()):
         shows, segment = (2 if words[0] == "show" else 1), []
@@ -104,7 +105,7 @@ def segments(commands, answers):
 
 
 def command_of(number, words, segment, entries):
-    """The command that was answered so; the unit has so many entries."""
+    """Returns a command from the answers to it and to what the copy asks after it. `entries` says how many entries the unit has."""
     shown = len(segment) - entries - 2
     state, counts = segment[shown - 1], dict(it.rsplit(" ", 1) for it in segment[shown:-2])
     own = [it for it in segment[: shown - 1] if not END.fullmatch(it)]
@@ -116,8 +117,8 @@ def command_of(number, words, segment, entries):
 
 
 def move(queues, command, new):
-    """Brings the queues to what they are behind the command, whose call is the new one, if it is one. Each queue is in order of
-    arrival, and so those that left it for another one were its first."""
+    """Changes the queues to what they are after the command. `new` is the call that it issued, or None. Each queue is in order of
+    arrival, so the calls that left one for another were its first."""
     ended = {number for number, _ in command.ends}
     for queue in queues.values():
         queue[:] = [it for it in queue if it not in ended]
@@ -131,26 +132,26 @@ def move(queues, command, new):
     for entry in lacking:
         queues[entry] += arriving
     if {entry: len(queue) for entry, queue in queues.items()} != command.counts:
-        raise Unread(f"line {command.line}: the lengths of the queues don't tell where each call waits")
+        raise Unread(f"line {command.line}: the lengths of the queues don't say where each call waits")
 
 
 def waiting(queues):
-    """Where each call waits, by its number."""
+    """Returns the entry on which each waiting call is queued, by its number."""
     return {number: entry for entry, queue in queues.items() for number in queue}
 
 
-def note_stays(calls, before, behind, place):
-    """Notes which calls left a queue by the command of this place, and which came into one."""
+def note_stays(calls, before, after, place):
+    """Notes which calls left a queue at the command of this place, and which came into one."""
     for number, entry in before.items():
-        if behind.get(number) != entry:
+        if after.get(number) != entry:
             calls[number].stays[-1][2] = place
-    for number, entry in behind.items():
+    for number, entry in after.items():
         if before.get(number) != entry:
             calls[number].stays.append([entry, place, None])
 
 
 def note(calls, queues, command, place):
-    """Notes what the command did to calls."""
+    """Notes what the command of this place did to calls."""
     new, before = int(command.answer[1:]) if command.answer.startswith("#") else None, waiting(queues)
     if new is not None:
         calls[new] = Call(new, command.words, place)
@@ -163,7 +164,8 @@ def note(calls, queues, command, place):
 
 
 def read(script, answers, fault=None):
-    """The story of a script whose copy was answered so. The fault is the number of its line, and what is wrong with it."""
+    """Returns the story of a script, from the answers to its copy. The fault is the number of its line, and what is wrong with
+    it."""
     story, queues = Story([], {}, []), {}
     wanted = {number: words for number, words in commands_of(script).items() if fault is None or number < fault[0]}
     try:

@@ -1,38 +1,40 @@
-"""What all pictures are made of: elements of SVG, and the style, which has colours for light and for dark."""
+# SPDX-License-Identifier: MIT
+"""What all pictures are made of: elements of SVG, and the style, which has colours for light and for dark screens."""
 
 import html
 import re
 
-# The width of a letter, in pixels: of a script's own words, which have one width, and of all other text, at most.
+# The width of a letter in pixels: in a script's own words, whose letters all have the same width, and the greatest in all other
+# text.
 LETTER = 6.7
 PROSE_LETTER = 6.5
-# Bytes that no XML may have, and characters that would change how the text beside them is shown.
+# Characters that XML doesn't allow, and those that would change how the text beside them is shown.
 UNSHOWN = re.compile("[\x00-\x1f\x7f-\x9f\u200b-\u200f\u2028-\u202e\u2060-\u206f\ufeff\ufffe\uffff]")
-# How many colours there are for entries. They are those of Paul Tol's light scheme, which readers without one kind of cone tell
-# apart, and on which dark text is read.
+# The colours of entries. They are Paul Tol's light scheme: colour-blind readers can tell them apart, and dark text on them is
+# legible.
 COLOURS = ("#77aadd", "#ee8866", "#eedd88", "#ffaabb", "#99ddff", "#44bb99", "#bbcc33", "#dddddd")
 LIGHT = {"paper": "#ffffff", "stripe": "#f3f5f8", "ink": "#1c2128", "quiet": "#57606a", "rule": "#c5ccd3", "fault": "#b3261e"}
 DARK = {"paper": "#0d1117", "stripe": "#181e27", "ink": "#e6edf3", "quiet": "#9aa5b1", "rule": "#3d4652", "fault": "#ff9d94"}
 
 
 def clean(text):
-    """The text as an element or an attribute may have it: what is no text is a mark that something stood there."""
+    """Returns the text as an element or an attribute may have it. A mark replaces each character that can't be shown."""
     return html.escape(UNSHOWN.sub("\ufffd", text))
 
 
 def tag(name, attributes, *content):
-    """An element. Numbers have one decimal at most, so that the same picture is always the same bytes."""
+    """Returns an element. Numbers have one decimal at most, so that the same picture is always the same bytes."""
     words = "".join(f' {key}="{short(value)}"' for key, value in attributes.items())
     return f"<{name}{words}>{''.join(content)}</{name}>" if content else f"<{name}{words}/>"
 
 
 def short(value):
-    """The value of an attribute."""
+    """Returns the value of an attribute as text."""
     return f"{value:.1f}".rstrip("0").rstrip(".") if isinstance(value, float) else clean(str(value))
 
 
 def text(x, y, words, kind="", anchor="start"):
-    """A text of this class, if there are words; `prose` is one that isn't a script's own."""
+    """Returns a text of this class, or nothing if there are no words. The class `prose` is for what isn't a script's own."""
     if not words:
         return ""
     attributes = {"x": x, "y": y, "class": kind, "text-anchor": anchor}
@@ -40,23 +42,23 @@ def text(x, y, words, kind="", anchor="start"):
 
 
 def line(x1, y1, x2, y2, kind):
-    """A line."""
+    """Returns a line."""
     return tag("line", {"x1": x1, "y1": y1, "x2": x2, "y2": y2, "class": kind})
 
 
 def box(x, y, width, height, kind, round=0):
-    """A rectangle."""
+    """Returns a rectangle."""
     attributes = {"x": x, "y": y, "width": width, "height": height, "class": kind}
     return tag("rect", {**attributes, "rx": round} if round else attributes)
 
 
 def told(words, *content, role="graphics-symbol img"):
-    """A part with what it says in words, for those who point at it and those who have it read to them."""
+    """Returns a part together with what it says in words, for readers who point at it and for screen readers."""
     return tag("g", {"role": role}, tag("title", {}, clean(words)), *content)
 
 
 def shortened(words, most):
-    """The words, with their middle left out where they have more letters."""
+    """Returns the words, with their middle left out if they have more than this many letters."""
     if len(words) <= most:
         return words
     kept = most - 1
@@ -64,7 +66,7 @@ def shortened(words, most):
 
 
 def colours(names):
-    """What the style says of these colours."""
+    """Returns the part of the style that sets these colours."""
     rules = (
         ".paper{fill:%(paper)s}.stripe{fill:%(stripe)s}text{fill:%(ink)s}.quiet{fill:%(quiet)s}.wrong{fill:%(fault)s}"
         ".rule{stroke:%(rule)s}.way{stroke:%(quiet)s}.full{fill:%(ink)s;stroke:%(paper)s}.open{fill:%(paper)s;stroke:%(ink)s}"
@@ -75,7 +77,7 @@ def colours(names):
 
 
 def style():
-    """The style of all pictures."""
+    """Returns the style of all pictures."""
     entries = "".join(f".c{n}{{fill:{colour}}}" for n, colour in enumerate(COLOURS))
     fixed = (
         'text{font:11px "DejaVu Sans Mono",Menlo,Consolas,monospace}'
@@ -89,7 +91,7 @@ def style():
 
 
 def picture(width, height, title, description, kind, parts):
-    """A whole picture of this kind."""
+    """Returns a whole picture of this kind."""
     size = f"0 0 {short(float(width))} {short(float(height))}"
     attributes = {
         "xmlns": "http://www.w3.org/2000/svg",

@@ -1,6 +1,7 @@
-"""Draws what a script did as a time line: a column for each command and a row for each call, from its issue through the queues to
-its end, with the state behind each command below. Where the columns don't fit side by side the time line goes on in bands, one
-below the other, as music does; a row stands in the bands in which something happens to its call."""
+# SPDX-License-Identifier: MIT
+"""Draws what a script did as a time line. Each command has a column, and each call a row, from its issue through the queues to its
+end. The state after each command is below. If the columns don't fit side by side, the time line goes on in a further band below,
+as music does. A band has a row for each call to which something happens in it."""
 
 import math
 import textwrap
@@ -9,18 +10,18 @@ import marks
 from story import Command
 from svg import COLOURS, LETTER, PROSE_LETTER, box, line, picture, shortened, tag, text, told
 
-# In pixels: how wide a picture is at most, which is more where it has more columns than FEW, and at least; its margin, the room at
-# the right for how a call ended; the height of a row, of a bar in it, of a line of words and of a line of the state; and how high
-# all calls at a glance are at most.
+# In pixels: the greatest width of a picture with at most FEW columns, and of one with more; the least width; the margin, and the
+# room at the right for how a call ended. Then the height of a row, of a bar in it, of a line of words and of a line of the state;
+# and the greatest height of all calls at a glance.
 WIDEST, WIDEST_OF_MANY, FEW, NARROWEST, MARGIN, RIGHT = 1140, 1400, 40, 560, 12, 112
 ROW, BAR, WORDS, STATE, GLANCE = 20, 15, 13, 16, 480
-# How many letters of a word, and of a call, are shown; all of it is in the words that are told.
+# How many letters of a word, and of a call, are shown at most. Titles have all of them.
 MOST_LETTERS, MOST_OF_CALL = 12, 30
 ORDINALS = {1: "st", 2: "nd", 3: "rd"}
 
 
 def parts_of(command):
-    """What stands above the column of a command, a line each."""
+    """Returns the lines above the column of a command."""
     words = command.words
     if words[0] == "unit":
         rows = words[:-2] + [" ".join(words[-2:])] if "max" in words else words
@@ -33,34 +34,34 @@ def parts_of(command):
 
 
 def told_of(command):
-    """A command in words: its answer, the calls that it ended, and the state behind it."""
+    """Returns a command in words: its answer, the calls that it ended, and the state after it."""
     if not command.counts:
         return f"Line {command.line} has a fault: {command.text}. The run ends there."
     said = [f"Line {command.line}: {command.text}.", f"Answer: {command.answer}." if command.answer else ""]
     ends = "; ".join(f"call {number} {how}" for number, how in command.ends)
-    said += [f"Calls that end: {ends}." if ends else "", f"Behind it: {state_of(command)}."]
+    said += [f"Calls that end: {ends}." if ends else "", f"After it: {state_of(command)}."]
     return " ".join(it for it in said if it)
 
 
 def state_of(command):
-    """The state behind a command in words."""
+    """Returns the state after a command in words."""
     waiting = ", ".join(f"{entry} {count}" for entry, count in command.counts.items() if count)
-    return f"State {command.state}; {'waiting ' + waiting if waiting else 'nobody waits'}; clock {command.clock}"
+    return f"State {command.state}; {'waiting ' + waiting if waiting else 'no call waits'}; clock {command.clock}"
 
 
 def ordinal(number):
-    """The number as of a place in an order."""
+    """Returns the number as an ordinal."""
     return f"{number}th" if 10 < number % 100 < 20 else f"{number}{ORDINALS.get(number % 10, 'th')}"
 
 
 def places_of(call):
-    """The places at which something happens to the call."""
+    """Returns the places of the commands at which something happens to the call."""
     places = [call.begun, call.ended, *call.kept, *(place for stay in call.stays for place in stay[1:])]
     return [it for it in places if it is not None]
 
 
 def ranges(numbers):
-    """The numbers of calls in short: those that follow each other as from one to another."""
+    """Returns the numbers of calls in short: neighbours as a range."""
     runs = []
     for number in numbers:
         if runs and number == runs[-1][1] + 1:
@@ -71,7 +72,7 @@ def ranges(numbers):
 
 
 class Timeline:
-    """What all bands of a picture have in common."""
+    """What all bands of a picture share."""
 
     def __init__(self, story):
         self.story = story
@@ -91,26 +92,26 @@ class Timeline:
                 self.touched[place].add(call.number)
 
     def parts_of(self, column):
-        """What stands above a column: of one that is a fault, the beginning of the line."""
+        """Returns the lines above a column. Above a fault it is the faulty line, shortened."""
         return parts_of(column) if column.counts else [shortened(column.words[1].strip(" "), MOST_LETTERS)]
 
     def letters(self):
-        """How many letters the longest label of a row has."""
+        """Returns how many letters the longest label of a row has."""
         labels = [len(it.text) for it in self.story.calls.values()] + [len(f"wait on {it}") for it in self.used]
         return min(max(labels, default=0), MOST_OF_CALL) + 1
 
     def column_width(self):
-        """How wide a column is, so that words above it, answers, and the names of queues in bars fit in."""
+        """Returns the width of a column, which has room for the words above it, answers, and the names of queues in bars."""
         words = [len(it) for parts in self.parts for it in parts]
         words += [min(len(it.answer), MOST_LETTERS) for it in self.columns]
         return max(LETTER * max(words) + 8, max([len(it) * 6.1 + 18 for it in self.used], default=0), 50.0)
 
     def colour(self, entry):
-        """The class of an entry's colour."""
+        """Returns the class of an entry's colour."""
         return f"c{self.used.index(entry) % len(COLOURS)}"
 
     def bands(self):
-        """The bands, about as long as each other: the first column of each, and the one behind its last."""
+        """Returns the bands, which are about equally long: the first column of each, and the one after its last."""
         columns = len(self.columns)
         room = (WIDEST if columns <= FEW else WIDEST_OF_MANY) - self.left - RIGHT
         fit = columns if columns * self.column <= room else max(int((room - self.lead(1)) / self.column), 1)
@@ -118,7 +119,7 @@ class Timeline:
         return [(n * columns // count, (n + 1) * columns // count) for n in range(count)]
 
     def lead(self, start):
-        """The room before the columns of a band for the names of the queues in which calls wait already."""
+        """Returns the room before the first column of a band, for the names of the queues in which calls wait already."""
         return max([len(it) * 6.1 + 10 for it in self.used], default=0) if start else 0
 
 
@@ -138,11 +139,11 @@ class Band:
         self.bottom = self.state_top + STATE * len(self.state_rows()) + 10
 
     def has(self, place):
-        """Whether the command of this place stands in the band."""
+        """Whether the command of this place is in the band."""
         return place is not None and self.start <= place < self.stop
 
     def waiting_all_along(self):
-        """The calls that wait on each entry from before the band to behind it, and that have no row."""
+        """Returns for each entry the calls that wait on it from before the band until after it, and that have no row."""
         found, have_rows = {}, {it.number for it in self.rows}
         for call in self.whole.story.calls.values():
             for entry, came, left in call.stays:
@@ -151,21 +152,21 @@ class Band:
         return [(entry, found[entry]) for entry in self.whole.used if entry in found]
 
     def x(self, place):
-        """The middle of a column."""
+        """Returns the middle of a column."""
         return self.first + (place - self.start + 0.5) * self.whole.column
 
     def y(self, row):
-        """The middle of a row."""
+        """Returns the middle of a row."""
         return self.rows_top + (row + 0.5) * ROW
 
     def state_rows(self):
-        """The lines of the state: what each is called, and what it says of a command."""
+        """Returns the lines of the state: the name of each, and a function that returns its text for a command."""
         waits = [(f"wait on {it}", lambda command, entry=it: str(command.counts[entry])) for it in self.whole.used]
         clock = [("clock", lambda command: command.clock)] if self.whole.timed else []
         return [*waits, ("State", lambda command: command.state), *clock]
 
     def draw(self):
-        """All of the band."""
+        """Returns all parts of the band."""
         places = range(self.start, self.stop)
         parts = [self.stripe(place) for place in places if place % 2 == 0]
         parts += [line(MARGIN, y, self.right, y, "rule") for y in (self.rows_top - 1, self.state_top)]
@@ -175,23 +176,23 @@ class Band:
         return parts
 
     def stripe(self, place):
-        """What sets off a column from those beside it."""
+        """Returns the stripe that sets off a column from its neighbours."""
         return box(self.x(place) - self.whole.column / 2, self.top, self.whole.column, self.bottom - self.top - 4, "stripe")
 
     def labels(self):
-        """What stands left of the words, and left of the state."""
+        """Returns the labels left of the words and left of the state."""
         names = [text(MARGIN, self.top + 11, "line", "prose quiet"), text(MARGIN, self.answers, "answer", "prose quiet")]
         for n, (name, _) in enumerate(self.state_rows()):
             names.append(text(MARGIN, self.state_top + 13 + STATE * n, shortened(name, MOST_OF_CALL), "quiet"))
         return "".join(names)
 
     def way(self, place):
-        """A line from a command to the calls with which it does something."""
+        """Returns a line from a command to the last call with which it does something."""
         rows = [n for n, call in enumerate(self.rows) if call.number in self.whole.touched[place]]
         return line(self.x(place), self.marks, self.x(place), self.y(rows[-1]), "way") if rows else ""
 
     def head(self, place):
-        """The words of a column, its mark, and the state behind its command."""
+        """Returns the words of a column, its mark, and the state after its command."""
         command, x = self.whole.columns[place], self.x(place)
         wrong = "" if command.counts else "wrong"
         parts = [box(x - self.whole.column / 2, self.top, self.whole.column, self.bottom - self.top - 4, "hit")]
@@ -205,7 +206,7 @@ class Band:
         return told(told_of(command), *parts, role="graphics-object group")
 
     def state(self, place):
-        """The state behind a command; what has changed there stands out."""
+        """Returns the state after a command. What the command changed is bold."""
         parts = []
         for n, (_, say) in enumerate(self.state_rows()):
             said = say(self.whole.columns[place])
@@ -215,7 +216,7 @@ class Band:
         return parts
 
     def row(self, n, call):
-        """The row of a call."""
+        """Returns the row of a call."""
         y = self.y(n)
         parts = [text(MARGIN, y + 4, shortened(call.text, MOST_OF_CALL))]
         parts += [self.bar(call, *stay, y) for stay in call.stays if self.touches(stay)]
@@ -232,12 +233,12 @@ class Band:
         return stay[1] < self.stop and (stay[2] is None or stay[2] >= self.start)
 
     def lines(self, came, left):
-        """From which line to which one a stay lasts."""
+        """Returns in words from which line to which one a stay lasts."""
         first = f"from line {self.whole.columns[came].line}"
         return f"{first} to the end" if left is None else f"{first} to line {self.whole.columns[left].line}"
 
     def told_of(self, call):
-        """A call in words."""
+        """Returns a call in words."""
         stays = [f"waits on {entry} {self.lines(came, left)}" for entry, came, left in call.stays]
         stays += [f"is kept at line {self.whole.columns[place].line}" for place in call.kept]
         if call.ended is not None:
@@ -245,7 +246,7 @@ class Band:
         return f"Call {call.text}: " + ", ".join([f"is issued at line {self.whole.columns[call.begun].line}", *stays]) + "."
 
     def bar(self, call, entry, came, left, y):
-        """A stay in a queue."""
+        """Returns the bar of a stay in a queue."""
         x1 = self.x(came) if came >= self.start else self.first - self.whole.lead(self.start)
         goes_on = left is None or left >= self.stop
         x2 = self.right if goes_on else self.x(left)
@@ -258,17 +259,18 @@ class Band:
         return told(f"Call {call.number} waits on {entry} {self.lines(came, left)}.", *parts)
 
     def goes_on(self, y, at_the_end):
-        """What stands behind a wait that goes on; other words where this is the end of the script."""
+        """Returns the text after a wait that goes on: an arrow, or these words in the last band."""
         if self.stop == len(self.whole.columns):
             return text(self.right + 5, y + 4, at_the_end, "halo")
         return text(self.right + 5, y + 4, "→", "quiet")
 
     def mark(self, call, what, place, y, form):
-        """A mark in a row."""
+        """Returns a mark in a row."""
         return told(f"Call {call.number} {what} at line {self.whole.columns[place].line}.", form(self.x(place), y))
 
     def end(self, call, y):
-        """The end of a call, with a ring around it where it came at once; of several that one command ended, which one it is."""
+        """Returns the end of a call, with a ring around it if the call ended at once. If the command ended several calls, it has
+        this one's turn among them."""
         x, command = self.x(call.ended), self.whole.columns[call.ended]
         ring = tag("circle", {"cx": x, "cy": y, "r": 8.5, "class": "open"}) if call.ended == call.begun else ""
         number = 1 + [number for number, _ in command.ends].index(call.number)
@@ -279,18 +281,18 @@ class Band:
         return told(f"Call {call.number} ends at line {command.line}: {call.how}{of_all}.", ring, mark, said)
 
     def group(self, n, entry, numbers):
-        """The calls that wait on an entry all along, in one row."""
+        """Returns one row for the calls that wait on an entry all along."""
         y, x1 = self.y(n), self.first - self.whole.lead(self.start)
         said = f"{entry}: {ranges(numbers)}"
         fit = int((self.right - x1 - 14) / 6.1)
         bar = box(x1, y - BAR / 2, self.right - x1, float(BAR), f"bar {self.whole.colour(entry)}", 2.0)
         parts = [text(MARGIN, y + 4, f"{len(numbers)} more", "quiet"), bar, text(x1 + 7, y + 4, shortened(said, fit), "inside")]
         parts.append(self.goes_on(y, "still waits" if len(numbers) == 1 else "still wait"))
-        return told(f"All along these wait on {entry}: {ranges(numbers)}.", *parts, role="graphics-object group")
+        return told(f"These wait on {entry} all along: {ranges(numbers)}.", *parts, role="graphics-object group")
 
 
 def glance(whole, top, width):
-    """All bands at a glance: a line for each call. What it shows stands in the bands too, in words."""
+    """Returns all bands at a glance: a line for each call. The bands say the same in words."""
     calls, count = list(whole.story.calls.values()), len(whole.columns)
     height = min(max(GLANCE / max(len(calls), 1), 0.25), 4.0)
     step = (width - whole.left - RIGHT) / count
@@ -312,7 +314,7 @@ def glance(whole, top, width):
 
 
 def used_marks(whole):
-    """The names of the marks that the picture has."""
+    """Returns the names of the marks that the picture has."""
     calls = whole.story.calls.values()
     names = {it.words[0] for it in whole.columns if not it.answer.startswith("refused")}
     names |= {it.how.split(" ")[0] for it in calls if it.how} | ({"kept"} if any(it.kept for it in calls) else set())
@@ -320,12 +322,12 @@ def used_marks(whole):
 
 
 def swatch(colour):
-    """What draws a piece of a bar in this colour."""
+    """Returns a function that draws a piece of a bar in this colour."""
     return lambda x, y: box(x - 9, y - 6, 18.0, 12.0, f"bar {colour}", 2.0)
 
 
 def legend(whole, top, width):
-    """What marks and colours mean, line below line."""
+    """Returns the legend, which says what marks and colours mean, and its lower edge."""
     items = [(LETTER * len(it) + 30, swatch(whole.colour(it)), it, "") for it in whole.used]
     used = used_marks(whole)
     for key, (form, name) in marks.NAMES.items():
@@ -341,7 +343,7 @@ def legend(whole, top, width):
 
 
 def summary(story):
-    """How many commands and calls there are, and how the calls ended."""
+    """Returns in words how many commands and calls there are, and how the calls ended."""
     calls = list(story.calls.values())
     ends = {}
     for call in calls:
@@ -353,13 +355,13 @@ def summary(story):
 
 
 def fault_line(story):
-    """What is said of the fault."""
+    """Returns the fault in words."""
     number, source, wrong = story.fault
     return f"Line {number} has a fault, {wrong}, and the run ends there: {shortened(source.strip(' '), 60)}"
 
 
 def draw(story, name):
-    """The picture of a story; the name is that of the script's file, or "" where it has none."""
+    """Returns the picture of a story. The name is that of the script's file, or "" if it has none."""
     whole = Timeline(story)
     bands = whole.bands()
     widest = max(whole.left + whole.lead(start) + (stop - start) * whole.column for start, stop in bands)

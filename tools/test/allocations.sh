@@ -1,8 +1,9 @@
+# SPDX-License-Identifier: MIT
 # shellcheck shell=bash
-# The program of refused memory. Read by `test`.
+# The program that is refused memory. Read by `test`.
 
-# Runs the program test_memory on a share of the inputs, the allocation with the number $most refused. What each run wrote comes
-# into a file of its own.
+# Runs the program test_memory on a share of the inputs, and refuses its allocation with the number $most each time. What each run
+# writes goes to a file of its own.
 run_share() {
   (cd crates/test_memory && rt try --fail-alloc "$most" --cases "$work/inputs-$1") >"$work/memory-$1" 2>"$work/notes-$1"
   awk -v to="$work/outputs/" '/^== / { file = to $2; next } { print > file }' "$work/memory-$1"
@@ -10,7 +11,7 @@ run_share() {
 
 # Lays out the inputs in shares, as many as there are processors, and runs the program on all.
 run_shares() {
-  local n share shares
+  local n share shares pids=()
   shares=$(nproc)
   for n in $(seq 1 "$most"); do
     share=$work/inputs-$((n % shares))
@@ -19,25 +20,27 @@ run_shares() {
   done
   for share in $(seq 0 $((shares - 1))); do
     run_share "$share" &
+    pids+=($!)
   done
-  wait
+  wait "${pids[@]}"
 }
 
-# The program test_memory with each of its allocations refused in turn: it first makes as many allocations as its input has
-# bytes, and the one with the number $most is refused, so that the input says which one of those that count it is. Each run
-# has to print what it prints with all its memory, but that memory was wanting once, up to the run in which it is one of those
-# that the program makes behind all that count.
-allocations() {
-  local most=$1 work=$scratch/allocations n name
+# Runs the program test_memory with each of its allocations refused in turn, of which it makes fewer than $most. The program first
+# makes an allocation for each byte of its input, and the one with the number $most is always refused: so the input's length decides
+# which of the allocations that count this is. Each run has to print what it prints with all its memory, except that memory ran out
+# once. The last run is the one whose refused allocation comes after all that count.
+refused_memory() {
+  local most=440 work=$scratch/allocations n name
   mkdir -p "$work/outputs"
+  steps_in "$most" "$work/memory-*"
   run_shares
   sed 's/^refused 0, /refused 1, /' crates/test_memory/stdout >"$work/refused"
-  sed 's/^some more taken$/some more refused/' crates/test_memory/stdout >"$work/behind"
+  sed 's/^some more taken$/some more refused/' crates/test_memory/stdout >"$work/after"
   for n in $(seq 1 "$most"); do
     name="$work/outputs/$(printf '%03d' "$n")"
     if cmp -s "$name" "$work/refused"; then
       pass
-    elif [ "$n" -gt 1 ] && cmp -s "$name" "$work/behind"; then
+    elif [ "$n" -gt 1 ] && cmp -s "$name" "$work/after"; then
       return
     else
       fail "allocation $n refused in test_memory"
@@ -46,5 +49,5 @@ allocations() {
       return
     fi
   done
-  fail "each of $most runs of test_memory met a refusal"
+  fail "each of $most runs of test_memory met a refusal: it makes more allocations than that"
 }

@@ -1,4 +1,5 @@
 #!/usr/bin/env python3
+# SPDX-License-Identifier: MIT
 """What has to be believed, counted: the definitions that the headline of the core rests on, and what no proof covers. Prints the
 two tables that docs/PROVED.md has between marks, with these marks. Lines are counted without comments and blank lines."""
 
@@ -27,8 +28,16 @@ GLUE = (
 # The calls of an object whose answers are of its one history.
 ANSWERS = (
     *("call", "conditional", "timed", "procedure", "function_after", "try_count_after"),
-    *("tick_after", "finalize_after", "abort_seat_after", "cut_after"),
+    *("tick_after", "finalize_after", "cancel_seat_after", "cut_after"),
 )
+# The commands of a core, whose clauses say that its history is theirs, by their files.
+COMMANDS = {
+    "object_core.rt": ("issue", "procedure", "function", "cancel", "tick", "finalize", "collect", "end_of"),
+    "recorded_core.rt": ("cancel_number", "cut"),
+}
+# The types whose views say what a core with a record, or without one, is to a contract; and the ghost items that say it.
+VIEWED = ("Core", "Recorded", "Unrecorded")
+VIEWS = ("Value", "view", "base", "events")
 PROGRAMS = ("pobj_run", "pobj_check", "pobj_stress", "po_c")
 
 
@@ -41,6 +50,67 @@ def rested_on(crate, file, method):
     return walk.closure(walk.roots_in([], walk.contracts(walk.without_comments("\n".join(lines[start:end]), "//")), outer))
 
 
+def item_of(crate, head):
+    """The path of the crate's file that has an item with this head, and the lines of the item."""
+    for path in sorted((walk.CRATES / crate / "src").glob("*.rt")):
+        for lines in walk.blocks(path.read_text()):
+            if walk.head_of(lines).startswith(head):
+                return path, lines
+    raise KeyError(head)
+
+
+def cited_by(path, lines):
+    """The definitions that these lines of a file of code cite, directly or through others."""
+    outer = walk.imports("\n".join(line for line in path.read_text().splitlines() if line.strip().startswith("ghost use ")))
+    return walk.closure(walk.roots_in([], lines, outer))
+
+
+def premise():
+    """The definitions of the headline's premise: the trait of units, with its lines, and what it cites."""
+    path, lines = item_of("po_unit", "pub trait Unit")
+    return len(lines), cited_by(path, lines)
+
+
+def views_in(lines):
+    """The lines of an item that say what a value is to a contract."""
+    found, inside = [], False
+    for line in lines:
+        begun = re.match(r"    ghost (\w+) =", line)
+        inside = begun[1] in VIEWS if begun else inside
+        if inside:
+            found.append(line)
+        inside = inside and not line.endswith("};")
+    return found
+
+
+def all_views():
+    """By each type of crates/*/src that has a view its file and the lines of the view."""
+    found = {}
+    for path in sorted(walk.CRATES.glob("po_*/src/**/*.rt")):
+        for lines in walk.blocks(path.read_text()):
+            head = walk.head_of(lines)
+            if head.startswith("impl") and views_in(lines):
+                found[re.match(r"\w+", walk.type_of(head))[0]] = (path, views_in(lines))
+    return found
+
+
+def fields_of(path, name):
+    """The words of the fields of a type in this file."""
+    return re.findall(r"\w+", " ".join(walk.types_in(path).get(name, [])))
+
+
+def views():
+    """The views of a core and of all that stands in it: how many they are, their lines, and the definitions that they cite."""
+    there, found, left = all_views(), {}, list(VIEWED)
+    while left:
+        name = left.pop()
+        if name in there and name not in found:
+            found[name] = there[name]
+            left += fields_of(there[name][0], name)
+    cites = set().union(*(cited_by(path, lines) for path, lines in found.values()))
+    return len(found), sum(len(lines) for _, lines in found.values()), cites
+
+
 def table(head, rows):
     """The lines of a table."""
     return [head, "|---" * (head.count("|") - 1) + "|"] + ["| " + " | ".join(row) + " |" for row in rows]
@@ -51,16 +121,34 @@ def counts(pairs):
     return str(len(pairs)), str(sum(len(walk.definitions(path)[name]) for path, name in pairs))
 
 
+def more(what, pairs, count=0, lines=0):
+    """A row of what else has to be believed: these definitions, and `count` things of another kind with `lines` lines."""
+    definitions, length = counts(pairs)
+    return what, str(int(definitions) + count), str(int(length) + lines)
+
+
 def of_headline():
-    """Of each file how many of its definitions the headline rests on, and how many lines they have; how many more the closing
-    theorem of objects rests on; and how many more what threads are answered."""
+    """Of each file how many of its definitions the headline rests on, and how many lines they have; and how many more other
+    claims rest on."""
     headline = rested_on("po_core", "object_core.rt", "headline")
-    closing = rested_on("po_object", "closing.rt", "every_answer") - headline
-    answers = set().union(*(rested_on("po_object", "object.rt", method) for method in ANSWERS)) - headline - closing
+    commands = set().union(*(rested_on("po_core", file, method) for file, methods in COMMANDS.items() for method in methods))
+    core = headline | commands
+    closing = rested_on("po_object", "closing.rt", "every_answer") - core
+    answers = set().union(*(rested_on("po_object", "object.rt", method) for method in ANSWERS)) - core - closing
+    viewed, view_lines, view_cites = views()
+    trait_lines, trait_cites = premise()
     files = sorted({path for path, _ in headline})
     rows = [(f"`{file.relative_to(walk.CRATES)}`", *counts([it for it in headline if it[0] == file])) for file in files]
-    more = [("more, for `Closed::every_answer`", *counts(closing)), ("more, for each answer over threads", *counts(answers))]
-    return [*rows, ("all", *counts(headline)), *more]
+    return [
+        *rows,
+        ("all, for the headline", *counts(headline)),
+        more("more, for the clauses of the commands", commands - headline),
+        ("all, for both", *counts(core)),
+        more("more, for the premise", trait_cites - core, 1, trait_lines),
+        more("more, for the views of a core", view_cites - trait_cites - core, viewed, view_lines),
+        more("more, for `Closed::every_answer`", closing),
+        more("more, for each answer over threads", answers),
+    ]
 
 
 def lines_of(path, mark):

@@ -1,11 +1,12 @@
+# SPDX-License-Identifier: MIT
 # shellcheck shell=bash
-# Whether `pobj` builds and tries what it has to, in a small repository of its own with a toolchain that only acts. Read by `test`.
+# Whether `pobj` builds and tries what it has to, in a small repository of its own with a mock of the toolchain. Read by `test`.
 
-# A call of `pobj` there, with the status that it has to end with.
+# Calls `pobj` there, which has to end with this status.
 call_there() {
   local want=$1 got
   shift
-  PATH=$scratch/build/bin "$scratch/build/pobj" "$@" </dev/null >"$scratch/out" 2>"$scratch/err"
+  PATH=$scratch/build/bin POBJ_KIT=$scratch/build/kit "$scratch/build/pobj" "$@" </dev/null >"$scratch/out" 2>"$scratch/err"
   got=$?
   if [ "$got" -eq "$want" ]; then pass; else fail "pobj $* there: status $got, wanted $want: $(cat "$scratch/err")"; fi
 }
@@ -15,11 +16,12 @@ wrote_there() {
   if grep -qF -- "$2" "$scratch/$1"; then pass; else fail "wanted on $1: $2; written: $(cat "$scratch/$1")"; fi
 }
 
-# The toolchain that acts: its trial ends as the text says.
+# Makes the mock of the toolchain: its trial does what the text says.
 act_as() {
   cat >"$scratch/build/bin/rt" <<END
 #!/bin/sh
 case "\$1" in
+  version) echo rattle-kit-13f ;;
   try) $1 ;;
   *) printf '#!/bin/sh\necho ran\n' >out/pobj_run; chmod +x out/pobj_run ;;
 esac
@@ -31,15 +33,15 @@ END
 make_repository() {
   local work=$scratch/build tool
   mkdir -p "$work/bin" "$work/crates/pobj_run/src"
-  cp -r pobj tools "$work/"
+  cp -r pobj tools VERSION "$work/"
   echo 'pobj_run:' >"$work/crates.txt"
-  for tool in awk basename bash sh cat chmod cp cut find flock grep head mkdir mkfifo mktemp mv nproc rm setsid sleep sort stat tail touch; do
+  for tool in awk basename bash sh cat chmod cp cut find flock grep head mkdir mkfifo mktemp mv nproc rm setsid sleep sort stat tail touch tr; do
     ln -s "$(command -v "$tool")" "$work/bin/$tool"
   done
 }
 
-# A picture of what a trial answers; one of what ran before a fault, whose line is that of the script; and no picture of no command, of
-# a file that isn't there, of other words, and where the run has another status.
+# `pobj picture` draws what a trial answers, and what ran before a fault, whose line it names as the script has it. It draws nothing if
+# there is no command or no such file, if the words are others, or if the run has another status.
 pictures_there() {
   local script=$scratch/build/script answers
   ln -s "$(python3 -c 'import sys; print(sys.executable)')" "$scratch/build/bin/python3"
@@ -88,7 +90,7 @@ stopped() {
   fi
 }
 
-# A repository of four crates, on a machine that says it has four processors.
+# Makes a repository of four crates, on a machine that says it has four processors.
 make_crates() {
   local work=$scratch/build name
   printf '%s\n' 'po_low:' 'po_side:' 'po_high: po_low po_side' 'pobj_run: po_high' >"$work/crates.txt"
@@ -100,11 +102,12 @@ make_crates() {
   chmod +x "$work/bin/nproc"
 }
 
-# The toolchain that acts: in the folder of each crate it does what the text says, and then builds it.
+# Makes the mock of the toolchain: in the folder of each crate it does what the text says, and then builds it.
 build_as() {
   rm -f "$scratch/began" "$scratch/child"
   cat >"$scratch/build/bin/rt" <<END
 #!/bin/sh
+[ "\$1" != version ] || { echo rattle-kit-13f; exit; }
 crate=\${PWD##*/}
 echo "\$crate" >>$scratch/began
 $1
@@ -131,7 +134,7 @@ left_clean() {
   fi
 }
 
-# Whether the process whose number is in the file ends, at once or soon.
+# Whether the process whose number is in the file ends within five seconds.
 ended_there() {
   local look
   for look in $(seq 50); do
@@ -144,8 +147,8 @@ ended_there() {
   fail "a build, looked at $look times, runs on or never ran"
 }
 
-# Crates that stand on each other are built in turn, others side by side, and none twice. If one fails, or the build is told to stop, the
-# others stop, and what was made stays.
+# A crate is built after those on which it depends, others side by side, and none twice. If one fails, or the build is told to stop,
+# the others stop, and what was made stays.
 crates_there() {
   local pid look stay="echo >out/kept; echo \$\$ >$scratch/child; exec sleep 60"
   make_crates
@@ -182,8 +185,35 @@ until grep -q \$other $scratch/began || [ \$look -eq 100 ]; do look=\$((look + 1
   left_clean
 }
 
-# No toolchain; trials that answer, that are refused, and that don't end; a build that fails; one that makes a program; a trial
-# again where a source is newer; and words that are refused.
+# The toolchain that acts: its trial of several scripts answers each with its own text, and ends one that has a fault with 1.
+answer_cases() {
+  cat >"$scratch/build/bin/rt" <<'END'
+#!/bin/sh
+for file in "$5"/*; do
+  echo "== ${file##*/}"
+  cat "$file"
+  echo "case=${file##*/} run=ended status=$(grep -c fault "$file") runners=1 proved=no" >&2
+done
+END
+  chmod +x "$scratch/build/bin/rt"
+}
+
+# Whether `./compare` gets the answers to all its scripts from one trial if the program isn't built, and says so if there is no rt.
+comparing_there() {
+  local work=$scratch/build asks='import programs; programs.try_scripts(["b\n", "a fault\n", "c\n"]); print(programs.tried)'
+  cp -r comparison "$work/"
+  touch "$work/crates/pobj_run/src/main.rt"
+  answer_cases
+  PYTHONPATH=$work/comparison PATH=$work/bin python3 -B -c "$asks" >"$scratch/out" 2>"$scratch/err"
+  wrote_there out "{'b\n': 'b\n', 'a fault\n': None, 'c\n': 'c\n'}"
+  wrote_there err "an unproved trial"
+  rm "$work/bin/rt"
+  PYTHONPATH=$work/comparison POBJ_KIT=$work PATH=$work/bin python3 -B -c "$asks" >"$scratch/out" 2>"$scratch/err"
+  wrote_there err "pobj isn't built, and the command rt isn't found"
+}
+
+# Calls `pobj` without a toolchain; with trials that answer, are refused, and don't end; with a build that fails, and one that makes a
+# program; with a source that is newer, which means a trial again; and with words that it refuses.
 builds() {
   make_repository
   call_there 6 run
@@ -211,8 +241,9 @@ builds() {
   call_there 0 build
   call_there 2 build everything
   call_there 2 c
-  call_there 2 c --help
+  call_there 0 c --help
   pictures_there
+  comparing_there
   stopped
   crates_there
 }

@@ -1,8 +1,9 @@
+# SPDX-License-Identifier: MIT
 # shellcheck shell=bash
-# The scripts of examples/ and cases/: NAME.pobj, or NAME.make, a line that writes it, with what it has to write: NAME.out, and where
-# they are there NAME.err, NAME.status and the words of the command line in NAME.words. Read by `test`.
+# The scripts of examples/ and cases/: NAME.pobj, or NAME.make, a line that writes it. NAME.out has what it must write; NAME.err,
+# NAME.status and NAME.words, if they are there, have the errors, the status and the words of the command line. Read by `test`.
 
-# Sets what the case is about: its words, its status, and the program that carries it out.
+# Sets the words of the case, its status, and the program that carries it out.
 read_case() {
   words=run
   want=0
@@ -25,12 +26,13 @@ script_of() {
   if [ -f "$1.make" ]; then bash "$1.make"; else cat "$1.pobj"; fi
 }
 
-# Carries out a case by the built program.
+# Carries out a case by the built program itself: some words are answered by the script `pobj` (words_of_pobj.sh).
 run_case() {
-  local base=$1 got words want program
+  local base=$1 got words want program path
   read_case "$base"
+  path_of "$program"
   # shellcheck disable=SC2086
-  ./pobj $words < <(script_of "$base") >"$scratch/out" 2>"$scratch/err"
+  "$path" $words < <(script_of "$base") >"$scratch/out" 2>"$scratch/err"
   got=$?
   : >"$scratch/want"
   [ ! -f "$base.err" ] || cp "$base.err" "$scratch/want"
@@ -43,7 +45,7 @@ run_case() {
   fi
 }
 
-# A run from a file into a file, one of which fails: the last word is what has to be said of it.
+# Runs from a file into a file, one of which fails. The last word is the message that this must give.
 broken() {
   local got
   ./pobj run <"$1" >"$2" 2>"$scratch/err"
@@ -55,7 +57,7 @@ broken() {
   fi
 }
 
-# Whether the three programs are built of the sources as they are: else `pobj` would try these.
+# Whether the three programs are built of the sources as they are. If one isn't, `pobj` would try the sources.
 are_built() {
   local program crates=()
   for program in pobj_run pobj_check pobj_stress; do
@@ -68,17 +70,20 @@ are_built() {
 }
 
 # Carries out each case by the built programs, and scripts whose reading or writing fails.
-run_cases() {
-  local base
-  for base in $(all_cases); do
+scripts_by_programs() {
+  local base bases
+  mapfile -t bases < <(all_cases)
+  steps_in ${#bases[@]} "$scratch/cases"
+  for base in "${bases[@]}"; do
     run_case "$base"
+    echo "== $base" >>"$scratch/cases"
   done
   broken / "$scratch/out" "read failed"
   broken examples/buffer.pobj /dev/full "write failed"
 }
 
-# The pictures of the pages, drawn of what the built program answers.
-draw_pictures() {
+# Draws the pictures of the pages from what the built program answers.
+pictures_by_programs() {
   local file script
   for file in docs/pictures/*.out; do
     script=$(find examples comparison/differences -name "$(basename "$file" .out).pobj")
@@ -86,12 +91,12 @@ draw_pictures() {
   done
 }
 
-# A script that is typed at a terminal.
-typed() {
+# Types a script at a terminal.
+typing() {
   if timeout 120 python3 tools/test/terminal.py ./pobj; then pass; else fail "a script that is typed"; fi
 }
 
-# Lays out the cases of the program as a trial takes them, those with big scripts left out.
+# Lays out the cases of the program as a trial takes them, without those that have a NAME.make: their scripts are big.
 lay_out_cases() {
   local base name words want program
   mkdir -p "$scratch/$1/cases"
@@ -107,8 +112,8 @@ lay_out_cases() {
   done
 }
 
-# Lays out, for the program that carries out scripts, the copies of those that the pages have pictures of, with what these were drawn
-# from.
+# Lays out, for the program that carries out scripts, a copy of each script that a page has a picture of, with the answers that the
+# picture was drawn from.
 lay_out_pictures() {
   local file name
   for file in docs/pictures/*.out; do
@@ -120,11 +125,12 @@ lay_out_pictures() {
   done
 }
 
-# Carries out the cases of the program by one trial of its sources. It compares what they write and their statuses.
-try_cases() {
+# Carries out the cases of the program by one trial of its sources, and compares what they write and their statuses.
+scripts() {
   local file name
   lay_out_cases "$1"
   [ "$1" != pobj_run ] || lay_out_pictures "$1"
+  steps_in "$(find "$scratch/$1" -maxdepth 1 -name '*.want' | wc -l)" "$scratch/$1/said"
   (cd "crates/$1" && rt try --seconds 120 --cases "$scratch/$1/cases") >"$scratch/$1/said" 2>&1
   for file in "$scratch/$1"/*.want; do
     name=$(basename "$file" .want)

@@ -1,11 +1,18 @@
+# SPDX-License-Identifier: MIT
 # shellcheck shell=bash
-# The proved library called from C and from Ada: the tests and examples of bindings/c, scripts carried out by a C program, the
-# archive built twice; the runtime for Ada, and scripts carried out by its tasks. Read by `test`, which sets `top`.
+# The proved library, called from C and from Ada: the tests and examples of bindings/c, scripts that a C program carries out, and the
+# archive, built twice; the runtime for Ada, and scripts that its tasks carry out. Read by `test`, which sets `top`.
 
-# Shows what failed and what was skipped of what the command wrote, and counts its last line.
+# Runs a command, shows what failed and what was skipped, and counts its last line. The first words are the file for what it writes
+# and its name in messages.
 count_clients() {
-  grep -vE '^passed: ' "$1"
-  count "$1" "$2"
+  local file=$1 name=$2
+  shift 2
+  steps_in many "$file"
+  "$@" >"$file" 2>&1
+  clear_line
+  grep -vE '^passed: ' "$file"
+  count "$file" "$name"
 }
 
 # Builds the archive once more, in another folder, and compares the bytes.
@@ -19,10 +26,10 @@ same_bytes() {
   fi
 }
 
-# The packed runtime for Ada, where GNAT is there.
+# Tries the packed runtime for Ada, if GNAT is there.
 packed_ada() {
   if ! command -v gnatmake >/dev/null; then
-    echo "the packed runtime for Ada is skipped: there is no gnatmake"
+    report "the packed runtime for Ada is skipped: there is no gnatmake"
   elif (cd "$scratch" && env -i "PATH=$2" "$1/bin/pobj" ada --check >"$scratch/packed" 2>&1); then
     pass
   else
@@ -30,12 +37,12 @@ packed_ada() {
   fi
 }
 
-# The packed picture of a script.
+# Draws a picture of a script by what is packed.
 packed_picture() {
   if env -i "PATH=$2" "$1/bin/pobj" picture examples/relay.pobj | cmp -s - docs/pictures/relay.svg; then pass; else fail "the packed pobj draws another picture"; fi
 }
 
-# What `pobj dist` packs, in a folder with marks in its name and with no toolchain in the path: it runs a script, its example is
+# Tries what `pobj dist` packs, in a folder with marks in its name and with no toolchain in the path: it runs a script, its example is
 # compiled, and an Ada program runs over its runtime.
 unpacked() {
   local to="$scratch/dist, a&b" bare=/usr/bin:/bin
@@ -48,7 +55,7 @@ unpacked() {
   if (cd "$to" && sha256sum --quiet -c SHA256SUMS); then pass; else fail "the packed sums differ"; fi
 }
 
-# Counts the rows of a table of ./compare, which ends well where all are as they should be.
+# Counts the good rows of a table of ./compare, which ends with status 0 if all rows are good.
 count_rows() {
   local status=0
   ./compare "${@:2}" >"$scratch/rows" 2>"$scratch/rows.faults" || status=$?
@@ -56,33 +63,30 @@ count_rows() {
   [ "$status" -eq 0 ] || fail "./compare ${*:2} ended with status $status: $(cat "$scratch/rows" "$scratch/rows.faults")"
 }
 
-# Where GNAT is there: the tests of bindings/ada, Ada programs, and scripts that GNAT's tasks carry out over the engine.
+# Runs, if GNAT is there, the tests of bindings/ada, Ada programs, and scripts that GNAT's tasks carry out over the engine.
 ada_clients() {
   if ! command -v gnatmake >/dev/null; then
-    echo "the Ada tests are skipped: there is no gnatmake"
+    report "the Ada tests are skipped: there is no gnatmake"
     return
   fi
-  bindings/ada/tests/run.sh "$scratch/lib" "$scratch/ada" >"$scratch/a" 2>&1
-  count_clients "$scratch/a" "the Ada tests"
+  count_clients "$scratch/ada-tests" "the Ada tests" bindings/ada/tests/run.sh "$scratch/lib" "$scratch/ada"
   export POBJ=$top/crates/pobj_run/out/pobj_run
   count_rows ' (same|not expressible)' scripts over "$scratch/ada"
   count_rows '  same +same$' ada "$scratch/ada"
   export -n POBJ
 }
 
-# Where a C compiler is there: all of bindings/c/tests, over the library that the proofs built.
+# Runs, if a C compiler is there, all of bindings/c/tests over the library that the proofs built, and then what else uses it.
 clients() {
   if ! command -v gcc >/dev/null || [ ! -e crates/po_c/out/libpo_c.a ]; then
-    echo "the C tests are skipped: there is no gcc, or no library"
+    report "the C tests are skipped: there is no gcc, or no library"
     return
   fi
   mkdir -p "$scratch/lib"
   put_archive "$scratch/lib"
-  bindings/c/tests/run.sh "$scratch/lib" >"$scratch/c" 2>&1
-  count_clients "$scratch/c" "the C tests"
+  count_clients "$scratch/c-tests" "the C tests" bindings/c/tests/run.sh "$scratch/lib"
   gcc -std=c11 -O2 -Iinclude bindings/c/tests/scripts/*.c "$scratch/lib/libpobj.a" -o "$scratch/script" || fail "the C program of scripts can't be built"
-  bindings/c/tests/scripts/compare.sh "$scratch/script" crates/pobj_run/out/pobj_run 1000 >"$scratch/c" 2>&1
-  count_clients "$scratch/c" "scripts by a C program"
+  count_clients "$scratch/c-scripts" "scripts by a C program" bindings/c/tests/scripts/compare.sh "$scratch/script" crates/pobj_run/out/pobj_run 1000
   unpacked
   same_bytes
   ada_clients

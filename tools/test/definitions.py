@@ -1,7 +1,8 @@
 #!/usr/bin/env python3
-"""Whether docs/DEFINITIONS.md has each definition that a public clause of the core, the objects, the driven object
-and the library for C cites, directly or through others, and no name that isn't there. Prints what is wanting, by file, and at the
-end 'N passed, M failed'. With --list it prints the definitions by file, and those that the page hasn't are marked."""
+# SPDX-License-Identifier: MIT
+"""Checks that docs/DEFINITIONS.md has each definition that a public clause of the core, the objects, the driven object or the library
+for C cites, directly or through others, and no name that isn't there. Prints what is missing, by file, and at the end 'N passed, M
+failed'. With --list it prints the definitions by file, with a star before each that the page lacks."""
 
 import re
 import sys
@@ -15,8 +16,8 @@ PRODUCT = ("po_core", "po_object", "po_driven", "po_c")
 
 
 def files_of(heading):
-    """The files that a heading names between backticks: as FOLDER/FILE; as FILE behind its FOLDER; all of a FOLDER that has none
-    behind it. Folders are CRATE/specs and CRATE/src."""
+    """The files that a heading names between backticks: as FOLDER/FILE; as FILE after its FOLDER; or all files of a FOLDER that no
+    FILE follows. Folders are CRATE/specs and CRATE/src."""
     words, found, folder = re.findall(r"`([^`]+)`", heading), [], walk.CRATES
     for word, after in zip(words, words[1:] + ["/"]):
         path = walk.CRATES / word if "/" in word else folder / word
@@ -29,7 +30,7 @@ def files_of(heading):
 
 
 def sections(text):
-    """The sections of the page: of each its heading, the files that it names, and the names in the first cells of its rows."""
+    """The sections of the page: the heading of each, the files that it names, and the names in the first cells of its rows."""
     found = []
     for part in re.split(r"^## ", text, flags=re.M)[1:]:
         heading, _, rest = part.partition("\n")
@@ -45,7 +46,7 @@ def listed(parts):
 
 
 def stale(parts):
-    """What the page names that isn't there: files, and names in none of their files."""
+    """What the page names that isn't there: files, and names that none of their section's files has."""
     for heading, paths, names in parts:
         title = heading.partition(" (")[0]
         yield from (f"'{title}' names {path.relative_to(walk.CRATES)}, which isn't there" for path in paths if not path.exists())
@@ -62,14 +63,14 @@ def by_file(definitions):
 
 
 def show(reached, there):
-    """Prints the definitions by file, with a mark at those that the page hasn't."""
+    """Prints the definitions by file, with a star before each that the page lacks."""
     for path, names in by_file(reached).items():
         print(f"{path.relative_to(walk.CRATES)}: " + " ".join(name if (path, name) in there else f"*{name}" for name in names))
     print(f"{len(reached)} definitions, {len(reached - there)} of them not on the page")
 
 
 def main(words):
-    """Compares the page with the clauses, and gives the status."""
+    """Compares the page with the clauses, and returns the exit status."""
     roots = {crate: walk.roots_of(crate) for crate in PRODUCT}
     reached = walk.closure(it for found in roots.values() for it in found)
     parts = sections(PAGE.read_text())
@@ -79,7 +80,7 @@ def main(words):
         return 0
     faults = [f"no public clause of {crate} was found" for crate, found in roots.items() if not found] + list(stale(parts))
     for path, names in by_file(reached - there).items():
-        faults.append(f"docs/DEFINITIONS.md hasn't, of crates/{path.relative_to(walk.CRATES)}: {' '.join(names)}")
+        faults.append(f"docs/DEFINITIONS.md lacks, of crates/{path.relative_to(walk.CRATES)}: {' '.join(names)}")
     for fault in faults:
         print(f"FAILED: {fault}")
     print(f"{len(reached & there)} passed, {len(faults)} failed")

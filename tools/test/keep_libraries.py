@@ -1,6 +1,7 @@
 #!/usr/bin/env python3
-"""Notes at each library that `rt ci` built in a copy of the crates, the folder given, of which sources it was built, as `rt lib`
-notes it. So what follows in this copy stands on what was just proved, and nothing is proved twice."""
+# SPDX-License-Identifier: MIT
+"""Notes at each library that `rt ci` built in a copy of the crates, the folder given, from which sources it was built, as `rt lib` does.
+So what follows in this copy uses what was just proved, and nothing is proved twice."""
 
 import importlib.machinery
 import importlib.util

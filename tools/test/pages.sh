@@ -1,14 +1,15 @@
+# SPDX-License-Identifier: MIT
 # shellcheck shell=bash
-# What the pages say of the tree: each crate stands in the map, links and claims lead somewhere, definitions are listed, what must
-# be believed is counted, paragraphs are short, wrong bodies are few. Read by `test`, behind count.sh.
+# Whether the pages are right about the tree: each crate is in the map, links and claims lead somewhere, definitions are listed, what
+# must be believed is counted, paragraphs are short, words are plain, wrong bodies are few. Read by `test`, after count.sh.
 
-# The most wrong bodies that the tree has: each costs a quarter of a minute of a full run (CONTRIBUTING.md).
+# How many wrong bodies the tree may have: each costs a quarter of a minute of a full run (CONTRIBUTING.md).
 most_edits=147
 
-# The most words that all pages together have, outside of code.
-most_words=20000
+# How many words all pages together may have, outside of code.
+most_words=20200
 
-# Each crate of crates.txt has a row in the map, and each row a crate.
+# Each crate of crates.txt has a row in the map, and each row has a crate.
 map_is_whole() {
   local rows names
   rows=$(grep -E '^\| `[a-z]+_[a-z_]+`[ ,]' docs/ARCHITECTURE.md | cut -d'|' -f2 | grep -oE '\b(po|pobj|example|test|bench)_[a-z_]+' | LC_ALL=C sort)
@@ -16,7 +17,7 @@ map_is_whole() {
   if [ "$rows" = "$names" ]; then pass; else fail "docs/ARCHITECTURE.md and crates.txt differ: $(diff <(echo "$rows") <(echo "$names"))"; fi
 }
 
-# Each file that a page names by its path, or by the beginning of it before a star, is there.
+# Each file that a page names is there. A page names it by its path, or by the beginning of its path and a star.
 paths_lead_somewhere() {
   local page path
   for page in README.md CONTRIBUTING.md docs/*.md; do
@@ -26,14 +27,24 @@ paths_lead_somewhere() {
   done
 }
 
-# docs/DEFINITIONS.md has each definition that a public clause cites, and no other.
-definitions_are_listed() {
-  python3 tools/test/definitions.py >"$scratch/definitions"
-  sed '$d' "$scratch/definitions"
-  count "$scratch/definitions" tools/test/definitions.py
+# Runs a script of Python, shows what it found, and adds its counts.
+run_script() {
+  local said=$scratch/said-$1
+  python3 "tools/test/$1" >"$said" 2>&1
+  sed '$d' "$said"
+  count "$said" "tools/test/$1"
 }
 
-# docs/PROVED.md has the tables of what must be believed, as they are counted now.
+# docs/DEFINITIONS.md has each definition that a public clause cites, and no other.
+definitions_are_listed() { run_script definitions.py; }
+
+# No page and no comment has a word that CONTRIBUTING.md ("Words") asks not to use.
+words_are_plain() { run_script words.py; }
+
+# docs/TESTING.md has the numbers of schedules that tools/test/every_order.out has.
+schedules_are_counted() { run_script schedules.py; }
+
+# docs/PROVED.md has the tables of what must be believed, as believed.py counts them.
 believed_is_counted() {
   if diff <(python3 tools/test/believed.py) <(sed -n '/^<!-- what /,/^<!-- until here/p' docs/PROVED.md) >"$scratch/believed"; then
     pass
@@ -42,14 +53,19 @@ believed_is_counted() {
   fi
 }
 
-# README.md has the two numbers of what the headline rests on.
+# README.md has the numbers of what the headline rests on, alone and with the commands' clauses, of the premise and of the views.
 headline_is_counted() {
   local counted
-  counted=$(sed -nE 's/^\| all \| ([0-9]+) \| ([0-9]+) \|$/\1 definitions in \2 lines/p' docs/PROVED.md)
-  if grep -qF "$counted" README.md; then pass; else fail "README.md doesn't say '$counted', as docs/PROVED.md counts"; fi
+  while IFS= read -r counted; do
+    if grep -qF "$counted" README.md; then pass; else fail "README.md doesn't say '$counted', as docs/PROVED.md counts"; fi
+  done < <(sed -nE \
+    -e 's/^\| all, for .* \| ([0-9]+) \| ([0-9]+) \|$/\1 definitions in \2 lines/p' \
+    -e 's/^\| more, for the premise.* \| [0-9]+ \| ([0-9]+) \|$/(\1 lines)/p' \
+    -e 's/^\| more, for the views.* \| [0-9]+ \| ([0-9]+) \|$/(\1 lines)/p' \
+    docs/PROVED.md)
 }
 
-# Each file, type, function and clause that the table of claims of docs/PROVED.md names is there: names in the file that follows them.
+# Each file, type, function and clause that the table of claims of docs/PROVED.md names is there. A name is followed by its file.
 claims_lead_somewhere() {
   local part name names file
   while read -r part; do
@@ -63,7 +79,7 @@ claims_lead_somewhere() {
   done < <(awk -F'|' '$3 ~ /(po|example)_.*\/src\// { print $3 }' docs/PROVED.md | sed -E 's:`(po|example)_[a-z_]+/src/[a-z_]+\.rt`:&\n:g')
 }
 
-# The code in docs/OBJECTS.md stands in the example, word for word.
+# The code in docs/OBJECTS.md is in the example, word for word.
 code_is_the_example() {
   local block source
   source=$(<crates/example_object/src/main.rt)$'\n'
@@ -72,7 +88,7 @@ code_is_the_example() {
   done < <(awk '/^```$/ && inside { printf "%c", 0; inside = 0 } inside { print } /^```rust$/ { inside = 1 }' docs/OBJECTS.md)
 }
 
-# Each line of code and of definitions that the page quotes stands in the crate.
+# Each line of code and of definitions that the page quotes is in the crate.
 lines_stand_in() {
   local line
   while IFS= read -r line; do
@@ -87,22 +103,22 @@ paragraphs_are_short() {
   if [ -z "$long" ]; then pass; else fail "paragraphs of more than 500 characters: $long"; fi
 }
 
-# All pages together are short: words are what has a letter or a digit, outside of code.
+# All pages together are short. A word is what has a letter or a digit, outside of code.
 pages_are_short() {
   local words
   words=$(awk '/^```/ { code = !code } !code && !/^    / { for (at = 1; at <= NF; at++) words += $at ~ /[[:alnum:]]/ } END { print words }' README.md CONTRIBUTING.md docs/*.md)
   if [ "$words" -le "$most_words" ]; then pass; else fail "the pages have $words words, at most $most_words are to be"; fi
 }
 
-# No more wrong bodies of the product than a full run has time for.
+# The product has no more wrong bodies than a full run has time for.
 edits_are_few() {
   local number
   number=$(find crates/po_*/must-fail -name '*.edit' | wc -l)
   if [ "$number" -le "$most_edits" ]; then pass; else fail "$number wrong bodies, at most $most_edits are to be"; fi
 }
 
-# What threads share is behind the steps of po_object alone: each use of its lock, flags and parkers asks first (steps.rt), and no
-# other crate on which pobj stands has any, but for two files with flags of their own.
+# Threads share only what po_object has: it asks its `Hook` before each use of its lock, flags and parkers (steps.rt). No other crate
+# has any of these, except three files with flags of their own.
 steps_are_asked() {
   local file uses asks files
   files=$(grep -rlE '\b(RwLock|Mutex|Condvar|OnceLock|Parker|Unparker|Atomic[A-Z][a-z0-9]*)\b' crates/*/src | grep -vE 'crates/(test|example|bench)_' | sed 's:^crates/::; s:/src/:/:' | LC_ALL=C sort | tr '\n' ' ')
@@ -127,5 +143,9 @@ pages() {
   lines_stand_in YOUR_UNIT.md example_unit
   paragraphs_are_short
   pages_are_short
+  words_are_plain
+  schedules_are_counted
   edits_are_few
+  version_is_one
+  kit_is_one
 }

@@ -1,5 +1,6 @@
-"""Tests of the pictures: what a time line has to show of scripts, that its texts don't lie over each other, and that the pictures
-of the pages are those of the scripts as they are. The last line is 'N passed, M failed'."""
+# SPDX-License-Identifier: MIT
+"""Tests of the pictures: what a time line has to show of a script, that its texts don't overlap, and that the pictures of the pages
+are those of the scripts as they are. The last line is 'N passed, M failed'."""
 
 import pathlib
 import re
@@ -11,6 +12,7 @@ sys.dont_write_bytecode = True
 TOP = pathlib.Path(__file__).resolve().parent.parent.parent
 sys.path.insert(0, str(TOP / "tools/picture"))
 
+import counted
 import crates
 import pages
 import picture
@@ -23,7 +25,7 @@ LETTER = {True: 6.1, False: 6.7}
 
 
 def signal(calls):
-    """A script in which so many calls wait and are then let go, and what is answered to its copy."""
+    """A script in which this many calls wait and are then let go, and the answers to its copy."""
     script = ["unit signal", *(f"call Wait {n}" for n in range(1, calls + 1)), *["proc Send 0"] * calls]
     answers = ["value 0", "Wait 0", "clock 0", "next 1"]
     for n in range(1, calls + 1):
@@ -34,7 +36,8 @@ def signal(calls):
 
 
 def relay(commands):
-    """The story of a script of a relay: of each command its words, its answers, the level, and the calls on Second and Third."""
+    """The story of a script of a relay. Each command has its words, its answers, the level, and the numbers of calls on Second and
+    Third."""
     script, answers = b"unit relay\n", ["value 0", "First 0", "Second 0", "Third 0", "clock 0", "next 1"]
     for words, own, level, second, third in commands:
         script += words + b"\n"
@@ -115,14 +118,14 @@ class Drawing(unittest.TestCase):
             self.assertIn(f"Call {n} waits on Wait from line {n + 1} to line {n + 6}.", told_by(drawn))
             self.assertIn(f"Call {n} ends at line {n + 6}: done {n}.", told_by(drawn))
         said = "Line 7: proc Send 0. Answer: done 0. Calls that end: call 1 done 1."
-        self.assertIn(f"{said} Behind it: State 0; waiting Wait 4; clock 0.", told_by(drawn))
+        self.assertIn(f"{said} After it: State 0; waiting Wait 4; clock 0.", told_by(drawn))
 
     def test_two_hundred_calls(self):
         drawn = self.drawn(story.read(*signal(200)))
         told = told_by(drawn)
         for n in range(1, 201):
             self.assertIn(f"Call {n} ends at line {n + 201}: done {n}.", told)
-        self.assertTrue(any(it.startswith("All along these wait on Wait: #1 to #") for it in told))
+        self.assertTrue(any(it.startswith("These wait on Wait all along: #1 to #") for it in told))
         self.assertLess(float(re.search(r'width="([0-9.]+)"', drawn)[1]), 1500)
 
     def test_most_commands(self):
@@ -177,7 +180,7 @@ class Drawing(unittest.TestCase):
         refused = (b"call Fourth %d" % most, ["refused 1"], most, 0, 0)
         drawn = self.drawn(relay([refused, (b"timed %d First %d" % (most, most), ["#1"], most, 0, 1)]))
         said = f"Line 2: call Fourth {most}. Answer: refused 1."
-        self.assertIn(f"{said} Behind it: State {most}; nobody waits; clock 0.", told_by(drawn))
+        self.assertIn(f"{said} After it: State {most}; no call waits; clock 0.", told_by(drawn))
 
     def test_other_answers(self):
         script, answers = signal(2)
@@ -238,7 +241,4 @@ class Pages(unittest.TestCase):
 
 
 if __name__ == "__main__":
-    result = unittest.main(exit=False, verbosity=0).result
-    wrong = len(result.failures) + len(result.errors)
-    print(f"{result.testsRun - min(wrong, result.testsRun)} passed, {wrong} failed")
-    sys.exit(1 if wrong else 0)
+    counted.main()

@@ -1,10 +1,11 @@
+# SPDX-License-Identifier: MIT
 # shellcheck shell=bash
 # The proofs of the crates from nothing: `rt ci` over a copy, and then the wrong bodies over what it kept. Read by `test`.
 
-# The crates whose wrong bodies the last full run saw refused, each with the sum of its files, behind the commit of that run.
+# The commit of the last full run, and the crates whose wrong bodies that run saw refused, each with the sum of its files.
 tested=tools/test/tested.txt
 
-# The sum of what a crate's wrong bodies are tried on, and of these.
+# The sum of a crate's files and of its wrong bodies.
 sum_of() {
   (cd "crates/$1" && find src specs proofs must-fail -type f 2>/dev/null | LC_ALL=C sort | xargs sha256sum | sha256sum | cut -c1-16)
 }
@@ -22,7 +23,7 @@ copy_crates() {
   tar -c --exclude='crates/*/out' --exclude='crates/*/must-fail' crates | tar -x -C "$1"
 }
 
-# The crates with wrong bodies that aren't as the last full run met them.
+# The crates with wrong bodies that changed since the last full run.
 changed_crates() {
   local name
   for name in $(crate_names); do
@@ -30,10 +31,10 @@ changed_crates() {
   done
 }
 
-# Whether a crate is tests alone, a library by its form.
+# Whether a crate is tests alone: a library in form, on which nothing depends.
 is_tests_alone() { [[ $1 == test_* && -f crates/$1/src/lib.rt ]]; }
 
-# Leaves out of the copy the crates that are tests alone: they were run before, with a check at each operation.
+# Leaves out of the copy the crates that are tests alone: `./test` has run them, with a check at each operation.
 leave_out_tests() {
   local name
   for name in $(crate_names); do
@@ -44,19 +45,22 @@ leave_out_tests() {
   done
 }
 
-# Proves what is in the copy, runs its programs and its tests, and takes over the programs and the library for C.
-prove() {
-  local status name
-  (cd "$1" && rt ci 2>&1) | sed -u "s,$1/,,g" | tee "$scratch/proofs"
+# Proves what is in the copy, runs its programs and its tests, and takes over the programs and the library for C. `rt ci` says itself
+# what runs.
+proofs() {
+  local status name copy=$scratch/$1
+  rm "$scratch/now/$job"
+  (cd "$copy" && rt ci 2>&1) | sed -u "s,$copy/,,g" | tee "$scratch/proofs"
   status=${PIPESTATUS[0]}
+  steps_in ""
   count "$scratch/proofs" "rt ci"
   [ "$status" -eq 0 ] || fail "rt ci ended with status $status"
-  python3 tools/test/keep_libraries.py "$1" || fail "what rt ci built isn't noted"
-  for name in "$1"/crates/*/out/; do
+  python3 tools/test/keep_libraries.py "$copy" || fail "what rt ci built isn't noted"
+  for name in "$copy"/crates/*/out/; do
     name=$(basename "$(dirname "$name")")
-    [ ! -x "$1/crates/$name/out/$name" ] || take_over "$1" "$name"
+    [ ! -x "$copy/crates/$name/out/$name" ] || take_over "$copy" "$name"
   done
-  build_archive "$1"
+  build_archive "$copy"
 }
 
 # Builds the archive of the library for C in the copy, over what was proved there, and takes it over.
@@ -77,59 +81,62 @@ take_over() {
   rm -f "crates/$2/out/$2.begun"
 }
 
-# Tries the wrong bodies of the crates in the copy where they were proved, and side by side in a second one: a body that is
-# wrong must not stand below a crate that is tried beside it.
+# How many wrong bodies a crate has.
+edits_of() { find "crates/$1/must-fail" -name '*.edit' 2>/dev/null | wc -l; }
+
+# Tries the wrong bodies of the crates, half of them in the copy in which all was proved, the others side by side in a second copy: a
+# crate that is tried must not depend on a wrong body.
 refuse() {
-  copy=$1
-  shift
+  local name half
   [ $# -gt 0 ] || return 0
-  cp -a "$copy" "$copy-2"
-  halves=("" "")
-  local name half counts=(0 0)
+  cp -a "$scratch/copy" "$scratch/copy-2"
+  declare -gA crates_in=() edits_in=([copy]=0 [copy-2]=0)
   for name; do
-    half=$((counts[1] < counts[0]))
-    halves[half]+=" $name"
-    counts[half]=$((counts[half] + $(find "crates/$name/must-fail" -name '*.edit' 2>/dev/null | wc -l)))
+    half=copy
+    [ "${edits_in[copy-2]}" -ge "${edits_in[copy]}" ] || half=copy-2
+    crates_in[$half]+=" $name"
+    edits_in[$half]=$((${edits_in[$half]} + $(edits_of "$name")))
   done
-  side_by_side refuse_half 2 0 1
+  check_side_by_side 2 "wrong_bodies copy" "wrong_bodies copy-2"
 }
 
-# Tries the wrong bodies of half of the crates.
-refuse_half() {
-  local room=$copy
-  [ "$1" -eq 0 ] || room=$copy-2
-  [ -n "${halves[$1]}" ] || { pass; return; }
+# Tries the wrong bodies of the crates whose half is tried in this copy.
+wrong_bodies() {
+  local crates=${crates_in[$1]-}
+  [ -n "$crates" ] || return 0
+  steps_in "${edits_in[$1]}" "$scratch/refused-$1"
   # shellcheck disable=SC2086
-  python3 tools/test/wrong_bodies.py --in "$room" ${halves[$1]} | tee "$scratch/refused-$1"
-  count "$scratch/refused-$1" "wrong bodies of${halves[$1]}"
+  python3 tools/test/wrong_bodies.py --in "$scratch/$1" $crates >"$scratch/refused-$1" 2>&1
+  cat "$scratch/refused-$1"
+  count "$scratch/refused-$1" "wrong bodies of$crates"
 }
 
-# All proofs, with the wrong bodies of what changed since the last full run.
+# All proofs, with the wrong bodies of the crates that changed since the last full run.
 prove_changed() {
   copy_crates "$scratch/copy"
   leave_out_tests "$scratch/copy"
-  prove "$scratch/copy"
+  check proofs copy
   # shellcheck disable=SC2046
-  refuse "$scratch/copy" $(changed_crates)
+  refuse $(changed_crates)
 }
 
 # All proofs, and all wrong bodies. What passed is noted.
 prove_all() {
   copy_crates "$scratch/copy"
   leave_out_tests "$scratch/copy"
-  prove "$scratch/copy"
+  check proofs copy
   # shellcheck disable=SC2046
-  refuse "$scratch/copy" $(crate_names)
+  refuse $(crate_names)
   if [ "$failed" -eq 0 ]; then note_tested; fi
 }
 
 # All proofs, those of the crates that are tests alone too.
 prove_tests() {
   copy_crates "$scratch/copy"
-  prove "$scratch/copy"
+  check proofs copy
 }
 
-# Notes the crates as a full run has met them.
+# Notes the crates of a full run in which all passed.
 note_tested() {
   local name
   {

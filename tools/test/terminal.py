@@ -1,4 +1,5 @@
-"""Types a script at a terminal: each answer comes before the next line is typed, and a fault is told."""
+# SPDX-License-Identifier: MIT
+"""Types a script at a terminal. Each answer has to come before the next line is typed, and a fault gets its message."""
 
 import os
 import pty
@@ -8,7 +9,7 @@ import sys
 # How many seconds an answer may take.
 LIMIT = 20
 HINT = "pobj: each line is carried out when it is ended; Ctrl-D at its beginning ends the script"
-# What is typed, and what has to be shown behind it.
+# What is typed, and what has to be shown after it.
 TYPED = [
     ("unit buffer 2\ncall Get 0\n", "#1"),
     ("call Put 7\n", "1 done 7"),
@@ -18,7 +19,7 @@ TYPED = [
 
 
 def read_until(terminal, shown, wanted):
-    """What was shown so far, once the wanted text stands in it."""
+    """Waits until the wanted text is shown, and returns all that was shown."""
     while wanted not in shown:
         ready, _, _ = select.select([terminal], [], [], LIMIT)
         if not ready:
@@ -31,7 +32,7 @@ def read_until(terminal, shown, wanted):
 
 
 def main(program):
-    """Types the script, and gives the status with which the program ends."""
+    """Types the script, and returns the status with which the program ends."""
     child, terminal = pty.fork()
     if child == 0:
         os.execv(program, [program, "run"])

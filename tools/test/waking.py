@@ -1,6 +1,7 @@
 #!/usr/bin/env python3
-"""Plants bugs of waking in the object for threads, and plays the scenes of crates/test_schedules over each: the schedule that
-shows it has to be found. Prints a line for each, and at the end 'N passed, M failed'.
+# SPDX-License-Identifier: MIT
+"""Plants bugs of waking in the object for threads, and plays the scenes of crates/test_schedules over each, which have to find a
+schedule that shows it. Prints a line for each bug, and at the end 'N passed, M failed'.
 
 Each is tried in a copy of the sources by `rt try`, which proves nothing: about a minute."""
 
@@ -18,7 +19,7 @@ STAY = """        self.stay(pass.seat());
 """
 AT_ONCE = "            drop(taken);\n            self.wake(&sleepers);\n            return Ok(end);\n"
 TICK = "        let clock = taken.locked.tick(front, t)?;\n        let sleepers = self.tell(&taken.locked, None);\n"
-ABORT = "        let aborted = taken.locked.abort_seat(front, seat)?;\n        let sleepers = self.tell(&taken.locked, None);\n"
+ABORT = "        let aborted = taken.locked.cancel_seat(front, seat)?;\n        let sleepers = self.tell(&taken.locked, None);\n"
 FINAL = "        taken.locked.finalize(front)?;\n        let sleepers = self.tell(&taken.locked, None);\n        drop(taken);\n        self.wake(&sleepers);\n"
 REPLY = "        drop(taken);\n        self.wake(&sleepers);\n        Ok(reply)\n"
 WAKE = "self.wake(&sleepers);\n"
@@ -47,7 +48,7 @@ ISSUE = """        pass.receipts.make_room()?;
 """
 ROOM = "        pass.receipts.make_room()?;\n"
 
-# Of each bug: what is wrong, the file, its old and its new text, and the words by which the program plays a scene that shows it.
+# For each bug: what is wrong, the file, its old and its new text, and the words by which the program plays a scene that shows it.
 BUGS = [
     ("a call says that it waits after the lock is left", "object.rt",
      STAY, STAY.replace("        self.stay(pass.seat());\n        drop(taken);\n", "        drop(taken);\n        self.stay(pass.seat());\n"), "pair recorded"),
@@ -58,22 +59,22 @@ BUGS = [
     ("tick tells before it raises the clock", "object.rt",
      TICK, "        let sleepers = self.tell(&taken.locked, None);\n        let clock = taken.locked.tick(front, t)?;\n", "tick recorded"),
     ("tick doesn't tell the seat 0", "object.rt", TICK, TICK.replace("None", "Some(0)"), "tick recorded"),
-    ("abort_seat doesn't tell the seat", "object.rt", ABORT, ABORT.replace("None", "Some(seat)"), "cancel recorded"),
+    ("cancel_seat doesn't tell the seat", "object.rt", ABORT, ABORT.replace("None", "Some(seat)"), "cancel recorded"),
     ("more sleepers than can be noted aren't woken", "object.rt",
      MANY, MANY.replace("there.wake(&self.steps, seat);", "let _ = there;"), "five recorded"),
     ("the same, bounded", "object.rt", MANY, MANY.replace("there.wake(&self.steps, seat);", "let _ = there;"), "five bounded"),
     ("a caller sleeps with the lock", "object.rt", SLEEP, "                let held = self.look(rt);\n" + SLEEP + "                drop(held);\n", "pair recorded"),
     ("finalize neither tells nor wakes", "object.rt", FINAL, "        taken.locked.finalize(front)?;\n", "final recorded"),
     ("a procedure wakes nobody", "object.rt", REPLY, REPLY.replace(WAKE, NO_WAKE), "five recorded"),
-    ("who ends a call leaves its flag", "seat.rt", SWAP, SWAP.replace("swap(ENDED, ", "load("), "pair recorded"),
+    ("a thread that ends a call leaves its flag", "seat.rt", SWAP, SWAP.replace("swap(ENDED, ", "load("), "pair recorded"),
     ("a caller looks and falls asleep in two steps", "seat.rt", FALL_ASLEEP, LOOK_THEN_SET, "pair recorded"),
-    ("a caller that sleeps again takes its call for ended", "seat.rt", "            == Err(ENDED)\n", "            .is_err()\n", "requeue recorded"),
+    ("a caller that sleeps again believes that its call has ended", "seat.rt", "            == Err(ENDED)\n", "            .is_err()\n", "requeue recorded"),
     ("the same, with a pass that changes threads", "seat.rt", "            == Err(ENDED)\n", "            .is_err()\n", "hand recorded"),
     ("a call is issued before there is room for its receipt", "locked_core.rt", ISSUE, ISSUE.replace(ROOM, "") + ROOM, "pair refused"),
     ("a seat is woken at another's place", "opening.rt", "    parkers.reverse();\n", "", "pair recorded"),
 ]
 
-# What looks wrong and isn't: who ends the call after the look has seen a sleeper, and wakes it.
+# What looks wrong and isn't: whichever thread ends the call after that look sees a sleeper, and wakes it.
 HARMLESS = [
     ("a caller says again that it waits, before it sleeps again", "object.rt",
      AGAIN, AGAIN.replace("continue;", "self.stay(pass.seat());\n                    continue;"), "requeue recorded"),
@@ -81,7 +82,7 @@ HARMLESS = [
 
 
 def play(program, words):
-    """Plays a scene, and answers how the program ended, and what it wrote."""
+    """Plays a scene, and returns the status of the program, and what it wrote."""
     command = ["rt", "try", "--seconds", "120", "--", *words.split()]
     ran = subprocess.run(command, cwd=program, stdin=subprocess.DEVNULL, capture_output=True, text=True, errors="replace")
     return ran.returncode, ran.stdout + ran.stderr
@@ -93,17 +94,17 @@ def is_found(said):
 
 
 def has_passed(said):
-    """Whether the program played all that it was to, and found nothing."""
+    """Whether the program played all its schedules, and found nothing."""
     return ": schedule " not in said and "ended status=0" in said
 
 
 def try_bug(room, bug, is_good):
-    """Plants a bug in the copy, plays its scene, takes the bug out again, and answers whether what came of it is good."""
+    """Plants a bug in the copy, plays its scene, takes the bug out again, and returns whether the outcome is good."""
     name, file, old, new, words = bug
     path = room / "crates/po_object/src" / file
     text = path.read_text()
     if text.count(old) != 1:
-        print(f"FAILED: {name}: its old text stands in {file} {text.count(old)} times", flush=True)
+        print(f"FAILED: {name}: its old text is in {file} {text.count(old)} times, and not once", flush=True)
         return False
     path.write_text(text.replace(old, new))
     status, said = play(room / "crates/test_schedules", words)
@@ -114,7 +115,7 @@ def try_bug(room, bug, is_good):
 
 
 def main():
-    """Tries all bugs, and gives the status."""
+    """Tries all bugs, and returns the exit status."""
     with tempfile.TemporaryDirectory() as folder:
         room = pathlib.Path(folder)
         copy_sources(room)

@@ -1,5 +1,6 @@
+# SPDX-License-Identifier: MIT
 """Which definitions a contract rests on: those of crates/*/specs that its clauses cite, those that these cite in turn, and the
-types of crates/*/src that they speak of. A definition is told by its file and its name. Read by definitions.py and believed.py."""
+types of crates/*/src that they speak of. A definition is a file and a name. Read by definitions.py and believed.py."""
 
 import functools
 import pathlib
@@ -8,6 +9,15 @@ import re
 TOP = pathlib.Path(__file__).resolve().parent.parent.parent
 CRATES = TOP / "crates"
 
+
+def look_in(top):
+    """Looks from now on in the repository in this folder, as it is now."""
+    global TOP, CRATES
+    TOP, CRATES = top, top / "crates"
+    for cached in (definitions, all_types, scope, cited):
+        cached.cache_clear()
+
+
 # The beginning of a definition: its indent, a record or data, its name.
 HEADER = re.compile(r"( *)(?:(?:abbrev|unfoldable) )?(?:pub )?(?:rec )?(?:(record|data) )?([A-Za-z]\w*) *(:|\(|\{)")
 KEYWORD = re.compile(r" *(abbrev|unfoldable|pub|record|data) ")
@@ -15,7 +25,7 @@ USE = re.compile(r"\buse Rattle\.([\w.]+)\.\{([^}]*)\}")
 NAME = re.compile(r"(?<![\w.])[A-Za-z]\w*")
 # A label of a record, or of a field; the name of a variant.
 LABEL = re.compile(r"(?<=[{;]) *\w+ = |^ *\w+ = |^ *(?:pub )?\w+ : |^ +\w+(?=[,({]|: )")
-# Names that a line binds: behind λ, in front of a colon in parentheses, behind let.
+# Names that a line binds: after λ, in front of a colon in parentheses, after let.
 BINDERS = re.compile(r"λ ([\w ]+)\.|[({]([\w ]+) :|\blet (\w+) =")
 
 
@@ -30,7 +40,7 @@ def uses(text):
 
 
 def defined(words, name):
-    """The definition that has this path. None where it is none of crates/*, but of the toolchain's libraries."""
+    """The definition that has this path. None if it isn't of crates/*, but of the toolchain's libraries."""
     if len(words) == 3 and words[1] == "specs":
         path = CRATES / words[0] / "specs" / f"{words[2]}.antt"
         return (path, name) if path.exists() else None
@@ -52,8 +62,8 @@ def without_comments(text, mark):
 
 
 def begins(line, record):
-    """What the line begins to define: the name, and the indent where it is a record or data. None where it begins nothing, as
-    a field of the record above doesn't, which has the indent `record`."""
+    """What the line begins to define: its name, and its indent if it is a record or data. None if it begins nothing: a field of the
+    record above, whose indent is `record`, is no definition."""
     header = HEADER.match(line)
     if not header or not (KEYWORD.match(line) or header[4] == ":"):
         return None
@@ -126,7 +136,7 @@ def binders(line):
 
 
 def parameters(line, name):
-    """The names that an equation of this definition takes; None where the line isn't the beginning of one."""
+    """The names that an equation of this definition takes. None if the line doesn't begin one."""
     head, equals, _ = line.partition(" =")
     words = NAME.findall(head)
     return set(words[1:]) if equals and words[:1] == [name] else None

@@ -1,10 +1,13 @@
 #!/usr/bin/env python3
-"""Tries the wrong bodies of crates (crates/NAME/must-fail/*.edit): the prover has to refuse each. Without names those of all
-crates. Prints a line for each, and at the end 'N passed, M failed'.
+# SPDX-License-Identifier: MIT
+"""Tries the wrong bodies of crates (crates/NAME/must-fail/*.edit), without names those of all crates. The prover has to refuse each
+since a clause is false of it. An edit is BAD, and fails too, if the prover refuses it only because a proof names what it took away.
+Prints a line for each edit, and at the end 'N passed, M failed'.
 
-They are tried in a copy of the sources, or with --in FOLDER in a copy that is there, over what the toolchain kept of proofs of
-these sources. Those of one crate stand in one check, if each has functions of its own, and each of these has to be refused: a
-quarter of a minute each. What is left is tried alone. `rt ci` tries each alone, and each crate from nothing."""
+The edits are tried in a copy of the sources, or with --in FOLDER in that copy, over what the toolchain kept of proofs of these
+sources: a quarter of a minute each. Edits of one crate share a check if each is in functions of its own, and the prover has to
+refuse each of these functions. Edits that this doesn't settle are tried alone. `rt ci` tries each alone, and each crate from
+nothing."""
 
 import os
 import pathlib
@@ -15,6 +18,14 @@ import sys
 import tempfile
 
 TOP = pathlib.Path(__file__).resolve().parent.parent.parent
+
+# A line of a check that says what is wrong at a place in a file; one that says what wasn't checked for that; one of a proof file that
+# names what isn't there; and one of a text that can't be read. `rt must-fail` tells them apart this way, except for the second.
+PLACE = re.compile(r"(?:note: )?\S+:\d+:\d+:")
+UNCHECKED = re.compile(r"which was rejected, (was|were) not checked")
+NAMING = re.compile(r"(?:note: )?(?:\./)?(proofs/[^:]+).*(?:has no field|is not in scope|has no `|was not admitted)")
+ERROR = re.compile(r"(?:\./)?(\S+?):\d+:\d+: error: (?:(`[^`]*`): )?(.*)")
+UNREADABLE = re.compile(r"is not in scope|has no field|is no name|operand is missing|expected the end|cannot continue")
 
 
 def changes_of(edit):
@@ -36,14 +47,14 @@ def edited(edits, crate):
     for path, old, new in (change for edit in edits for change in changes_of(edit)):
         text = texts.get(path) or (crate / path).read_text()
         if text.count(old) != 1:
-            raise ValueError(f"its old text stands in {path} {text.count(old)} times")
+            raise ValueError(f"its old text is in {path} {text.count(old)} times, and not once")
         texts[path] = text.replace(old, new)
     return texts
 
 
 def module(path):
-    """The module of this file, as `rt check` names it. A method goes by the module of its type, so a folder's file by that of the
-    folder; the crate's own text has none."""
+    """The module of this file, as `rt check` names it: for a file in a folder that of the folder, since a method is named by the
+    module of its type. The crate's root file has none."""
     parts = pathlib.PurePath(path).with_suffix("").parts
     return [parts[1]] if parts[0] == "src" and parts[1:] not in (("lib",), ("main",)) else []
 
@@ -54,7 +65,7 @@ def modules(paths):
 
 
 def without_parameters(text):
-    """The text without what stands in angle brackets."""
+    """The text without what is in angle brackets."""
     while (shorter := re.sub(r"<[^<>]*>", "", text)) != text:
         text = shorter
     return text
@@ -71,7 +82,7 @@ def split_parameters(text):
 
 
 def name_of_type(head):
-    """How a check names the type of an `impl` with this head: with its trait behind it, or with what stands for its parameters."""
+    """How a check names the type of an `impl` with this head: followed by its trait, or by the arguments for its parameters."""
     parameters, rest = split_parameters(re.sub(r"^(unsafe )?impl\s*", "", head.replace("->", "")))
     trait, _, of = rest.rpartition(" for ")
     names = re.findall(r"\w+", of)
@@ -82,7 +93,7 @@ def name_of_type(head):
 
 
 def owner(lines):
-    """The name of the type whose methods stand behind these lines, or the empty name."""
+    """The name of the type whose methods follow these lines, or the empty name."""
     tops = [number for number, line in enumerate(lines) if re.match(r"(unsafe )?impl\b", line)]
     if not tops or "}" in lines[tops[-1] :]:
         return ""
@@ -126,15 +137,46 @@ def only(names):
 
 
 def not_proved(said):
-    """The functions of which a check says that they aren't proved, but for those that call one of which it says so."""
+    """The functions of which a check says that they aren't proved, without those that only call such a function."""
     return re.findall(r"^fn (\S+): (?:not proved|no proof: (?!it calls))", said, re.M)
+
+
+def complaints(said):
+    """The lines of a check that say what is wrong: its errors and notes, or if there are none all lines about a place."""
+    told = [line for line in said.splitlines() if PLACE.match(line) and not UNCHECKED.search(line)]
+    return [line for line in told if ": error" in line or line.startswith("note: ")] or told
+
+
+def naming(said):
+    """The files of proofs that name what isn't there, as a check says."""
+    return [found[1] for line in complaints(said) if (found := NAMING.match(line))]
+
+
+def unread(line, paths):
+    """Whether the line says that the prover can't read a text of src/, specs/ or one of these files. If an edit only makes a
+    statement false, the prover reads all."""
+    found = ERROR.match(line)
+    if not found or not (found[1] in paths or found[1].startswith(("src/", "specs/"))):
+        return False
+    return not found[2] or UNREADABLE.search(re.sub(r"`[^`]*`", "", found[3])) is not None
+
+
+def why_bad(said, paths):
+    """Why the refusal of an edit of these files says nothing of a contract, or None if it does."""
+    told = complaints(said)
+    unreadable = [line for line in told if unread(line, paths)]
+    if unreadable:
+        return f"the prover can't read the edited text: {unreadable[0]}"
+    if told and all(NAMING.match(line) for line in told):
+        return f"refused only because a proof names what it took away: {told[0]}"
+    return None
 
 
 def says_refused(status, said):
     """Whether the check came to the proofs, and one of them failed, or met a limit of the prover, as `rt must-fail` has it."""
     if status == 3:
         return re.search(r"antt ran out of |outgrew the memory limit|stopped at the step limit", said) is not None
-    # A look at the crate before its libraries are built says so of no function; the check comes last.
+    # (before its libraries are built, a first pass over the crate prints this line too, about no function; the check's comes last)
     told = re.findall(r"^only=(\d+) proved=(\d+)", said, re.M)
     if told:
         return status == 1 and told[-1][0] != told[-1][1]
@@ -142,8 +184,8 @@ def says_refused(status, said):
 
 
 def side_by_side(edits, crate):
-    """Some of the edits, each in functions of its own: what stands in one function is no matter to the proof of another, which
-    sees its contract alone."""
+    """Some of the edits, each in functions of its own, and these functions. The proof of one function doesn't depend on the body of
+    another, since it uses only its contract."""
     chosen, taken = [], set()
     for edit in edits:
         found = functions(crate, edit)
@@ -153,66 +195,87 @@ def side_by_side(edits, crate):
     return chosen, taken
 
 
+def settled(said, names):
+    """The functions, of these, that the prover refuses in a check, and no proof file of theirs names what isn't there. None if such a
+    file belongs to none of the functions: nobody can tell then which of them are refused for that alone."""
+    by_name = {name: [path for path in naming(said) if f"/{name.replace('::', '/')}/" in path] for name in names}
+    if set(naming(said)) - {path for paths in by_name.values() for path in paths}:
+        return set()
+    wrong = not_proved(said)
+    return {name for name in names if not by_name[name] and any(f"::{it}".endswith(f"::{name}") for it in wrong)}
+
+
+def check_together(edits, names, crate):
+    """Those of the edits, which are in functions of these names, that one check of all of them refuses for sure."""
+    texts = edited(edits, crate)
+    status, said = check(crate, texts, only(names))
+    if status == 2:
+        # (the check has another name for one of them)
+        status, said = check(crate, texts, only(modules(texts)))
+    if status != 1 or any(unread(line, texts) for line in complaints(said)):
+        return []
+    refused = settled(said, names)
+    return [edit for edit in edits if functions(crate, edit) & refused]
+
+
 def refused_together(edits, crate):
-    """Those of the edits that the prover refuses each in its own function, tried side by side, as many at once as there can be."""
-    refused, new = [], edits
+    """Those of the edits that the prover refuses for sure, tried side by side, as many at once as possible."""
+    refused, new, left = [], edits, edits
     while new:
-        chosen, names = side_by_side([edit for edit in edits if edit not in refused], crate)
+        chosen, names = side_by_side(left, crate)
         if len(chosen) < 2:
             break
-        texts = edited(chosen, crate)
-        status, said = check(crate, texts, only(names))
-        if status == 2:
-            # (a name that the check has otherwise)
-            status, said = check(crate, texts, only(modules(texts)))
-        wrong = not_proved(said) if status == 1 else []
-        new = [edit for edit in chosen if any(f"::{it}".endswith(f"::{name}") for it in wrong for name in functions(crate, edit))]
+        new = check_together(chosen, names, crate)
         refused += new
+        left = [edit for edit in left if edit not in chosen]
     return refused
 
 
-def tell(edit, crate, refused, said=""):
-    """Prints what came of the edit, and answers whether it was refused."""
+def report(edit, crate, fault=None):
+    """Prints what came of the edit, which was refused if there is no fault, and returns whether it was."""
     name = f"{crate.name}/{edit.stem}"
-    print(f"{name}: refused" if refused else f"FAILED: {name}: not refused, or not tried: {said}", flush=True)
-    return refused
+    print(f"{fault.partition(': ')[0]}: {name}: {fault.partition(': ')[2]}" if fault else f"{name}: refused", flush=True)
+    return fault is None
 
 
-def try_edit(edit, crate):
-    """Tries one wrong body in the copy of its crate, prints what came of it, and answers whether it was refused."""
+def fault_of(edit, crate):
+    """What is wrong with an edit, tried alone in the copy of its crate, or None if the prover refuses it as it should."""
     try:
         texts = edited([edit], crate)
         status, said = check(crate, texts, only(modules(texts)))
     except (OSError, ValueError) as fault:
-        return tell(edit, crate, False, str(fault))
-    return tell(edit, crate, says_refused(status, said), f"status {status}: {said[-400:]}")
+        return f"FAILED: not tried: {fault}"
+    if not says_refused(status, said):
+        return f"FAILED: not refused, or not tried: status {status}: {said[-400:]}"
+    bad = why_bad(said, texts)
+    return bad and f"BAD: {bad[:400]}"
 
 
 def try_crate(edits, crate):
-    """Tries the wrong bodies of a crate in its copy: side by side, and each that this doesn't refuse alone. Answers of each whether
+    """Tries the wrong bodies of a crate in its copy: side by side, and alone each that this doesn't settle. Returns for each whether
     it was refused."""
     try:
         refused = refused_together(edits, crate)
     except (OSError, ValueError):
         refused = []
-    return [tell(edit, crate, True) if edit in refused else try_edit(edit, crate) for edit in edits]
+    return [report(edit, crate, None if edit in refused else fault_of(edit, crate)) for edit in edits]
 
 
 def copy_sources(to):
-    """Copies what the toolchain reads into a folder; what it kept here it finds by itself."""
+    """Copies what the toolchain reads into a folder. It finds by itself what it kept of proofs."""
     for name in ("crates.txt", "HANDLES"):
         shutil.copy(TOP / name, to / name)
     shutil.copytree(TOP / "crates", to / "crates", ignore=shutil.ignore_patterns("out", "must-fail"))
 
 
 def try_crates(names, room):
-    """Tries the wrong bodies of these crates in the copy, and answers of each whether it was refused."""
+    """Tries the wrong bodies of these crates in the copy, and returns for each whether it was refused."""
     found = {name: sorted((TOP / "crates" / name / "must-fail").glob("*.edit")) for name in names}
     return [refused for name, edits in found.items() for refused in try_crate(edits, room / "crates" / name)]
 
 
 def main(names):
-    """Tries the wrong bodies of these crates, and gives the status."""
+    """Tries the wrong bodies of these crates, and returns the exit status."""
     there = None
     if names[:1] == ["--in"]:
         there, names = pathlib.Path(names[1]), names[2:]

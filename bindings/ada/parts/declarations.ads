@@ -12,10 +12,10 @@
    function GNARL_Count
      (Object : Protection_Entries'Class;
       E      : Protected_Entry_Index) return Natural;
-   --  What stands here without pobj, for the objects that it doesn't serve
+   --  GNARL's own subprograms, for the objects that pobj doesn't serve
 
    procedure Leave
      (Self_ID : Task_Id;
       Object  : Entries.Protection_Entries_Access);
    pragma Inline (Leave);
-   --  The object is at rest behind PO_Do_Or_Queue: gives its lock up
+   --  Gives the lock up: after PO_Do_Or_Queue the object is at rest

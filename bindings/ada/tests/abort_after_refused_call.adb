@@ -1,5 +1,5 @@
---  A call that raises Program_Error, as its object is finalized (9.4) or the task is inside of it (9.5.1), leaves a task that
---  can be aborted afterwards (9.8).
+--  A call raises Program_Error because its object is finalized (9.4) or the task is inside it (9.5.1). Afterwards the task can
+--  still be aborted (9.8).
 
 pragma Detect_Blocking;
 
@@ -85,7 +85,7 @@ procedure Abort_After_Refused_Call is
 
    type Later is new Limited_Controlled with null record;
 
-   --  The calls are made where the object is finalized, and still there
+   --  The calls are made after the object is finalized, while it still exists
 
    overriding procedure Finalize (Unused : in out Later) is
    begin

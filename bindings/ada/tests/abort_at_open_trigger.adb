@@ -1,5 +1,5 @@
---  A task is aborted while it computes, and then selects by a trigger whose entry is open: it ends there, or at the next
---  point where an abort completes, and doesn't go on (9.7.4, 9.8).
+--  A task is aborted while it computes, and then enters a select whose trigger calls an open entry. It ends there, or at the
+--  next point at which an abort completes, and doesn't go on (9.7.4, 9.8).
 
 with Ada.Calendar; use Ada.Calendar;
 with Ada.Text_IO;  use Ada.Text_IO;

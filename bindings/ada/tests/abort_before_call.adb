@@ -1,5 +1,5 @@
 --  A task is aborted while it computes, and then calls an entry. The call is requeued without abort, and later with abort
---  onto a closed entry: there it is cancelled (9.5.4, 9.8).
+--  to a closed entry: there it is cancelled (9.5.4, 9.8).
 
 with Ada.Text_IO; use Ada.Text_IO;
 with GNAT.OS_Lib;

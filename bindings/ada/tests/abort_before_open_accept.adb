@@ -1,5 +1,5 @@
---  A call is requeued without abort within its object, its caller is aborted, and then it is requeued with abort to a
---  task that waits to accept it: it is cancelled, and not accepted (9.5.4, 9.8).
+--  A call is requeued without abort within its object, its caller is aborted, and then the call is requeued with abort to a
+--  task that waits to accept it: it is cancelled, not accepted (9.5.4, 9.8).
 
 with Ada.Text_IO; use Ada.Text_IO;
 with GNAT.OS_Lib;

@@ -1,5 +1,5 @@
 --  A task is aborted while it computes, and then calls an entry. The call is requeued without abort, and later with abort
---  onto an open entry: it is cancelled, and that entry's body doesn't run (9.5.4, 9.8).
+--  to an open entry: it is cancelled, and that entry's body doesn't run (9.5.4, 9.8).
 
 with Ada.Text_IO; use Ada.Text_IO;
 with GNAT.OS_Lib;

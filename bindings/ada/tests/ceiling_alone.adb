@@ -1,4 +1,4 @@
---  Under Ceiling_Locking alone tasks have no real-time priorities, for root too: the runtime checks no ceiling then.
+--  Under Ceiling_Locking alone tasks have no real-time priorities, not even root's: then the runtime checks no ceiling.
 pragma Locking_Policy (Ceiling_Locking);
 with Ada.Text_IO; use Ada.Text_IO;
 procedure Ceiling_Alone is

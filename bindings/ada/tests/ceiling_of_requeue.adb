@@ -1,6 +1,6 @@
---  A caller's priority is raised above the ceiling of the object on which it waits (D.5.1), and its call is cancelled. So
---  another caller's entry opens, whose body requeues the call to a second object with this ceiling: that is no violation
---  of it (D.3). It needs real-time priorities.
+--  A caller's priority is raised above the ceiling of the object on which it waits (D.5.1), and its call is cancelled. This
+--  opens the entry of another caller, and the entry's body requeues the call to a second object with the same ceiling, which
+--  doesn't violate it (D.3). It needs real-time priorities.
 
 pragma Task_Dispatching_Policy (FIFO_Within_Priorities);
 pragma Locking_Policy (Ceiling_Locking);

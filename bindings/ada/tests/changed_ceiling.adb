@@ -1,6 +1,6 @@
---  The ceiling that an object's Priority has got is the one that calls are checked by, once the protected action has ended
---  (D.5.2): raised, and then lowered; of an object with an entry, on which a task waits whose priority is raised above the
---  ceiling and which is aborted then, and of one without. It needs real-time priorities.
+--  When a protected action has set its object's Priority, later calls are checked against the new ceiling (D.5.2). It is
+--  raised, and then lowered: for an object with an entry, on which a task waits whose priority is raised above the ceiling
+--  and which is then aborted, and for an object without. It needs real-time priorities.
 
 pragma Task_Dispatching_Policy (FIFO_Within_Priorities);
 pragma Locking_Policy (Ceiling_Locking);

@@ -1,5 +1,4 @@
---  A conditional call that is requeued without abort to a task, which accepts it later: it isn't cancelled (9.5.4,
---  9.7.3).
+--  A conditional call is requeued without abort to a task, which accepts it later: it isn't cancelled (9.5.4, 9.7.3).
 
 with Ada.Text_IO; use Ada.Text_IO;
 

@@ -1,4 +1,4 @@
---  A call in Finalize is made while aborts are deferred: an abort of its task doesn't cancel it, though it is requeued
+--  A call in Finalize is made while aborts are deferred: an abort of its task doesn't cancel it, even when it is requeued
 --  with abort (9.5.4, 9.8).
 
 with Ada.Finalization;

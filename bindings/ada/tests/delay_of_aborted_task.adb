@@ -1,5 +1,5 @@
 --  A task that is aborted in a delay statement does nothing more after it, whatever the clock (9.6, 9.8). A delay in Finalize
---  waits for its time, though its task was aborted: aborts are deferred (9.8).
+--  waits for its time even if its task was aborted, as aborts are deferred (9.8).
 
 with Ada.Calendar;     use Ada.Calendar;
 with Ada.Finalization; use Ada.Finalization;

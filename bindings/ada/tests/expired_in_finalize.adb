@@ -1,6 +1,6 @@
---  A timed call in Finalize, whose time comes while a requeue without abort protects it, and whose task is aborted then:
---  aborts are deferred, so it is as without one. The call is requeued with abort onto an open entry, and served (9.5.4,
---  9.7.2, 9.8).
+--  The time of a timed call in Finalize comes while a requeue without abort protects it, and then its task is aborted. Aborts
+--  are deferred, so this one changes nothing. The call is requeued with abort to an open entry, and served (9.5.4, 9.7.2,
+--  9.8).
 
 with Ada.Finalization;
 with Ada.Text_IO; use Ada.Text_IO;

@@ -1,5 +1,5 @@
---  A timed call in Finalize is requeued without abort to a task, and its time comes: it isn't cancelled, but accepted later
---  (9.5.4, 9.7.2).
+--  A timed call in Finalize is requeued without abort to a task, and its time comes: it isn't cancelled, and is accepted
+--  later (9.5.4, 9.7.2).
 
 with Ada.Finalization;
 with Ada.Text_IO; use Ada.Text_IO;

@@ -1,5 +1,7 @@
---  A program that hangs: one task waits for a value that nobody puts. What it
---  writes for POBJ_TRACE says so (tests/run.sh ends it).
+--  SPDX-License-Identifier: MIT
+--  This program hangs: the task Getter takes the one value that was put, and
+--  then waits for another that nobody puts. With POBJ_TRACE=FILE set, it keeps
+--  a record, and `pobj trace FILE` says: getter waits on get(#2).
 
 procedure Hangs is
 

@@ -1,4 +1,4 @@
---  Its record has the names of an object in a package's specification.
+--  The record of this program has the names of an object in a package's specification.
 
 with Gates;
 

@@ -1,5 +1,5 @@
---  Two callers each raise the exception of their own body, with its message (9.5.2, 11.4.1), though the first of them
---  carries out the second's body too, behind its own.
+--  Each of two callers raises the exception of its own body, with its message (9.5.2, 11.4.1), although the first of them
+--  carries out the second's body too, after its own.
 
 with Ada.Exceptions; use Ada.Exceptions;
 with Ada.Text_IO;    use Ada.Text_IO;

@@ -1,4 +1,4 @@
---  A task whose priority is above the ceiling of an object that it finalizes has its own priority again (D.3). It needs
+--  A task whose priority is above the ceiling of an object that it finalizes gets its own priority back (D.3). It needs
 --  real-time priorities.
 
 pragma Task_Dispatching_Policy (FIFO_Within_Priorities);

@@ -1,5 +1,5 @@
---  A task that has requeued the call of a more urgent one to another task has its own priority again (D.1), whatever the
---  priority of that one. A queue under Priority_Queuing (D.4) shows it.
+--  A task that has requeued the call of a more urgent one to another task gets its own priority back (D.1), whatever the
+--  priority of that other task. A queue under Priority_Queuing (D.4) shows it.
 
 pragma Queuing_Policy (Priority_Queuing);
 

@@ -1,5 +1,5 @@
 --  A task that waits on an object gets a priority above its ceiling (D.5.1) while its call is requeued from there to another
---  object: it keeps that priority, and no other task gets it (D.1, D.3). It needs real-time priorities.
+--  object. It keeps that priority, and no other task gets it (D.1, D.3). It needs real-time priorities.
 
 pragma Task_Dispatching_Policy (FIFO_Within_Priorities);
 pragma Locking_Policy (Ceiling_Locking);

@@ -1,5 +1,5 @@
---  Under Priority_Queuing (D.4) GNAT's own runtime has the entry calls: the
---  caller with the higher priority is served first, though it came second.
+--  Under Priority_Queuing (D.4) GNAT's own runtime serves the entry calls: the
+--  caller with the higher priority is served first, although it came second.
 
 pragma Queuing_Policy (Priority_Queuing);
 

@@ -1,5 +1,6 @@
---  A task that waits on an object gets a priority above its ceiling, and then another one, while an entry body runs there for its
---  call, which is requeued to the same object or another one: the task keeps the last (D.5.1). It needs real-time priorities.
+--  A task that waits on an object gets a priority above its ceiling, and then a second one, while an entry body runs there for
+--  its call, which is requeued to the same object or another. The task keeps the second one (D.5.1). It needs real-time
+--  priorities.
 
 pragma Task_Dispatching_Policy (FIFO_Within_Priorities);
 pragma Locking_Policy (Ceiling_Locking);

@@ -1,5 +1,5 @@
---  The program's restriction lets two calls be queued on an entry, and the
---  aspect of an entry one, or three (D.4, D.7): the smaller number holds.
+--  The program's restriction allows two queued calls on each entry, and the
+--  aspect of an entry allows one or three (D.4, D.7): the smaller number counts.
 
 pragma Restrictions (Max_Entry_Queue_Length => 2);
 

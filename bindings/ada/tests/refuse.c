@@ -8,7 +8,7 @@ void *__wrap_realloc(void *memory, size_t size);
 void refuse_after(int granted);
 int was_refused(void);
 
-static int left = -1; /* so many allocations are granted, then one is refused; less than 0: all are granted */
+static int left = -1; /* how many allocations are granted before one is refused; less than 0: all are granted */
 static int refused;
 
 void refuse_after(int granted) {

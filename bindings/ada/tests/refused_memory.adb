@@ -1,7 +1,7 @@
---  Each allocation of the engine's is refused in turn. The making of an
---  object, or an entry call, then raises Storage_Error (13.11), and the
---  object is as before: the same call succeeds when it is made again, and all
---  calls are served in the order in which they were queued.
+--  Each allocation of the engine is refused in turn. Then making an object, or
+--  an entry call, raises Storage_Error (13.11), and the object is as before:
+--  the same call succeeds when it is made again, and all calls are served in
+--  the order in which they were queued.
 
 with Ada.Synchronous_Task_Control; use Ada.Synchronous_Task_Control;
 with Ada.Text_IO;                  use Ada.Text_IO;
@@ -41,8 +41,8 @@ procedure Refused_Memory is
       function Waiting return Natural is (Pass'Count);
    end Gate;
 
-   --  Makes an object when the allocation behind so many is refused: whether
-   --  one was, and whether Storage_Error said so.
+   --  Makes an object with the allocation after this number of others refused.
+   --  Says whether one was, and whether Storage_Error was raised for it.
 
    procedure Try_Making (Granted : Natural; Refused, Is_Well : out Boolean) is
    begin
@@ -61,8 +61,8 @@ procedure Refused_Memory is
          Is_Well := Refused;
    end Try_Making;
 
-   --  The same of the calls of many tasks on one object. The call that is
-   --  refused is made again, and all are served in their order.
+   --  The same for the calls of many tasks on one object. The refused call is
+   --  made again, and all are served in their order.
 
    procedure Try_Calls (Granted : Natural; Refused, Is_Well : out Boolean) is
       Start  : array (1 .. Callers) of Suspension_Object;

@@ -1,5 +1,5 @@
---  The trigger of an asynchronous select raises Program_Error, as its object is finalized (9.4) or the task is inside of a
---  protected action (9.5.1): nothing else comes of it, and the task goes on (9.7.4).
+--  The trigger of an asynchronous select raises Program_Error because its object is finalized (9.4) or the task is inside a
+--  protected action (9.5.1). Nothing else happens, and the task goes on (9.7.4).
 
 pragma Detect_Blocking;
 
@@ -42,7 +42,7 @@ procedure Refused_Trigger is
 
    type Later is new Limited_Controlled with null record;
 
-   --  The calls are made where the object is finalized, and still there
+   --  The calls are made after the object is finalized, while it still exists
 
    overriding procedure Finalize (Unused : in out Later) is
       task Caller;

@@ -1,4 +1,4 @@
-/* An engine that refuses each entry call: a runtime over it has to end the program (see run.sh). */
+/* An engine that refuses each entry call: a runtime made with it has to end the program (see run.sh). */
 #include "pobj.h"
 
 static int nothing;

@@ -1,6 +1,6 @@
---  An entry body, a procedure and a function of one object each call a procedure of another one. That opens an entry whose
---  call is requeued to the first object: it arrives there once the task is outside (9.5.1, 9.5.4), and nobody waits for
---  himself. Nor does one that is inside of an object without entries, which the requeued call uses.
+--  An entry body, a procedure and a function of one object each call a procedure of a second one. This opens an entry whose
+--  call is requeued to the first object. The call arrives there when the task is outside (9.5.1, 9.5.4), so no task waits for
+--  itself. The same holds if the task is inside an object without entries that the requeued call uses.
 
 with Ada.Text_IO; use Ada.Text_IO;
 with GNAT.OS_Lib;

@@ -1,7 +1,8 @@
 #!/usr/bin/env bash
-# Makes a runtime folder from libpobj.a and runs the programs of this folder over it: linked with it, and by its shared library.
-# A line says what passed and what failed. The last line is 'N passed, M failed, K skipped', and the exit status tells whether
-# nothing failed. With a second folder the runtime folder stays there.
+# SPDX-License-Identifier: MIT
+# Makes a runtime folder from libpobj.a and runs the programs of this folder over it: linked with it, and with its shared
+# library. Writes a line for each test. The last line is 'N passed, M failed, K skipped'. The exit status is 0 if none failed.
+# With a second folder the runtime folder stays there.
 set -u
 if [ $# -lt 1 ] || [ ! -f "$1/libpobj.a" ]; then
   echo "usage: bindings/ada/tests/run.sh LIB_DIR [DEST]    (LIB_DIR has libpobj.a)" >&2
@@ -15,7 +16,7 @@ cd "$(dirname "$0")" || exit 2
 include=$(cd ../../../include && pwd)
 passed=0 failed=0 skipped=0
 
-# row NAME COMMAND..: a line, by the status of the command, and where it failed what it said.
+# row NAME COMMAND..: writes whether the command succeeds, and what it said if it fails.
 row() {
   local name=$1 said
   shift
@@ -29,7 +30,7 @@ row() {
   fi
 }
 
-# Compiles a program of this folder: linked with the runtime folder, or with GNAT's shared libraries.
+# Compile a program of this folder: linked with the runtime folder, or with GNAT's shared libraries.
 linked() { (cd "$scratch" && gnatmake -q -f -gnat2022 "--RTS=$dest" "$OLDPWD/$1.adb" -o "$1-linked" -bargs -static "${@:2}"); }
 shared() { (cd "$scratch" && gnatmake -q -f -gnat2022 "$OLDPWD/$1.adb" -o "$1-shared" -bargs -shared); }
 
@@ -42,7 +43,7 @@ writes() {
   shared "$1" && LD_LIBRARY_PATH=$dest/adalib timeout 60 taskset -c "$one" "$scratch/$1-shared" | diff "$1.out" -
 }
 
-# The same of one that needs real-time priorities.
+# The same for a program that needs real-time priorities.
 writes_urgently() {
   if chrt -f 1 true 2>/dev/null; then
     row "$1.adb" writes "$1"
@@ -52,7 +53,7 @@ writes_urgently() {
   fi
 }
 
-# Whether the record has all entries of an object with many of them.
+# Whether the record has all entries of an object with many.
 many_entries() {
   local number
   {
@@ -67,7 +68,19 @@ many_entries() {
   [ "$(../trace.sh "$scratch/many.record" | grep -cE ' e(1|149|150) +done')" -eq 3 ]
 }
 
-# Whether the record of a program isn't cut by one that it starts, and a file that takes no more is told of.
+# Whether `pobj ada --linked` says what carries out a program's entry calls: linked with the runtime folder, with its shared library,
+# with GNAT's, and linked with GNAT's own runtime.
+says_what_is_linked() {
+  linked hangs && shared hangs || return
+  (cd "$scratch" && gnatmake -q -f -gnat2022 "$OLDPWD/hangs.adb" -o hangs-own -bargs -static) || return
+  [[ $(../linked.sh "$scratch/hangs-linked") == *"runs over pobj, which is linked into it" ]] || return
+  [[ $(LD_LIBRARY_PATH=$dest/adalib ../linked.sh "$scratch/hangs-shared") == *"runs over pobj, by the library $dest/adalib/"* ]] || return
+  [[ $(../linked.sh "$scratch/hangs-shared") == *"runs on GNAT's own runtime, by the library "* ]] || return
+  [[ $(../linked.sh "$scratch/hangs-own") == *"runs on GNAT's own runtime, which is linked into it"* ]] || return
+  ! ../linked.sh "$scratch/hangs-own" && ! ../linked.sh hangs.adb
+}
+
+# Whether a program's record survives another program that it starts, and whether a full disk is reported.
 records_alone() {
   local said
   linked two_programs || return
@@ -77,14 +90,14 @@ records_alone() {
   [[ $said == *"takes no more"* ]]
 }
 
-# Whether each allocation of the library is refused in its turn, and the program says so.
+# Whether the program copes with each allocation of the library refused in turn, and says so.
 refused_memory() {
   gcc -c refuse.c -o "$scratch/refuse.o" &&
     linked refused_memory -largs "$scratch/refuse.o" -Wl,--wrap=malloc,--wrap=realloc &&
     timeout 120 "$scratch/refused_memory-linked" | diff refused_memory.out -
 }
 
-# Whether a program that hangs says in its record what waits.
+# Whether the record of a program that hangs shows what waits.
 record() {
   linked hangs || return
   POBJ_TRACE=$scratch/record timeout 3 "$scratch/hangs-linked"
@@ -98,7 +111,7 @@ record_of_package() {
   ../trace.sh "$scratch/package.record" | diff in_package.out -
 }
 
-# Whether a program without a record writes none, and under Priority_Queuing a line says why.
+# Whether a program under Priority_Queuing writes no record, and a line says why.
 no_record() {
   local said
   linked priority_queuing || return
@@ -106,7 +119,7 @@ no_record() {
   [[ $said == *Priority_Queuing* ]] && [ ! -e "$scratch/none" ]
 }
 
-# Whether a step that the engine refuses ends the program, with a message.
+# Whether a step that the engine refuses ends the program with a message.
 ends_where_refused() {
   local said status
   gcc -O1 "-I$include" -c refuses.c -o "$scratch/refuses.o" && ar rc "$scratch/librefuses.a" "$scratch/refuses.o" || return
@@ -117,7 +130,7 @@ ends_where_refused() {
   [ $status -eq 134 ] && [[ $said == *"refused a step"* ]]
 }
 
-# A GNAT in the path whose sources lack a line, and whose version is this one.
+# Makes a GNAT of this version whose sources lack a line.
 other_gnat() {
   local sources
   mkdir -p "$scratch/other/bin" "$scratch/other/adainclude"
@@ -132,7 +145,7 @@ other_gnat() {
   chmod +x "$scratch/other/bin/gnatls"
 }
 
-# Whether another GNAT is refused by a message with these words, and nothing is made.
+# Whether a GNAT of this version is refused by a message with these words, and nothing is made.
 refuses_gnat() {
   local said
   other_gnat "$1"
@@ -150,6 +163,7 @@ leaves_others() {
 row "the runtime folder" ../make.sh "$dest" "$library"
 row "the runtime folder, made again" ../make.sh "$dest" "$library"
 row "pobj ada --check" ../check.sh "$dest"
+row "pobj ada --linked" says_what_is_linked
 for name in abort_after_refused_call refused_trigger delay_of_aborted_task \
   exception_of_aborted_trigger timed_call_after_abort expired_on_task parameters_of_trigger \
   timed_call_to_task_after_abort \

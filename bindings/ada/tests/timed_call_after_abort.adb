@@ -1,4 +1,4 @@
---  A timed call in Finalize of a task that has been aborted: an abort doesn't affect it, so it waits for its time (9.7.2,
+--  A timed call in the Finalize of a task that has been aborted waits for its time: the abort doesn't affect it (9.7.2,
 --  9.8(10-11)).
 
 with Ada.Calendar; use Ada.Calendar;

@@ -1,5 +1,6 @@
 --  A timed call in Finalize is queued on an object, its task is aborted, and the call is requeued with abort to a task that
---  doesn't accept it yet. An abort doesn't affect it, and its time hasn't come: it is queued, and accepted later (9.5.4, 9.8).
+--  doesn't accept it yet. The abort doesn't affect it, and its time hasn't come, so it is queued and accepted later (9.5.4,
+--  9.8).
 
 with Ada.Finalization;
 with Ada.Text_IO; use Ada.Text_IO;

@@ -1,4 +1,4 @@
---  A program that starts itself once more: for POBJ_TRACE both would write one file. The record is the first one's.
+--  A program starts itself once more, and POBJ_TRACE names the same file for both. The record is the first program's.
 
 with Ada.Command_Line; use Ada.Command_Line;
 with GNAT.OS_Lib;      use GNAT.OS_Lib;

@@ -1,5 +1,5 @@
---  Under Ceiling_Locking (D.3) a task opens an entry for an urgent one, and makes a less urgent one ready in the same
---  protected action: the urgent one goes first. It needs real-time priorities, on one processor.
+--  Under Ceiling_Locking (D.3) a task opens an entry for an urgent task, and makes a less urgent one ready in the same
+--  protected action. The urgent one goes first. It needs real-time priorities, on one processor.
 
 pragma Task_Dispatching_Policy (FIFO_Within_Priorities);
 pragma Locking_Policy (Ceiling_Locking);

@@ -1,5 +1,5 @@
---  Under Ceiling_Locking (D.3) a task opens an entry for an urgent one, whose call is requeued to another object, and makes a
---  less urgent one ready in the same protected action: the urgent one goes first. It needs real-time priorities, on one
+--  Under Ceiling_Locking (D.3) a task opens an entry for an urgent task, whose call is requeued to another object, and makes a
+--  less urgent one ready in the same protected action. The urgent one goes first. It needs real-time priorities, on one
 --  processor.
 
 pragma Task_Dispatching_Policy (FIFO_Within_Priorities);

@@ -1,3 +1,4 @@
+/* SPDX-License-Identifier: MIT */
 /* A bounded buffer (ISO/IEC 8652:2023, 9.11): producers put numbers into it and consumers get them, each number once. An entry
    call waits while the buffer is full or empty; a conditional call doesn't, and a timed call doesn't for long. */
 #define _POSIX_C_SOURCE 200809L
@@ -67,7 +68,7 @@ static void start(pthread_t *thread, void *(*what)(void *), void *argument) {
         abort();
 }
 
-/* As many producers as consumers: the sum of what the consumers got. */
+/* Runs as many producers as consumers. Returns the sum of what the consumers got. */
 static long share_out(void) {
     pthread_t producers[PAIRS], consumers[PAIRS];
     long totals[PAIRS] = {0}, sum = 0;

@@ -1,6 +1,7 @@
+/* SPDX-License-Identifier: MIT */
 /* Readers and writers: any number of threads read at once, and one writes alone. A writer that has come keeps new readers out,
    and is requeued to wait until those that are inside have left (ISO/IEC 8652:2023, 9.5.4). By then it has closed the door, so
-   it can't be cancelled any more: the requeue is without abort. */
+   it mustn't be cancelled any more: the requeue is without abort. */
 #define _POSIX_C_SOURCE 200809L
 
 #include "pobj_threads.h"
@@ -11,7 +12,7 @@ enum { READ, WRITE, AWAIT_READERS, ENTRIES };
 enum { READERS = 4, WRITERS = 2, TIMES = 500 };
 
 struct door {
-    unsigned readers; /* that are inside */
+    unsigned readers; /* the number of readers inside */
     bool is_writing;  /* a writer is inside, or waits for the readers to leave */
 };
 
@@ -62,7 +63,7 @@ static const pobj_entry entries[ENTRIES] = {
 
 static struct door door;
 static pobj_protected object;
-static long left, right; /* what is read and written: outside of the object, and behind its door; both are always the same */
+static long left, right; /* what is read and written: it is outside the object, which guards it; both are always equal */
 
 static void *read_often(void *differences) {
     for (int i = 0; i < TIMES; i++) {

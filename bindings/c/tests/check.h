@@ -1,4 +1,4 @@
-/* What the tests have in common: a condition that doesn't hold ends the program with its line. */
+/* What the tests share: a condition that doesn't hold ends the program with its line. */
 #ifndef CHECK_H
 #define CHECK_H
 

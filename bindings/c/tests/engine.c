@@ -1,5 +1,5 @@
-/* Tests of the functions of pobj.h, one by one. A test walks through the steps by hand, or leaves them to carry_out, with
-   barriers and bodies that do as they are set. */
+/* Tests of the functions of pobj.h, one by one. A test takes the steps by hand, or leaves them to carry_out, whose barriers and
+   bodies do what the test has set. */
 #include "pobj.h"
 #include "check.h"
 
@@ -18,13 +18,13 @@ static struct {
 } calls[CALLERS];
 
 static struct {
-    long permits; /* so many calls does the barrier let through; less than 0: it raises */
+    long permits; /* how many calls the barrier lets through; less than 0: it raises */
     uint64_t how, target, marks; /* how the body ends */
 } entries[ENTRIES];
 
 static pobj_object object;
 static pobj_step step;
-static uint64_t order[CALLERS]; /* the callers whose calls have ended, the first first */
+static uint64_t order[CALLERS]; /* the callers whose calls have ended, in that order */
 static size_t ended;
 
 static uint64_t barrier(uint64_t entry) {
@@ -81,7 +81,7 @@ static void carry_out(uint64_t answer) {
         answer = carry_out_one(answer);
 }
 
-/* The whole call: what has become of it when the protected action is over. */
+/* Issues a call and carries out its protected action. Returns what has become of the call then. */
 static int issue(uint64_t caller, uint64_t entry, uint64_t marks) {
     uint64_t answer = pobj_issue(&object, caller, entry, marks, barrier(entry), &step);
     calls[caller].state = NONE;
@@ -99,7 +99,7 @@ static void next(void) {
     carry_out(pobj_next(&object, &step));
 }
 
-/* So many calls pass the barrier from now on, as behind a procedure. */
+/* Lets `permits` calls pass the barrier from now on, as a procedure would. */
 static void permit(uint64_t entry, long permits) {
     entries[entry].permits = permits;
     next();
@@ -134,7 +134,7 @@ static bool is_rest(uint64_t answer) {
     return pobj_action_of(answer) == POBJ_REST;
 }
 
-/* Each action, with the entry and the caller that it speaks of. */
+/* Each action names its entry and its caller. */
 static void actions(void) {
     begin();
     CHECK(is(pobj_issue(&object, 7, 1, 0, POBJ_OPEN, &step), POBJ_RUN, 1) && step.caller == 7);
@@ -158,7 +158,7 @@ static void actions(void) {
 
 enum { ISSUE = 1, ANSWER = 2, ENDED = 4, NEXT = 8, CANCEL = 16, FINALIZE = 32 };
 
-/* All but what the object waits for is refused, and neither the step nor a queue is changed by that. */
+/* Checks that every step is refused but the one that the object waits for, and that refusing changes no step and no queue. */
 static void refuses_all_but(unsigned awaited) {
     pobj_step scrap = {11, 12, 13};
     uint64_t counts[ENTRIES];
@@ -181,7 +181,7 @@ static void refuses_all_but(unsigned awaited) {
 
 static const unsigned commands = ISSUE | NEXT | CANCEL | FINALIZE;
 
-/* In each state that an object waits in, all that isn't awaited is refused, and then it goes on as it would have. */
+/* In each state an object refuses every step that it doesn't wait for, and then goes on as it would have. */
 static void refusals(void) {
     begin();
     refuses_all_but(commands);
@@ -213,7 +213,7 @@ static void refusals(void) {
     pobj_free(&object);
 }
 
-/* Any number of calls may be queued, and of an entry the first is served first. */
+/* Any number of calls may be queued, and within an entry the first is served first. */
 static void growth(void) {
     enum { MANY = 1500 };
     begin();
@@ -227,7 +227,7 @@ static void growth(void) {
     pobj_free(&object);
 }
 
-/* An object of fixed memory takes none after it is made, and has no room for one call more. */
+/* An object of fixed memory takes none after it is made, and has no room for one more call. */
 static void fixed(void) {
     forget();
     CHECK(pobj_make_fixed(&object, ENTRIES, FEW));
@@ -252,7 +252,7 @@ static void fixed(void) {
     pobj_free(&object);
 }
 
-/* The first entry with an open barrier is served first, and after each body all is looked at anew. */
+/* The first entry with an open barrier is served first, and after each body all barriers are evaluated again. */
 static void service_order(void) {
     begin();
     for (uint64_t i = 0; i < 6; i++)
@@ -269,7 +269,7 @@ static void service_order(void) {
     pobj_free(&object);
 }
 
-/* Requeues within the object, with and without abort, and with what is known of the call. */
+/* Requeues within the object, with and without abort, and with each mark. */
 static void requeues(void) {
     begin();
     entries[0].permits = 100;
@@ -294,7 +294,7 @@ static void requeues(void) {
     pobj_free(&object);
 }
 
-/* A requeued call goes behind those that are queued on its new entry, and may be served there in the same protected action. */
+/* A requeued call comes after those queued on its new entry, and may be served there in the same protected action. */
 static void requeued_behind(void) {
     begin();
     for (uint64_t i = 0; i < FEW; i++)
@@ -311,8 +311,8 @@ static void requeued_behind(void) {
     pobj_free(&object);
 }
 
-/* Of a call that is requeued without abort an abort is remembered, and a requeue with abort then cancels it. That its time has
-   come isn't: that is told with the requeue. */
+/* If a call is requeued without abort, an abort is remembered, and a later requeue with abort cancels the call. Its time isn't
+   remembered: the client marks the requeue as due. */
 static void remembered_abort(void) {
     begin();
     entries[0].permits = 100;
@@ -329,7 +329,7 @@ static void remembered_abort(void) {
     pobj_free(&object);
 }
 
-/* A call that leaves the object is none of its calls any more, and what was queued is looked at again. */
+/* A call that leaves the object is no longer one of its calls, and the queued ones' barriers are evaluated again. */
 static void elsewhere(void) {
     begin();
     entries[0].permits = 1;
@@ -343,7 +343,7 @@ static void elsewhere(void) {
     pobj_free(&object);
 }
 
-/* A call that is due is served where it can be in this protected action, and else cancelled. */
+/* A call that is due is served if it can be in this protected action, and cancelled if not. */
 static void conditional(void) {
     begin();
     CHECK(issue(0, 1, POBJ_DUE) == CANCELLED && pobj_count(&object, 1) == 0);
@@ -394,7 +394,7 @@ static void limit(void) {
     pobj_free(&object);
 }
 
-/* A barrier that raises ends all queued calls, and last the one that is being issued. */
+/* A barrier that raises ends all queued calls, and the one being issued last. */
 static void raising(void) {
     bool is_ended[FEW] = {false};
     begin();
@@ -461,7 +461,7 @@ static void sizes(void) {
     pobj_free(&object);
 }
 
-/* Of an object that is none nothing is asked, and nothing becomes of it: not yet made, freed, and freed once more. */
+/* An object that isn't made refuses every step, and stays so: not yet made, freed, and freed once more. */
 static void none(void) {
     const pobj_step before = {7, 8, 9};
     for (int times = 0; times < 2; times++) {
@@ -494,7 +494,7 @@ static void many_requeues(void) {
     pobj_free(&object);
 }
 
-/* One call that is served at once, one that waits, and one that is cancelled, so many times. */
+/* Makes one call that is served at once, one that waits, and one that is cancelled, again and again. */
 static void rounds(int times) {
     for (int i = 0; i < times; i++) {
         pobj_issue(&object, 1, 0, 0, POBJ_OPEN, &step);

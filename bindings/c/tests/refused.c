@@ -1,6 +1,6 @@
-/* Each allocation that a run of calls of pobj.h makes is refused in turn. A call whose memory is refused says so and changes
-   nothing: the same call then succeeds, and in the end all are served in the order in which they were queued. The same with
-   pobj_threads.h, where the system may also refuse what a caller sleeps on. Link with -Wl,--wrap=NAME for malloc, realloc,
+/* Refuses in turn each allocation that a run of calls of pobj.h makes. A call whose memory is refused says so and changes
+   nothing: the same call then succeeds, and in the end all are served in the order in which they were queued. The same is tried
+   with pobj_threads.h, where the system may also refuse what a caller sleeps on. Link with -Wl,--wrap=NAME for malloc, realloc,
    pthread_mutex_init and pthread_cond_init. */
 #define _POSIX_C_SOURCE 200809L
 
@@ -20,8 +20,8 @@ void *__wrap_realloc(void *memory, size_t size);
 int __wrap_pthread_mutex_init(pthread_mutex_t *mutex, const pthread_mutexattr_t *kind);
 int __wrap_pthread_cond_init(pthread_cond_t *condition, const pthread_condattr_t *clock);
 
-static long left = -1;    /* so many allocations are granted, then one is refused; less than 0: all are granted */
-static unsigned refusals; /* so many were refused */
+static long left = -1;    /* how many allocations are granted before one is refused; less than 0: all are granted */
+static unsigned refusals; /* how many were refused */
 
 static bool is_refused(void) {
     bool refused = left == 0;
@@ -62,7 +62,7 @@ static bool make(size_t fixed) {
     return fixed == 0 ? pobj_make(&object, ENTRIES) : pobj_make_fixed(&object, ENTRIES, fixed);
 }
 
-/* Only a refused allocation keeps an object from being made. */
+/* Makes an object. Only a refused allocation may prevent that. */
 static void make_at_last(size_t fixed) {
     unsigned before = refusals;
     if (!make(fixed)) {
@@ -76,7 +76,7 @@ static uint64_t issue(uint64_t caller, uint64_t entry, uint64_t marks, uint64_t 
     return pobj_issue(&object, caller, entry, marks, barrier, &step);
 }
 
-/* Issues a call. Where its memory is refused, nothing has changed, and it is issued again. */
+/* Issues a call. If its memory is refused, nothing has changed, and it is issued again. */
 static uint64_t issue_at_last(uint64_t caller, uint64_t entry, uint64_t marks, uint64_t barrier) {
     uint64_t before = queued();
     unsigned granted = refusals;
@@ -89,7 +89,7 @@ static uint64_t issue_at_last(uint64_t caller, uint64_t entry, uint64_t marks, u
     return issue(caller, entry, marks, barrier);
 }
 
-/* Answers that all barriers are closed that are asked for. */
+/* Answers that every barrier asked for is closed. */
 static uint64_t close(uint64_t answer) {
     while (pobj_action_of(answer) == POBJ_QUEUED || pobj_action_of(answer) == POBJ_EVALUATE)
         answer = pobj_answer(&object, POBJ_CLOSED, &step);
@@ -100,7 +100,7 @@ static void rests(uint64_t answer) {
     CHECK(pobj_action_of(answer) == POBJ_REST);
 }
 
-/* A call that is served at once, one that is requeued and then cancelled, and a conditional one: none stays. */
+/* Makes a call that is served at once, one that is requeued and then cancelled, and a conditional one: none stays. */
 static void pass(uint64_t caller) {
     uint64_t before = queued();
     CHECK(pobj_action_of(issue_at_last(caller, 0, 0, POBJ_OPEN)) == POBJ_RUN);
@@ -116,7 +116,7 @@ static void pass(uint64_t caller) {
     CHECK(queued() == before);
 }
 
-/* Serves all calls, and each entry's in the order in which they were queued. */
+/* Serves all calls, those of each entry in the order in which they were queued. */
 static void serve(uint64_t callers) {
     uint64_t expected[ENTRIES] = {0, 1, 2};
     uint64_t answer = pobj_next(&object, &step);
@@ -130,7 +130,7 @@ static void serve(uint64_t callers) {
     rests(answer);
 }
 
-/* The whole run, with the n-th allocation refused. True: there was such an allocation. */
+/* Carries out the whole run with the n-th allocation refused. Returns whether there was such an allocation. */
 static bool refuse(long n, size_t fixed) {
     unsigned before = refusals;
     left = n;
@@ -154,7 +154,7 @@ static long refuse_each(size_t fixed) {
     return n;
 }
 
-/* The same with pobj_threads.h. */
+/* The same with pobj_threads.h: */
 
 enum { CLOSED, OPEN, REQUEUE, MOVE };
 
@@ -181,7 +181,7 @@ static int move(pobj_call *call) {
 static const pobj_entry entries[] = {
     {"closed", is_closed, complete}, {"open", NULL, complete}, {"requeue", NULL, requeue}, {"move", NULL, move}};
 
-/* A call of the entry ends so, or is refused once before. */
+/* Checks that a call of the entry ends with this outcome, at once or after one refusal. */
 static void call_at_last(uint64_t entry, pobj_outcome outcome) {
     struct timespec past = {0, 0};
     int count = 0;

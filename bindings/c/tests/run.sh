@@ -1,7 +1,8 @@
 #!/usr/bin/env bash
+# SPDX-License-Identifier: MIT
 # Compiles and runs the tests and examples of bindings/c against LIB_DIR/libpobj.a: by gcc and by clang, plainly and with
-# sanitizers. A line says what passed, what failed, and what was skipped since a program for it isn't there. The last line is
-# 'N passed, M failed, K skipped', and the exit status tells whether nothing failed.
+# sanitizers. Writes a line for each test: passed, failed, or skipped because a program it needs isn't there. The last line is
+# 'N passed, M failed, K skipped'. The exit status is 0 if none failed.
 set -u
 if [ $# -ne 1 ] || [ ! -f "$1/libpobj.a" ]; then
   echo "usage: bindings/c/tests/run.sh LIB_DIR    (a folder that has libpobj.a)" >&2
@@ -19,7 +20,7 @@ addresses=(-O1 -g "-fsanitize=address,undefined" -fno-sanitize-recover=all)
 races=(-O1 -g -fsanitize=thread)
 seconds=1
 
-# row NAME COMMAND..: a line, by the status of the command, and what it said if it failed.
+# row NAME COMMAND..: writes whether the command succeeds, and what it said if it fails.
 row() {
   local name=$1 said
   shift
@@ -39,8 +40,8 @@ is_there() {
   command -v "$1" > /dev/null
 }
 
-# test_of NAME PROGRAM COMPILER FLAGS..: tests/NAME.c, or all of tests/NAME, is compiled to this program, which ends by the line
-# 'NAME: passed'.
+# test_of NAME PROGRAM COMPILER FLAGS..: compiles tests/NAME.c, or all of tests/NAME, to this program, and runs it: its last
+# line has to be 'NAME: passed'.
 test_of() {
   local name=$1 program=$2 words=("${@:3}") sources=("tests/$1.c")
   [ -d "tests/$name" ] && sources=("tests/$name"/*.c)
@@ -51,26 +52,37 @@ test_of() {
   [ $status -eq 0 ] && [ "$(tail -n 1 "$program.out")" = "$name: passed" ]
 }
 
-# example_of NAME PROGRAM COMPILER FLAGS..: examples/NAME.c is compiled to this program, which prints examples/NAME.out.
+# example_of NAME PROGRAM COMPILER FLAGS..: compiles examples/NAME.c to this program, and runs it: it has to print
+# examples/NAME.out.
 example_of() {
   local name=$1 program=$2 words=("${@:3}")
   "${words[@]}" "examples/$name.c" -o "$program" "${link[@]}" || return
   timeout 60 "$program" > "$program.out" && diff "examples/$name.out" "$program.out"
 }
 
-# runs_with PROGRAM COMPILER FLAGS..: there is what these flags need.
+# reports_orders PROGRAM COMPILER FLAGS..: whether the thread sanitizer reports two threads that lock two objects in opposite
+# orders.
+reports_orders() {
+  local program=$1
+  "${@:2}" tests/opposite.c -o "$program" "${link[@]}" || return
+  timeout 60 "$program" > "$program.out" 2>&1
+  cat "$program.out"
+  grep -q lock-order-inversion "$program.out"
+}
+
+# runs_with PROGRAM COMPILER FLAGS..: whether a program compiled with these flags runs.
 runs_with() {
   echo 'int main(void) { return 0; }' > "$1.c"
   "${@:2}" "$1.c" -o "$1" > /dev/null 2>&1 && "$1" > /dev/null 2>&1
 }
 
-# header_of HEADER LANGUAGE STANDARD COMPILER: the header is a program by itself.
+# header_of HEADER LANGUAGE STANDARD COMPILER: whether the header compiles by itself.
 header_of() {
   printf '#define _POSIX_C_SOURCE 200809L\n#include "%s"\n' "$1" > "$scratch/$4-$1.$2"
   "$4" "-std=$3" "${strict[@]}" -fsyntax-only "$scratch/$4-$1.$2"
 }
 
-# all_of COMPILER WORD FLAGS..: all tests and examples by this compiler with these flags.
+# all_of COMPILER WORD FLAGS..: runs all tests and examples by this compiler with these flags.
 all_of() {
   local compiler=$1 word=$2 flags=("-std=c11" "${strict[@]}" "${@:3}") name
   local at=$scratch/$compiler-$word
@@ -78,12 +90,15 @@ all_of() {
     row "$compiler, $word: examples/$name.c" example_of "$name" "$at-$name" "$compiler" "${flags[@]}"
   done
   row "$compiler, $word: tests/threads" test_of threads "$at-threads" "$compiler" "${flags[@]}"
-  [ "$word" = races ] && return
+  if [ "$word" = races ]; then
+    row "$compiler, $word: tests/opposite.c is reported" reports_orders "$at-opposite" "$compiler" "${flags[@]}"
+    return
+  fi
   row "$compiler, $word: tests/engine.c" test_of engine "$at-engine" "$compiler" "${flags[@]}"
   row "$compiler, $word: tests/refused.c" test_of refused "$at-refused" "$compiler" "${flags[@]}" "$refusing"
 }
 
-# sanitized_of COMPILER WORD FLAGS..: the same with sanitizers, if they are there.
+# sanitized_of COMPILER WORD FLAGS..: the same with sanitizers, if there are any.
 sanitized_of() {
   if runs_with "$scratch/$1-$2" "$1" "${@:3}"; then
     all_of "$@"
@@ -108,7 +123,7 @@ cxx_of() {
   row "$1: pobj_threads.h as C++17" header_of pobj_threads.h cc c++17 "$1"
 }
 
-# An installation in the scratch folder, and an example that is compiled as its pobj.pc says.
+# Whether an example, compiled as pobj.pc says against an installation in the scratch folder, runs.
 installed() {
   local prefix=$scratch/prefix
   mkdir -p "$prefix/include" "$prefix/lib/pkgconfig"

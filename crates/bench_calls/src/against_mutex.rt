@@ -1,5 +1,6 @@
-//! What a call, a procedure and a function take, on a core and on one with fixed memory, against a lock and unlock
-//! of a mutex.
+// SPDX-License-Identifier: MIT
+//! Measures a call, a procedure and a function, on a core that records its history and on one with fixed memory, against a lock
+//! and unlock of a mutex.
 
 use crate::commands::{Command, OPEN};
 use crate::engine::{Engine, make_trap};
@@ -13,8 +14,8 @@ use std::io::{self, Print};
 use std::sync::{Mutex, Wait};
 use std::time::{Clock, Instant};
 
-/// How many objects are read. What one replies says which is read next, so that no read can be left out, or begun before the
-/// last one has ended.
+/// How many objects are read. Each one's reply says which is read next, so no read can be left out, or begin before the last
+/// has ended.
 const OBJECTS: u64 = 16;
 
 /// Adds a batch of locks and unlocks to the measure.
@@ -27,7 +28,7 @@ fn measure_mutex<R: Clock + Wait>(rt: &R, times: u64, measure: &mut Measure) -> 
     measure.add(rt, start, times)
 }
 
-/// Objects of which each replies which is the next.
+/// Makes objects each of which replies which is the next.
 fn ring<E: Engine<Unit = Trap>>(alloc: Global) -> Result<Vec<E>, AllocError> {
     let mut engines = Vec::new(alloc);
     for n in 0..OBJECTS {
@@ -38,13 +39,13 @@ fn ring<E: Engine<Unit = Trap>>(alloc: Global) -> Result<Vec<E>, AllocError> {
     Ok(engines)
 }
 
-/// What the object of this number replies.
+/// Returns what the object with this number replies.
 fn read_at<E: Engine>(engines: &[E], number: u64) -> Option<u64> {
     let index = usize::try_from(number).ok()?;
     engines.get(index)?.read()
 }
 
-/// Reads the objects along the ring so many times, and answers how many replied which is the next.
+/// Reads `times` times along the ring, and returns how many objects replied which is the next.
 fn read_along<E: Engine>(engines: &[E], times: u64) -> u64 {
     let mut number = Some(0);
     let mut replied = 0u64;
@@ -72,7 +73,7 @@ fn measure_read<E: Engine<Unit = Trap>, R: Clock + AllocGlobal>(
     measure.add(rt, start, done)
 }
 
-/// What a call, a procedure and a function take.
+/// What a call, a procedure and a function took.
 #[derive(Drop)]
 struct Measures {
     call: Measure,
@@ -81,7 +82,7 @@ struct Measures {
 }
 
 impl Measures {
-    /// No batch.
+    /// Returns measures without a batch.
     fn new() -> Measures {
         Measures {
             call: Measure::new(),
@@ -102,7 +103,7 @@ impl Measures {
     }
 }
 
-/// Measures all, and prints what they take.
+/// Measures all of them, and prints what they take.
 pub(crate) fn print<R: Print + Clock + Wait + AllocGlobal>(rt: &R, plan: &Plan) -> io::Result<()> {
     let mut mutex = Measure::new();
     let (mut core, mut bounded) = (Measures::new(), Measures::new());
@@ -114,11 +115,11 @@ pub(crate) fn print<R: Print + Clock + Wait + AllocGlobal>(rt: &R, plan: &Plan) 
     for (name, measure) in [
         ("mutex_lock_unlock", mutex),
         ("issue_and_collect", core.call),
-        ("run", core.procedure),
-        ("read", core.function),
+        ("procedure", core.procedure),
+        ("function", core.function),
         ("bounded_issue_and_collect", bounded.call),
-        ("bounded_run", bounded.procedure),
-        ("bounded_read", bounded.function),
+        ("bounded_procedure", bounded.procedure),
+        ("bounded_function", bounded.function),
     ] {
         line(rt, plan, name, measure, mutex)?;
     }

@@ -1,4 +1,5 @@
-//! What a thread does over and over with what threads share.
+// SPDX-License-Identifier: MIT
+//! What a thread does over and over with the thing that the threads share.
 
 use crate::team::Team;
 use crate::work::{Task, Work};
@@ -12,34 +13,34 @@ const OPEN: u64 = 3;
 /// The first single entry, and the second one.
 const SINGLE: [EntryRef; 2] = [
     EntryRef {
-        entry: 0,
+        declaration: 0,
         index: None,
     },
     EntryRef {
-        entry: 1,
+        declaration: 1,
         index: None,
     },
 ];
 
 /// The first entry of the first family.
 const FIRST: EntryRef = EntryRef {
-    entry: 0,
+    declaration: 0,
     index: Some(1),
 };
 
-/// What the threads of a round call. Each thread carries a pass.
+/// Something that the threads of a round call. Each thread carries a pass.
 pub(crate) trait Called<P> {
-    /// Calls an entry (9.5.3), and says whether its body completed.
+    /// Calls an entry (9.5.3), and returns whether its body completed.
     fn enter<R: Wait>(&self, rt: &R, pass: &mut P, entry: EntryRef, value: u64) -> bool;
 
-    /// Runs the first procedure (9.5.1), and says whether it completed.
+    /// Runs the first procedure (9.5.1), and returns whether it completed.
     fn run<R: Wait>(&self, rt: &R, pass: &mut P, value: u64) -> bool;
 
-    /// Calls the first function (9.5.1), and says whether it completed.
+    /// Calls the first function (9.5.1), and returns whether it completed.
     fn read<R: Wait>(&self, rt: &R, value: u64) -> bool;
 }
 
-/// Does the work once, and says whether all was answered as it should be.
+/// Does the work once, and returns whether all answers were as they should be.
 fn work_once<O: Called<P>, P, R: Wait>(
     rt: &R,
     object: &O,
@@ -63,7 +64,7 @@ fn work_once<O: Called<P>, P, R: Wait>(
     }
 }
 
-/// Does the work of the thread with this number as often as it is to be done.
+/// Does the work of the thread with this number as often as the task says.
 pub(crate) fn carry_out<O: Called<P>, P: Drop, R: Wait + Clock>(
     rt: &R,
     object: &O,

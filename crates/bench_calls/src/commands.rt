@@ -1,3 +1,4 @@
+// SPDX-License-Identifier: MIT
 //! Commands, in batches.
 
 use crate::engine::{Engine, make_trap};
@@ -15,16 +16,16 @@ pub(crate) const OPEN: u64 = 3;
 pub(crate) enum Command {
     /// A call on the first entry, which is open, and its collection.
     Call,
-    /// The same as a conditional call, which is cancelled where the entry is closed (9.7.3).
+    /// The same as a conditional call, which is cancelled if the entry is closed (9.7.3).
     Conditional,
     /// The first procedure, with this value.
     Run(u64),
-    /// The clock rises by 1.
+    /// A rise of the clock by 1.
     Tick,
 }
 
 impl Command {
-    /// Carries the command out, and tells whether it did what it is to do.
+    /// Carries the command out, and returns whether it did what it should.
     fn carry_out<E: Engine>(self, engine: &mut E) -> bool {
         match self {
             Command::Call => matches!(engine.call(Deadline::Never), Some(End::Completed(_))),
@@ -34,7 +35,7 @@ impl Command {
         }
     }
 
-    /// Carries the command out so many times, and answers how often it did what it is to do.
+    /// Carries the command out `times` times, and returns how often it did what it should.
     pub(crate) fn repeat<E: Engine>(self, engine: &mut E, times: u64) -> u64 {
         let mut done = 0u64;
         for _ in 0..times {
@@ -58,7 +59,7 @@ impl Command {
         measure.add(rt, start, done)
     }
 
-    /// Adds a batch of the command, on an object of its own whose first entry is open, to the measure.
+    /// Makes an object whose first entry is open, and adds a batch of the command on it to the measure.
     pub(crate) fn measure_alone<E: Engine<Unit = Trap>, R: Clock + AllocGlobal>(
         self,
         rt: &R,

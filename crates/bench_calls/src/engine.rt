@@ -1,15 +1,16 @@
-//! What commands are measured on: a core that records its history, or one whose memory is fixed.
+// SPDX-License-Identifier: MIT
+//! What commands are measured on: a core that records its history, or a core whose memory is fixed.
 
 ghost use Rattle.std.specs.Prelude.{◌≡◌, IfSome, Some};
 
 use po_classic_units::{ScriptUnit, Trap};
 use po_core::{
-    Aborted, BoundedCore, Core, Deadline, End, Order, Record, Recorded, Start, Ticket, Unrecorded,
+    Attempt, BoundedCore, Core, Deadline, End, Order, Record, Recorded, Start, Ticket, Unrecorded,
 };
 use po_unit::EntryRef;
 use std::alloc::{AllocError, Global};
 
-/// Who makes all calls.
+/// The owner of all calls.
 const OWNER: u16 = 0;
 
 /// The first procedure: Set of the trap, and Release of the allocator.
@@ -17,7 +18,7 @@ const PROCEDURE: u16 = 0;
 
 /// The first entry of the family Wait of the trap.
 const WAIT: EntryRef = EntryRef {
-    entry: 0,
+    declaration: 0,
     index: Some(1),
 };
 
@@ -27,14 +28,15 @@ const STATE: u16 = 0;
 /// How many uncollected calls a core with fixed memory has room for.
 const MOST: usize = 1;
 
-/// The number of the first call, the place of the first event, and no greatest length of a queue.
+/// The first call is number 1, the first event has place 0, and queues may have any length.
 const START: Start = Start {
     first_number: 1,
     first_place: 0,
     max_queue: None,
 };
 
-/// A core of the unit with memory for so many uncollected calls, or none where memory is wanting.
+/// Returns a core of the unit with memory for `most` uncollected calls, or `None` if memory runs
+/// out.
 pub(crate) fn make_bounded<U: ScriptUnit>(
     alloc: Global,
     unit: U,
@@ -47,9 +49,9 @@ pub(crate) fn make_bounded<U: ScriptUnit>(
     BoundedCore::with_capacity(alloc, unit, shape, order, START, most).ok()
 }
 
-/// What a core that is measured keeps of what has happened.
+/// What a measured core keeps of the past.
 pub(crate) trait Kept<U: ScriptUnit>: Record<U> + Drop {
-    /// A core of the unit that keeps this, or none where memory is wanting.
+    /// Returns a core of the unit that keeps this, or `None` if memory runs out.
     fn make_core(alloc: Global, unit: U, order: Order) -> Option<Core<U, Self>>;
 }
 
@@ -71,25 +73,25 @@ pub(crate) trait Engine: Drop {
     /// Its unit.
     type Unit;
 
-    /// An object with this unit, or none where memory is wanting.
+    /// Returns an object with this unit, or `None` if memory runs out.
     fn make(alloc: Global, unit: Self::Unit, order: Order) -> Option<Self>;
 
-    /// Calls an entry, and gives the ticket, if the call isn't refused.
+    /// Calls an entry, and returns the ticket if the call isn't refused.
     fn issue(&mut self, entry: EntryRef, value: u64, deadline: Deadline) -> Option<Ticket>;
 
     /// Collects the call of the ticket, if it has ended.
     fn collect(&mut self, ticket: Ticket) -> Option<End<u64>>;
 
-    /// Runs the first procedure, and tells whether that wasn't refused.
+    /// Runs the first procedure, and returns whether it wasn't refused.
     fn run(&mut self, value: u64) -> bool;
 
-    /// Raises the clock by 1, and tells whether that wasn't refused.
+    /// Raises the clock by 1, and returns whether that wasn't refused.
     fn raise_clock(&mut self) -> bool;
 
-    /// What the first function replies.
+    /// Returns what the first function replies.
     fn read(&self) -> Option<u64>;
 
-    /// Calls the first entry, and collects the end, if the call doesn't wait.
+    /// Calls the first entry, and collects the end unless the call waits.
     fn call(&mut self, deadline: Deadline) -> Option<End<u64>> {
         let ticket = self.issue(WAIT, 1, deadline)?;
         self.collect(ticket)
@@ -98,14 +100,14 @@ pub(crate) trait Engine: Drop {
 
 /// An object whose waiting calls are cancelled by their numbers.
 pub(crate) trait Cancelling: Engine {
-    /// Whether the call of the ticket waits.
+    /// Returns whether the call of the ticket waits.
     fn is_waiting(&self, ticket: Ticket) -> bool;
 
-    /// Attempts to cancel the call of the ticket, and tells whether it is cancelled.
-    fn abort(&mut self, ticket: Ticket) -> bool;
+    /// Tries to cancel the call of the ticket, and returns whether it is cancelled.
+    fn cancel(&mut self, ticket: Ticket) -> bool;
 }
 
-/// A trap at the level 0, which closes the entries of its family Wait.
+/// Makes a trap at level 0, which closes the entries of its family Wait.
 pub(crate) fn make_trap<E: Engine<Unit = Trap>>(alloc: Global) -> Result<E, AllocError> {
     E::make(alloc, Trap::new(), Order::Textual).ok_or(AllocError)
 }
@@ -126,7 +128,7 @@ impl<U: ScriptUnit, R: Kept<U>> Engine for Core<U, R> {
     }
 
     fn run(&mut self, value: u64) -> bool {
-        Core::run(self, OWNER, PROCEDURE, value).is_ok()
+        Core::procedure(self, OWNER, PROCEDURE, value).is_ok()
     }
 
     fn raise_clock(&mut self) -> bool {
@@ -134,7 +136,7 @@ impl<U: ScriptUnit, R: Kept<U>> Engine for Core<U, R> {
     }
 
     fn read(&self) -> Option<u64> {
-        Core::read(self, STATE, 0).ok()?.ok()
+        Core::function(self, STATE, 0).ok()?.ok()
     }
 }
 
@@ -143,7 +145,10 @@ impl<U: ScriptUnit> Cancelling for Core<U> {
         Core::is_waiting(self, ticket.number)
     }
 
-    fn abort(&mut self, ticket: Ticket) -> bool {
-        matches!(Core::abort(self, ticket.number), Ok(Aborted::Cancelled))
+    fn cancel(&mut self, ticket: Ticket) -> bool {
+        matches!(
+            Core::cancel_number(self, ticket.number),
+            Ok(Attempt::Cancelled)
+        )
     }
 }

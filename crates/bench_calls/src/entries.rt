@@ -1,5 +1,6 @@
-//! What a procedure takes on objects of few and of many entries, of which few have queued calls, in the service order
-//! by which the oldest call goes first.
+// SPDX-License-Identifier: MIT
+//! Measures a procedure on objects with few and with many entries, a few of which have queued calls, in the service order in
+//! which the oldest call goes first.
 
 ghost use Rattle.po_classic_units.specs.Sizes.{IsSize};
 
@@ -17,14 +18,15 @@ use std::time::Clock;
 
 /// The entry Request of the allocator.
 const REQUEST: EntryRef = EntryRef {
-    entry: 0,
+    declaration: 0,
     index: None,
 };
 
 /// The size of the allocator with few entries.
 const SMALL: u16 = 16;
 
-/// Adds a batch of the procedure Release, which lets no call go, on an allocator of this size. It has two entries more.
+/// Adds a batch of the procedure Release, which lets no call go, on an allocator of this size. The allocator has two more
+/// entries than its size.
 fn measure<E: Engine<Unit = Allocator>, R: Clock + AllocGlobal>(
     rt: &R,
     plan: &Plan,

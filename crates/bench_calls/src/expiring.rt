@@ -1,6 +1,7 @@
-//! What a tick takes by which one call expires, while few and while many timed calls wait.
+// SPDX-License-Identifier: MIT
+//! Measures a tick by which one call expires, while few and while many timed calls wait.
 //!
-//! Of each waiting call its ticket is held at the place that is the rest of its moment, divided by how many wait.
+//! The ticket of each waiting call is kept at a place that its moment gives: the moment modulo the number of waiting calls.
 
 use crate::commands::Command;
 use crate::engine::{Engine, make_trap};
@@ -15,20 +16,20 @@ use std::time::{Clock, Instant};
 
 /// The entry on which calls wait.
 const WAIT: EntryRef = EntryRef {
-    entry: 0,
+    declaration: 0,
     index: Some(1),
 };
 
 /// A prime, by which moments are scattered.
 const SCATTER: u64 = 65_537;
 
-/// Where what is held of the call of this moment stands.
+/// Returns the place of the ticket of the call that expires at this moment.
 fn place(tickets: &[Option<Ticket>], moment: u64) -> usize {
     let calls = tickets.len() as u64;
     moment.checked_rem(calls).unwrap_or(0) as usize
 }
 
-/// Issues so many calls, one of which expires at each moment from this one on. They arrive in another order.
+/// Issues `calls` calls, one of which expires at each moment from `from` on. They arrive in another order.
 fn issue<E: Engine>(engine: &mut E, tickets: &mut [Option<Ticket>], from: u64, calls: u64) {
     for n in 0..calls {
         let later = n.wrapping_mul(SCATTER).checked_rem(calls).unwrap_or(0);
@@ -40,7 +41,7 @@ fn issue<E: Engine>(engine: &mut E, tickets: &mut [Option<Ticket>], from: u64, c
     }
 }
 
-/// Collects the end of the call of this moment, and tells whether it has expired.
+/// Collects the end of the call of this moment, and returns whether it has expired.
 fn collect_one<E: Engine>(engine: &mut E, tickets: &[Option<Ticket>], moment: u64) -> bool {
     let Some(Some(ticket)) = tickets.get(place(tickets, moment)).copied() else {
         return false;
@@ -48,7 +49,7 @@ fn collect_one<E: Engine>(engine: &mut E, tickets: &[Option<Ticket>], moment: u6
     matches!(engine.collect(ticket), Some(End::Cancelled))
 }
 
-/// Collects the ends of so many calls, from that of this moment on, and answers how many have expired.
+/// Collects the ends of `calls` calls, those of moment `from` and later, and returns how many have expired.
 fn collect<E: Engine>(engine: &mut E, tickets: &[Option<Ticket>], from: u64, calls: u64) -> u64 {
     let mut expired = 0u64;
     for n in 0..calls {
@@ -59,7 +60,7 @@ fn collect<E: Engine>(engine: &mut E, tickets: &[Option<Ticket>], from: u64, cal
     expired
 }
 
-/// Adds a batch of ticks to the measure, up from the one to this moment. As many calls are issued as expire by them.
+/// Adds a batch of ticks to the measure, the first of them to the moment `next`. Issues as many calls as expire by them.
 fn add<E: Engine, R: Clock>(
     rt: &R,
     engine: &mut E,
@@ -77,7 +78,7 @@ fn add<E: Engine, R: Clock>(
     Ok(())
 }
 
-/// Adds batches of ticks to the measure, while so many calls wait.
+/// Adds batches of ticks to the measure, while the given number of calls waits.
 fn measure<E: Engine<Unit = Trap>, R: Clock + AllocGlobal>(
     rt: &R,
     plan: &Plan,
@@ -104,7 +105,7 @@ fn measure<E: Engine<Unit = Trap>, R: Clock + AllocGlobal>(
 
 /// Measures the tick while few and while many calls wait, in turn, and prints what it takes.
 pub(crate) fn print<R: Print + Clock + AllocGlobal>(rt: &R, plan: &Plan) -> io::Result<()> {
-    // For the memory alone, which the measurements then find touched.
+    // Not counted: the measurements after it then find memory that was touched before.
     measure::<Core<Trap>, R>(rt, plan, plan.many, &mut Measure::new())?;
     let (mut few, mut many) = (Measure::new(), Measure::new());
     for _ in 0..plan.waiting_rounds {

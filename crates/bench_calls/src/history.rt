@@ -1,9 +1,10 @@
-//! What a call takes at the beginning of a history, and where the history is long.
+// SPDX-License-Identifier: MIT
+//! Measures a call at the beginning of a history, and after the history has grown long.
 //!
-//! A call makes two events, and with each of them the history grows into memory that its round hasn't touched before:
-//! all histories of a round are begun before the first of them goes on, and none is let go before the round ends. What
-//! counts is the average over a round, since what it costs to grow doesn't fall on each batch alike, and of the rounds the
-//! one with the least.
+//! A call makes two events, and with each of them the history grows into memory that its round hasn't touched before: all
+//! histories of a round are begun before the first of them goes on, and none is dropped before the round ends. The average over
+//! a round counts, since not every batch bears the same part of the cost of growing; and of all rounds the one with the lowest
+//! average counts.
 
 use crate::commands::{Command, OPEN};
 use crate::engine::{Engine, make_trap};

@@ -1,27 +1,27 @@
-//! The program `bench_calls`: what commands cost on a core, also on one with fixed memory, and calls of an object that threads
-//! share.
+// SPDX-License-Identifier: MIT
+//! The program `bench_calls`: measures what commands cost on a core, also on one with fixed memory, and what calls cost on an
+//! object that threads share.
 //!
-//! A measurement of commands is taken in batches, and what counts is the batch in which a command took the least, since
-//! what else the machine does can only add to it; in `history` it is the round of batches in which a command took the least
-//! on the average. Each batch of calls and of procedures that is measured against the mutex has a core of its own, so that
-//! each pays for the growth of its history. Of the work of threads rounds of all rows are taken in turns, and what counts is
-//! the median over the rounds.
+//! Commands are measured in batches. The batch in which a command took the least counts, since whatever else the machine does
+//! can only add to it; in `history` the round of batches counts in which a command took the least on average. Each batch of
+//! calls and of procedures that is measured against the mutex has its own core, so that each pays for the growth of its
+//! history. For the work of threads, rounds of all rows are taken in turns, and the median over the rounds counts.
 //!
-//! Without an argument, or with the argument `small`, the batches and rounds are small, and how many commands did what they
-//! were to do is all that is printed. With the argument `full` a line has the measurement's name, how many commands were
-//! carried out in all batches, the nanoseconds that one took, and their ratio: to those of a lock and unlock of a mutex
-//! or, where names end in a number, to those of the same measurement with the lower number. A number behind `full` is
-//! how many calls wait in place of 64,000.
+//! Without an argument, or with the argument `small`, the batches and rounds are small, and only the number of commands that
+//! did what they should is printed. With the argument `full` a line has the measurement's name, how many commands were carried
+//! out in all batches, the nanoseconds that one took, and their ratio: to those of a lock and unlock of a mutex or, if names
+//! end in a number, to those of the same measurement with the lower number. A number after `full` says how many calls wait,
+//! instead of 64,000.
 //!
-//! With the argument `threads` there are 15 rounds of the work of threads, or as many as the number behind it says. A row has
-//! its name and threads, how often the work was done, the nanoseconds that it took each time in the median, in the best round
-//! and in the worst, and the ratio of the median to that of its unit: of one thread's lock and unlock of a mutex, of four
-//! threads', or of the same buffer over a mutex and two condition variables.
+//! With the argument `threads` there are 15 rounds of the work of threads, or as many as the number after it says. A row has
+//! its name and threads, how often the work was done, the nanoseconds that it took each time in the median, the best and the
+//! worst round, and the ratio of the median to that of its unit: one thread's lock and unlock of a mutex, the same of four
+//! threads, or the same buffer over a mutex and two condition variables.
 //!
-//! `bounded CALLS` issues and collects so many calls on one core with fixed memory, and prints a line as of `full`: to look
-//! at the memory meanwhile. `row WORK THREADS TURNS` takes a round of one row, and prints its words, how often the work was
-//! done, and the nanoseconds of the round: for programs that compare. Where the word for the work begins with `bounded-`, the
-//! object is one with fixed memory.
+//! `bounded CALLS` issues and collects `CALLS` calls on one core with fixed memory, and prints a line as for `full`: for
+//! looking at the memory meanwhile. `row WORK THREADS TURNS` takes a round of one row, and prints its words, how often the work
+//! was done, and the nanoseconds of the round: for programs that compare. If the word for the work begins with `bounded-`, the
+//! object has fixed memory.
 #![tactic(auto)]
 
 mod against_mutex;
@@ -55,20 +55,20 @@ use std::thread::Threads;
 use std::time::Clock;
 use words::Wanted;
 
-/// The status of a good end.
+/// The exit status of a good end.
 const GOOD: u8 = 0;
 
-/// The status where the words of the command line are refused.
+/// The exit status if the words of the command line are refused.
 const USAGE: u8 = 2;
 
-/// The status where memory was wanting, a thread couldn't be started, or a write or a look at the clock failed.
+/// The exit status if memory ran out, a thread couldn't be started, or a write or a look at the clock failed.
 const NO_MEANS: u8 = 4;
 
 /// How many bytes the allocator is to keep.
 const PIECE: usize = 24 << 20;
 
-/// Takes so much memory in one piece, and gives it back: from then on the allocator keeps what it is given back, so that
-/// batches and rounds go over memory that earlier ones touched, and don't pay for the system's pages.
+/// Takes `PIECE` bytes in one piece and gives them back. From then on the allocator keeps what it is given back, so batches and
+/// rounds run in memory that earlier ones touched, and don't pay for the system's pages.
 fn keep_memory(alloc: Global) -> Result<(), AllocError> {
     let mut piece: Vec<u8> = Vec::new(alloc);
     piece.reserve(PIECE)
@@ -93,7 +93,7 @@ fn print_threads<R: Threads + Wait + Clock + Print + AllocGlobal + Copy + Send +
     rows::print(rt, plan)
 }
 
-/// Takes and prints what is wanted.
+/// Takes and prints the wanted measurements.
 fn print<R: Threads + Wait + Clock + Print + AllocGlobal + Copy + Send + 'static>(
     rt: R,
     wanted: Wanted,
@@ -113,7 +113,7 @@ fn print<R: Threads + Wait + Clock + Print + AllocGlobal + Copy + Send + 'static
     }
 }
 
-/// What the words of the command line ask for, or none where they are refused.
+/// Returns what the words of the command line ask for, or `None` if they are refused.
 fn asked<R: Env + AllocGlobal>(rt: &R) -> io::Result<Option<Wanted>> {
     let mut words = Vec::new(rt.alloc());
     for word in args(rt)? {
@@ -122,7 +122,7 @@ fn asked<R: Env + AllocGlobal>(rt: &R) -> io::Result<Option<Wanted>> {
     Ok(Wanted::named(words.as_slice()))
 }
 
-/// Does what the command line asks for, and gives the status.
+/// Does what the command line asks for, and returns the exit status.
 fn start<R: Env + Print + Eprint + Clock + Threads + Wait + AllocGlobal + Copy + Send + 'static>(
     rt: R,
 ) -> io::Result<u8> {

@@ -1,3 +1,4 @@
+// SPDX-License-Identifier: MIT
 //! What batches of commands took.
 
 use std::io;
@@ -6,16 +7,16 @@ use std::time::{Clock, Instant};
 /// What the batches of one measurement took.
 #[derive(Clone, Copy)]
 pub(crate) struct Measure {
-    /// How many commands of all batches did what they were to do.
+    /// How many commands of all batches did what they should.
     pub commands: u64,
     /// How many nanoseconds all batches took.
     nanos: u64,
-    /// How many picoseconds a command took in the batch, or the series of batches, in which it took the least.
+    /// How many picoseconds a command took in the batch, or series of batches, in which it took the least.
     pub picos: u64,
 }
 
 impl Measure {
-    /// No batch.
+    /// Returns a measure without a batch.
     pub(crate) fn new() -> Measure {
         Measure {
             commands: 0,
@@ -24,7 +25,7 @@ impl Measure {
         }
     }
 
-    /// Adds a batch of so many commands, which began at `start` and ends now.
+    /// Adds a batch of `commands` commands, which began at `start` and ends now.
     pub(crate) fn add<R: Clock>(
         &mut self,
         rt: &R,
@@ -35,12 +36,12 @@ impl Measure {
         Ok(())
     }
 
-    /// Adds a series of batches as if it were one, so that what counts of it is what a command took on the average.
+    /// Adds a series of batches as if it were one, so that the average over the series counts.
     pub(crate) fn add_series(&mut self, series: Measure) {
         self.count(series.nanos, series.commands);
     }
 
-    /// Counts a batch of so many commands, which took so many nanoseconds.
+    /// Counts a batch of `commands` commands, which took `nanos` nanoseconds.
     pub(crate) fn count(&mut self, nanos: u64, commands: u64) {
         self.commands = self.commands.saturating_add(commands);
         self.nanos = self.nanos.saturating_add(nanos);
@@ -48,13 +49,13 @@ impl Measure {
     }
 }
 
-/// The nanoseconds since then.
+/// Returns the nanoseconds since `start`.
 pub(crate) fn nanos_since<R: Clock>(rt: &R, start: Instant) -> io::Result<u64> {
     let elapsed = start.elapsed(rt)?;
     Ok(u64::try_from(elapsed.as_nanos()).unwrap_or(u64::MAX))
 }
 
-/// The picoseconds that one of so many commands took, or the most where there is none.
+/// Returns the picoseconds that one of `commands` commands took, or the largest number if there were none.
 pub(crate) fn picos_of(nanos: u64, commands: u64) -> u64 {
     let picos = nanos.saturating_mul(1_000).checked_div(commands);
     picos.unwrap_or(u64::MAX)

@@ -1,3 +1,4 @@
+// SPDX-License-Identifier: MIT
 //! What objects are measured against: a mutex, and a buffer over a mutex and two condition variables.
 
 ghost use Rattle.std.specs.Prelude.{◌<◌, ◌≤◌};
@@ -12,7 +13,7 @@ use std::sync::{Condvar, Mutex, MutexGuard, Wait};
 use std::thread::Threads;
 use std::time::Clock;
 
-/// For how many values the buffer has room.
+/// How many values the buffer has room for.
 const ROOM: usize = 4;
 
 /// The values of the buffer.
@@ -26,7 +27,7 @@ struct Values {
 }
 
 impl Values {
-    /// Adds a value, and says whether there was room for it.
+    /// Adds a value, and returns whether there was room for it.
     fn put(&mut self, value: u64) -> bool {
         if self.len >= ROOM {
             return false;
@@ -58,7 +59,7 @@ struct Monitor {
 }
 
 impl Monitor {
-    /// An empty buffer.
+    /// Returns an empty buffer.
     fn new() -> Monitor {
         Monitor {
             values: Mutex::new(Values {
@@ -71,7 +72,7 @@ impl Monitor {
         }
     }
 
-    /// Locks, and waits for this to be told as long as there are so many values.
+    /// Locks, and then waits on `told` as long as there are exactly `len` values.
     fn lock_past<R: Wait>(&self, rt: &R, told: &Condvar, len: usize) -> MutexGuard<'_, Values> {
         let values = self.values.lock(rt);
         told.wait_while(rt, values, |values| values.len == len)
@@ -96,10 +97,10 @@ impl Monitor {
     }
 }
 
-/// It needs no passes. Its entries are Put and Get; a procedure, or a function, locks and unlocks.
+/// A monitor needs no passes. Its entries are Put and Get; a procedure or a function only locks and unlocks.
 impl Called<()> for Monitor {
     fn enter<R: Wait>(&self, rt: &R, _pass: &mut (), entry: EntryRef, value: u64) -> bool {
-        if entry.entry == 0 {
+        if entry.declaration == 0 {
             self.put(rt, value)
         } else {
             self.get(rt)

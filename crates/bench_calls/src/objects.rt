@@ -1,4 +1,5 @@
-//! Threads that call an object, which records its history or has fixed memory.
+// SPDX-License-Identifier: MIT
+//! Has threads call an object, which records its history or has fixed memory.
 
 ghost use Rattle.std.specs.Prelude.{◌≡◌, ◌≤◌, ◌+◌, IfSome, true, false, [], Some};
 ghost use Rattle.po_object.specs.Stories.{IsStory};
@@ -84,7 +85,7 @@ fn race_over<
     }
 }
 
-/// The same, on an object with fixed memory.
+/// Does the same on an object with fixed memory.
 fn race_over_bounded<
     U: ScriptUnit + Send + Sync + 'static,
     C: Story<U, u64> + Send + Sync + 'static,
@@ -146,7 +147,8 @@ pub(crate) fn race_recorded<
     )
 }
 
-/// Has threads do the task on an object of this unit with fixed memory: for a call of each.
+/// Has threads do the task on an object of this unit with fixed memory, enough for one call of each
+/// thread.
 pub(crate) fn race_bounded<
     U: ScriptUnit + Send + Sync + 'static,
     W: Threads + Wait + Clock + AllocGlobal + Copy + Send + 'static,

@@ -1,29 +1,30 @@
+// SPDX-License-Identifier: MIT
 //! How much is measured.
 
-/// How many calls wait where many do, unless the command line says it.
+/// How many calls wait when many do, unless the command line says otherwise.
 pub(crate) const MANY: u64 = 64_000;
 
-/// How many rounds of the rows of threads there are, unless the command line says it.
+/// How many rounds of the rows of threads there are, unless the command line says otherwise.
 pub(crate) const ROUNDS: u32 = 15;
 
 /// How much is measured, and whether times are printed.
 #[derive(Drop)]
 pub(crate) struct Plan {
-    /// Whether times are printed, or counts alone.
+    /// Whether times are printed, or only counts.
     pub times: bool,
-    /// How many batches a measurement against the mutex has, and one by the number of entries.
+    /// How many batches a measurement against the mutex has, and a measurement by the number of entries.
     pub batches: u32,
     /// How many commands such a batch has.
     pub commands: u64,
-    /// How many cores on which few calls wait are measured, and on which many do.
+    /// How many cores are measured on which few calls wait, and how many on which many do.
     pub waiting_rounds: u32,
-    /// How many batches a measurement has on each of them.
+    /// How many batches a measurement has on each of these cores.
     pub waiting_batches: u32,
     /// How many commands such a batch has.
     pub waiting_commands: u64,
-    /// How many calls wait where few do.
+    /// How many calls wait when few do.
     pub few: u64,
-    /// How many calls wait where many do.
+    /// How many calls wait when many do.
     pub many: u64,
     /// How many rounds of histories there are.
     pub history_rounds: u32,
@@ -31,7 +32,7 @@ pub(crate) struct Plan {
     pub begun_histories: u32,
     /// How many commands begin a history.
     pub first: u32,
-    /// How many commands follow them, which aren't measured.
+    /// How many commands follow those, and aren't measured.
     pub middle: u32,
     /// How many commands end the history.
     pub last: u32,
@@ -41,12 +42,12 @@ pub(crate) struct Plan {
     pub rounds: u32,
     /// How often each thread does its work in a round.
     pub turns: u64,
-    /// The same of work for which threads mostly wait.
+    /// How often each thread does work that is mostly waiting.
     pub waiting_turns: u64,
 }
 
 impl Plan {
-    /// Counts alone.
+    /// Returns the plan that prints only counts.
     pub(crate) fn small() -> Plan {
         Plan {
             times: false,
@@ -69,7 +70,7 @@ impl Plan {
         }
     }
 
-    /// Times, with so many calls that wait where many do, and so many rounds of the rows of threads.
+    /// Returns the plan that prints times, with `many` calls waiting when many do, and `rounds` rounds of the rows of threads.
     pub(crate) fn full(many: u64, rounds: u32) -> Plan {
         Plan {
             times: true,

@@ -1,4 +1,5 @@
-//! A round: threads that start together, and do the same work on what they share.
+// SPDX-License-Identifier: MIT
+//! A round: threads that start together and do the same work on one thing that they share.
 
 use crate::callers::{Called, carry_out};
 use crate::team::{Round, Team};

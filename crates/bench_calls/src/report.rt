@@ -1,11 +1,12 @@
+// SPDX-License-Identifier: MIT
 //! The lines of the program.
 
 use crate::measure::Measure;
 use crate::plan::Plan;
 use std::io::{self, Print};
 
-/// Ends a line whose name and count are printed: with nothing more where counts alone are; else with the nanoseconds of each
-/// of the times, which are picoseconds, and the ratio of the first of them to the unit.
+/// Ends a line whose name and count are printed. If only counts are printed, it adds nothing more, otherwise the nanoseconds of
+/// each of the times, which are picoseconds, and the ratio of the first time to the unit.
 pub(crate) fn end_line<R: Print>(rt: &R, plan: &Plan, times: &[u64], unit: u64) -> io::Result<()> {
     if plan.times {
         for picos in times {
@@ -18,7 +19,7 @@ pub(crate) fn end_line<R: Print>(rt: &R, plan: &Plan, times: &[u64], unit: u64) 
     println!(rt;)
 }
 
-/// Prints a measurement: its name, its commands, the nanoseconds of one, and their ratio to those of the unit.
+/// Prints a measurement: its name, its commands, the nanoseconds of one command, and their ratio to those of the unit.
 pub(crate) fn line<R: Print>(
     rt: &R,
     plan: &Plan,
@@ -30,7 +31,7 @@ pub(crate) fn line<R: Print>(
     end_line(rt, plan, &[measure.picos], unit.picos)
 }
 
-/// Prints a measurement at two sizes. The ratio of the second line is the second to the first.
+/// Prints a measurement at two sizes. The second line's ratio is that of the second size to the first.
 pub(crate) fn pair<R: Print>(
     rt: &R,
     plan: &Plan,

@@ -1,3 +1,4 @@
+// SPDX-License-Identifier: MIT
 //! The rows of the table of threads.
 
 use crate::plan::Plan;
@@ -11,7 +12,8 @@ use std::sync::Wait;
 use std::thread::Threads;
 use std::time::Clock;
 
-/// What the object keeps, what so many threads do with it, and the number of the row that is the unit of this one's ratio.
+/// What the object keeps, what the threads do with it, how many there are, and the number of the row whose time is the unit of
+/// this one's ratio.
 const ROWS: [(Kind, Work, u16, usize); 25] = [
     (Kind::Recorded, Work::Mutex, 1, 0),
     (Kind::Recorded, Work::Procedure, 1, 0),
@@ -44,12 +46,12 @@ const ROWS: [(Kind, Work, u16, usize); 25] = [
 #[derive(Drop)]
 struct Row {
     task: Task,
-    /// The number of the row that is the unit of this one's ratio.
+    /// The number of the row whose time is the unit of this one's ratio.
     unit: usize,
     rounds: Rounds,
 }
 
-/// The rows, with no round.
+/// Returns the rows, without a round.
 fn make_rows(alloc: Global, plan: &Plan) -> Result<Vec<Row>, AllocError> {
     let mut rows = Vec::new(alloc);
     for (kind, work, threads, unit) in ROWS {
@@ -80,8 +82,8 @@ fn measure<R: Threads + Wait + Clock + AllocGlobal + Copy + Send + 'static>(
     Ok(())
 }
 
-/// Prints a row: its name, how often it was done, the nanoseconds in the middle round, in the best and in the worst one, and
-/// the ratio of those in the middle one to those of the unit.
+/// Prints a row: its name, how often the work was done, the nanoseconds in the median, the best and the worst round, and the
+/// ratio of the median to that of the unit.
 fn print_row<R: Print>(rt: &R, plan: &Plan, row: &Row, unit: u64) -> io::Result<()> {
     let (task, rounds) = (row.task, &row.rounds);
     print!(rt;
@@ -107,12 +109,12 @@ fn print_rows<R: Print>(rt: &R, plan: &Plan, rows: &[Row]) -> io::Result<()> {
     Ok(())
 }
 
-/// Takes rounds of all rows, in turns, and prints them.
+/// Takes rounds of all rows, in turns, and prints the rows.
 pub(crate) fn print<R: Threads + Wait + Clock + Print + AllocGlobal + Copy + Send + 'static>(
     rt: R,
     plan: &Plan,
 ) -> io::Result<()> {
-    // For the memory alone, which the measurements then find touched.
+    // Not counted: the measurements after it then find memory that was touched before.
     measure(rt, make_rows(rt.alloc(), plan)?.as_mut_slice())?;
     let mut rows = make_rows(rt.alloc(), plan)?;
     for _ in 0..plan.rounds {
@@ -121,8 +123,8 @@ pub(crate) fn print<R: Threads + Wait + Clock + Print + AllocGlobal + Copy + Sen
     print_rows(&rt, plan, rows.as_slice())
 }
 
-/// Takes two rounds of one task, and prints the second one, which finds memory that the first one touched: what its name is,
-/// its threads, how often it was done, and the nanoseconds of the round.
+/// Takes two rounds of one task, and prints the second one, which finds memory that the first one touched: its name, its
+/// threads, how often the work was done, and the nanoseconds of the round.
 pub(crate) fn print_one<R: Threads + Wait + Clock + Print + AllocGlobal + Copy + Send + 'static>(
     rt: R,
     task: Task,

@@ -1,4 +1,5 @@
-//! What the threads of a round share beside what they work on, and what they did.
+// SPDX-License-Identifier: MIT
+//! What the threads of a round share besides what they work on, and what they did.
 
 use crate::measure::picos_of;
 use std::alloc::{AllocError, Global};
@@ -7,8 +8,8 @@ use std::sync::atomic::{AtomicU64, Ordering};
 use std::sync::{Barrier, Wait};
 use std::time::{Clock, Instant};
 
-/// The line from which threads start together, when the first of them left it, when the last one was done, and how often
-/// they did what they were to do.
+/// The line from which threads start together, when the first of them left it, when the last one was done, and how often they
+/// did what they should.
 #[derive(Drop)]
 pub(crate) struct Team {
     line: Barrier,
@@ -19,7 +20,7 @@ pub(crate) struct Team {
 }
 
 impl Team {
-    /// A team that starts when so many threads have come to the line.
+    /// Returns a team that starts when `threads` threads have come to the line.
     pub(crate) fn new<R: Clock>(rt: &R, threads: u16) -> io::Result<Team> {
         Ok(Team {
             line: Barrier::new(usize::from(threads)),
@@ -30,7 +31,7 @@ impl Team {
         })
     }
 
-    /// The nanoseconds since the team was made.
+    /// Returns the nanoseconds since the team was made.
     fn now<R: Clock>(&self, rt: &R) -> u64 {
         match self.since.elapsed(rt) {
             Ok(elapsed) => u64::try_from(elapsed.as_nanos()).unwrap_or(0),
@@ -44,13 +45,13 @@ impl Team {
         self.begun.fetch_min(self.now(rt), Ordering::SeqCst);
     }
 
-    /// The thread is done, and did so often what it was to do.
+    /// Notes that the thread is done, and how often it did what it should.
     pub(crate) fn end<R: Clock>(&self, rt: &R, done: u64) {
         self.ended.fetch_max(self.now(rt), Ordering::SeqCst);
         self.done.fetch_add(done, Ordering::SeqCst);
     }
 
-    /// What the threads did.
+    /// Returns what the threads did.
     pub(crate) fn round(&self) -> Round {
         let (begun, ended) = (
             self.begun.load(Ordering::SeqCst),
@@ -68,21 +69,21 @@ impl Team {
 pub(crate) struct Round {
     /// The nanoseconds from the first thread's beginning to the last one's end.
     pub nanos: u64,
-    /// How often they did what they were to do.
+    /// How often they did what they should.
     pub done: u64,
 }
 
 /// What the rounds of one row took.
 #[derive(Drop)]
 pub(crate) struct Rounds {
-    /// The picoseconds of each round for each time, in their order.
+    /// The picoseconds of each round for each time, in rising order.
     picos: Vec<u64>,
     /// How often the work was done in all rounds.
     pub done: u64,
 }
 
 impl Rounds {
-    /// No round.
+    /// Returns rounds of nothing yet.
     pub(crate) fn new(alloc: Global) -> Rounds {
         Rounds {
             picos: Vec::new(alloc),
@@ -98,18 +99,18 @@ impl Rounds {
         Ok(())
     }
 
-    /// The picoseconds for each time, in the round in the middle.
+    /// Returns the picoseconds for each time, in the median round.
     pub(crate) fn median(&self) -> u64 {
         let middle = self.picos.len() / 2;
         self.picos.get(middle).copied().unwrap_or(0)
     }
 
-    /// The same, in the round in which it took the least.
+    /// Returns the same for the best round.
     pub(crate) fn lowest(&self) -> u64 {
         self.picos.first().copied().unwrap_or(0)
     }
 
-    /// The same, in the round in which it took the most.
+    /// Returns the same for the worst round.
     pub(crate) fn highest(&self) -> u64 {
         self.picos.last().copied().unwrap_or(0)
     }

@@ -1,3 +1,4 @@
+// SPDX-License-Identifier: MIT
 //! The objects on which threads work.
 
 use crate::monitor::race_on_monitor;
@@ -10,7 +11,7 @@ use std::sync::Wait;
 use std::thread::Threads;
 use std::time::Clock;
 
-/// For how many values the buffer has room.
+/// How many values the buffer has room for.
 const ROOM: u16 = 4;
 
 /// How many pieces the allocator has.

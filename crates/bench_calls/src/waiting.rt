@@ -1,4 +1,5 @@
-//! What commands take while few and while many calls wait.
+// SPDX-License-Identifier: MIT
+//! Measures commands while few and while many calls wait.
 
 use crate::commands::Command;
 use crate::engine::{Cancelling, Engine, make_trap};
@@ -11,56 +12,56 @@ use po_unit::EntryRef;
 use std::io::{self, Print};
 use std::time::{Clock, Instant};
 
-/// The time from which on the waiting calls expire. The clock never gets there.
+/// The moment from which on the waiting calls expire. The clock never gets there.
 const FAR: u64 = 1 << 40;
 
-/// In how many moments they expire.
+/// The number of moments at which they expire.
 const SPREAD: u64 = 65_536;
 
-/// An odd number without a pattern, by which the moments are scattered.
+/// An odd number without a pattern, which scatters the moments.
 const SCATTER: u64 = 0x9E37_79B9_7F4A_7C15;
 
 /// The entries on which calls wait.
 const ENTRIES: [EntryRef; 3] = [
     EntryRef {
-        entry: 0,
+        declaration: 0,
         index: Some(1),
     },
     EntryRef {
-        entry: 0,
+        declaration: 0,
         index: Some(2),
     },
     EntryRef {
-        entry: 0,
+        declaration: 0,
         index: Some(3),
     },
 ];
 
-/// What the commands take while some number of calls wait.
+/// What the commands took while some number of calls waited.
 #[derive(Drop)]
 struct Measures {
     procedure: Measure,
     conditional: Measure,
     issue: Measure,
-    abort: Measure,
-    abort_seat: Measure,
+    cancel: Measure,
+    cancel_seat: Measure,
     tick: Measure,
 }
 
 impl Measures {
-    /// No batch of any command.
+    /// Returns measures without a batch of any command.
     fn new() -> Measures {
         Measures {
             procedure: Measure::new(),
             conditional: Measure::new(),
             issue: Measure::new(),
-            abort: Measure::new(),
-            abort_seat: Measure::new(),
+            cancel: Measure::new(),
+            cancel_seat: Measure::new(),
             tick: Measure::new(),
         }
     }
 
-    /// Adds a batch of each command. The calls that one batch issues are those that the next one cancels.
+    /// Adds a batch of each command. The next batch cancels the calls that this one issues.
     fn add<E: Cancelling, R: Clock>(
         &mut self,
         rt: &R,
@@ -75,19 +76,19 @@ impl Measures {
         let issued = issue(engine, tickets, commands);
         self.issue.add(rt, start, issued)?;
         let start = Instant::now(rt)?;
-        let aborted = abort(engine, tickets.as_slice());
-        self.abort.add(rt, start, aborted)?;
+        let cancelled = cancel(engine, tickets.as_slice());
+        self.cancel.add(rt, start, cancelled)?;
         collect(engine, tickets);
         issue(engine, tickets, commands);
         let start = Instant::now(rt)?;
-        let aborted = abort_seats(engine, tickets.as_slice());
-        self.abort_seat.add(rt, start, aborted)?;
+        let aborted = cancel_seats(engine, tickets.as_slice());
+        self.cancel_seat.add(rt, start, aborted)?;
         collect(engine, tickets);
         Ok(())
     }
 }
 
-/// Issues so many calls on the entries in turn, which wait, and answers how many tickets were kept.
+/// Issues `calls` calls on the entries in turn, which wait, and returns how many tickets were kept.
 fn issue<E: Engine>(engine: &mut E, tickets: &mut Vec<Ticket>, calls: u64) -> u64 {
     let mut kept = 0u64;
     for n in 0..calls {
@@ -101,23 +102,23 @@ fn issue<E: Engine>(engine: &mut E, tickets: &mut Vec<Ticket>, calls: u64) -> u6
     kept
 }
 
-/// Cancels the calls of the tickets, and answers how many it cancelled.
-fn abort<E: Cancelling>(engine: &mut E, tickets: &[Ticket]) -> u64 {
+/// Cancels the calls of the tickets, and returns how many it cancelled.
+fn cancel<E: Cancelling>(engine: &mut E, tickets: &[Ticket]) -> u64 {
     let mut cancelled = 0u64;
     for ticket in tickets {
-        if engine.abort(*ticket) {
+        if engine.cancel(*ticket) {
             cancelled = cancelled.saturating_add(1);
         }
     }
     cancelled
 }
 
-/// What `LockedCore::abort_seat` does for each ticket of which it knows that it is its seat's latest: looks whether the call waits,
-/// and cancels it. Answers how many it cancelled.
-fn abort_seats<E: Cancelling>(engine: &mut E, tickets: &[Ticket]) -> u64 {
+/// Does what `LockedCore::cancel_seat` does for each ticket that it knows to be its seat's latest: looks whether the call waits,
+/// and cancels it. Returns how many calls it cancelled.
+fn cancel_seats<E: Cancelling>(engine: &mut E, tickets: &[Ticket]) -> u64 {
     let mut cancelled = 0u64;
     for ticket in tickets {
-        if engine.is_waiting(*ticket) && engine.abort(*ticket) {
+        if engine.is_waiting(*ticket) && engine.cancel(*ticket) {
             cancelled = cancelled.saturating_add(1);
         }
     }
@@ -132,7 +133,7 @@ fn collect<E: Engine>(engine: &mut E, tickets: &mut Vec<Ticket>) {
     tickets.clear();
 }
 
-/// Adds batches of the commands to the measures, on an object on which so many calls wait.
+/// Adds batches of the commands to the measures, on an object on which the given number of calls wait.
 fn measure<E: Cancelling + Engine<Unit = Trap>, R: Clock + AllocGlobal>(
     rt: &R,
     plan: &Plan,
@@ -151,7 +152,7 @@ fn measure<E: Cancelling + Engine<Unit = Trap>, R: Clock + AllocGlobal>(
 
 /// Measures the commands while few and while many calls wait, in turn, and prints what they take.
 pub(crate) fn print<R: Print + Clock + AllocGlobal>(rt: &R, plan: &Plan) -> io::Result<()> {
-    // For the memory alone, which the measurements then find touched.
+    // Not counted: the measurements after it then find memory that was touched before.
     measure::<Core<Trap>, R>(rt, plan, plan.many, &mut Measures::new())?;
     let (mut few, mut many) = (Measures::new(), Measures::new());
     for _ in 0..plan.waiting_rounds {
@@ -162,8 +163,8 @@ pub(crate) fn print<R: Print + Clock + AllocGlobal>(rt: &R, plan: &Plan) -> io::
         ("procedure", few.procedure, many.procedure),
         ("conditional", few.conditional, many.conditional),
         ("issue", few.issue, many.issue),
-        ("abort", few.abort, many.abort),
-        ("abort_seat", few.abort_seat, many.abort_seat),
+        ("cancel", few.cancel, many.cancel),
+        ("cancel_seat", few.cancel_seat, many.cancel_seat),
         ("tick", few.tick, many.tick),
     ] {
         pair(rt, plan, name, (plan.few, few), (plan.many, many))?;

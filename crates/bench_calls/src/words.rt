@@ -1,10 +1,11 @@
+// SPDX-License-Identifier: MIT
 //! The words of the command line.
 
 use crate::plan::{MANY, ROUNDS};
 use crate::units::MOST_THREADS;
 use crate::work::{Kind, Task, Work};
 
-/// What is said of other words.
+/// The usage line, printed when other words are refused.
 pub(crate) const USAGE: &str =
     "usage: bench_calls [small | full [CALLS] | threads [ROUNDS] | bounded CALLS | row WORK THREADS TURNS]
 WORK: mutex, monitor, or, also with bounded- before it, procedure, function, entry, buffer, allocator, meeting
@@ -16,17 +17,17 @@ THREADS: 1 to 64
 pub(crate) enum Wanted {
     /// All counts of a small run.
     Small,
-    /// What commands take, with so many calls that wait where many do.
+    /// What commands take, with this many calls waiting when many do.
     Commands(u64),
-    /// What the work of threads takes, in so many rounds.
+    /// What the work of threads takes, in this many rounds.
     Threads(u32),
-    /// So many calls on one core with fixed memory.
+    /// This many calls on one core with fixed memory.
     Bounded(u64),
     /// One row of the work of threads.
     Row(Task),
 }
 
-/// What the object keeps on which the work of this word is done, and the word for the work alone.
+/// Returns what the object keeps on which the work of this word is done, and the word for the work alone.
 fn kind_of(word: &str) -> (Kind, &str) {
     match word.strip_prefix(Kind::Bounded.prefix()) {
         Some(work) => (Kind::Bounded, work),
@@ -34,7 +35,7 @@ fn kind_of(word: &str) -> (Kind, &str) {
     }
 }
 
-/// The row that these words ask for, or none where they are refused.
+/// Returns the task of the row that these words ask for, or `None` if they are refused.
 fn task(work: &str, threads: &str, turns: &str) -> Option<Task> {
     let threads: u16 = threads.parse().ok()?;
     if threads < 1 || threads > MOST_THREADS {
@@ -53,7 +54,7 @@ fn task(work: &str, threads: &str, turns: &str) -> Option<Task> {
     })
 }
 
-/// What two words ask for, or none where they are refused.
+/// Returns what two words ask for, or `None` if they are refused.
 fn table(kind: &str, number: &str) -> Option<Wanted> {
     match kind {
         "full" => Some(Wanted::Commands(number.parse().ok()?)),
@@ -63,7 +64,7 @@ fn table(kind: &str, number: &str) -> Option<Wanted> {
     }
 }
 
-/// What one word asks for, or none where it is refused.
+/// Returns what one word asks for, or `None` if it is refused.
 fn plain(kind: &str) -> Option<Wanted> {
     match kind {
         "small" => Some(Wanted::Small),
@@ -74,7 +75,7 @@ fn plain(kind: &str) -> Option<Wanted> {
 }
 
 impl Wanted {
-    /// What the words of the command line ask for, the first of which is the program's; none where they are refused.
+    /// Returns what the words of the command line ask for, of which the first is the program's, or `None` if they are refused.
     pub(crate) fn named(words: &[String]) -> Option<Wanted> {
         match words {
             [] | [_] => Some(Wanted::Small),

@@ -1,4 +1,5 @@
-//! What the threads of a round do over and over, and on what.
+// SPDX-License-Identifier: MIT
+//! What the threads of a round do over and over, and what they do it on.
 
 /// What the object that threads call keeps.
 #[derive(Clone, Copy)]
@@ -10,7 +11,7 @@ pub(crate) enum Kind {
 }
 
 impl Kind {
-    /// What stands before the word for the work.
+    /// Returns what precedes the word for the work.
     pub(crate) fn prefix(self) -> &'static str {
         match self {
             Kind::Recorded => "",
@@ -24,7 +25,8 @@ impl Kind {
 pub(crate) enum Work {
     /// Lock and unlock a mutex.
     Mutex,
-    /// Put values into a buffer of 4 over a mutex and two condition variables (threads with an even number), or get them.
+    /// Put values into a buffer of 4 over a mutex and two condition variables (threads with an even number), or get them (the
+    /// others).
     Monitor,
     /// Run a procedure, while no call waits.
     Procedure,
@@ -32,15 +34,15 @@ pub(crate) enum Work {
     Function,
     /// Call an entry that is open.
     Entry,
-    /// Put values into a buffer of 4 (threads with an even number), or get them.
+    /// Put values into a buffer of 4 (threads with an even number), or get them (the others).
     Buffer,
-    /// Ask an allocator of 3 for one, two or three pieces, and give them back.
+    /// Request one, two or three pieces from an allocator of 3, and give them back.
     Allocator,
     /// Wait for all other threads.
     Meeting,
 }
 
-/// All of it.
+/// All kinds of work.
 const ALL: [Work; 8] = [
     Work::Mutex,
     Work::Monitor,
@@ -53,7 +55,7 @@ const ALL: [Work; 8] = [
 ];
 
 impl Work {
-    /// The word for it.
+    /// Returns the word for the work.
     pub(crate) fn name(self) -> &'static str {
         match self {
             Work::Mutex => "mutex",
@@ -67,12 +69,12 @@ impl Work {
         }
     }
 
-    /// Whether it is done on a protected object.
+    /// Returns whether the work is done on a protected object.
     pub(crate) fn needs_object(self) -> bool {
         !matches!(self, Work::Mutex | Work::Monitor)
     }
 
-    /// The work with this word.
+    /// Returns the work with this word.
     pub(crate) fn named(word: &str) -> Option<Work> {
         for work in ALL {
             if work.name() == word {

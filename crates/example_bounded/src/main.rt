@@ -1,8 +1,9 @@
-//! A bounded buffer whose memory is all taken when it is made: first one thread uses it by itself, then threads share one.
+// SPDX-License-Identifier: MIT
+//! A bounded buffer that takes all its memory when it is made: first one thread uses it by itself, then threads share one.
 //!
-//! The one thread puts a million values into a core and gets them, so the memory is the same after the first call and
-//! after the last. Then two producers put 100,000 values each into an object, and two consumers get 100,000 each; the object
-//! is closed, and its closing totals are told. What is printed is the same in every run.
+//! The one thread puts a million values into a core and gets them back; the core's memory is the same after the first call and
+//! after the last. Then two producers put 100,000 values each into an object, and two consumers get 100,000 each; the object is
+//! closed, and the program prints its closing totals. Every run prints the same.
 #![tactic(auto)]
 
 ghost use Rattle.std.specs.Prelude.{◌≡◌, ◌≤◌, ◌+◌, IfOk, IfSome, Some, []};
@@ -33,7 +34,7 @@ const VALUES: u64 = 100_000;
 /// Two producers and two consumers.
 const SEATS: u16 = 4;
 
-/// How many calls may be uncollected at once: one of each seat.
+/// How many calls may be uncollected at once: one for each seat.
 const MOST: usize = 4;
 
 /// How many parts each ledger has: one for each seat, and one that the object keeps.
@@ -41,24 +42,24 @@ const PARTS: u64 = 5;
 
 /// The entry Put of the buffer.
 const PUT: EntryRef = EntryRef {
-    entry: 0,
+    declaration: 0,
     index: None,
 };
 
 /// The entry Get of the buffer.
 const GET: EntryRef = EntryRef {
-    entry: 1,
+    declaration: 1,
     index: None,
 };
 
-/// From where the core starts: calls from 1, events from 0, and no greatest length of a queue.
+/// The start of the core: calls are numbered from 1, events from 0, and queues may have any length.
 const START: Start = Start {
     first_number: 1,
     first_place: 0,
     max_queue: None,
 };
 
-/// A core over an empty buffer, with memory for a call of each seat.
+/// Makes a core over an empty buffer, with memory for one call of each seat.
 fn empty_buffer(alloc: Global) -> Result<BoundedCore<Buffer>>
     ensures { IfOk result (λ core. core.capacity ≡ Some MOST) }
 {
@@ -68,9 +69,9 @@ fn empty_buffer(alloc: Global) -> Result<BoundedCore<Buffer>>
     Ok(core)
 }
 
-/// Calls the entry so many times, with the values from 0 on, and gives the pass back. The object is of either kind.
+/// Calls the entry `times` times, with the values from 0 on, and gives the pass back. The object is of either kind.
 ///
-/// A caller that is refused finalizes the object, so that no other waits for what it doesn't do.
+/// A caller that is refused finalizes the object, so that no other caller waits for what this one doesn't do.
 fn call_often<
     C: Story<Buffer, u64>,
     P: Ledger,
@@ -97,7 +98,7 @@ fn call_often<
     pass
 }
 
-/// What a thread does: it calls the entry so many times.
+/// What a thread does: it calls the entry `times` times.
 #[derive(Clone, Copy)]
 struct Calls {
     entry: EntryRef,
@@ -118,7 +119,7 @@ impl<C: Story<Buffer, u64>, P: Ledger, F: Ledger> Job<
     }
 }
 
-/// Has a thread for each pass call Put, where its seat is even, or Get, and waits until all are done.
+/// Has a thread for each pass call Put if its seat is even, or else Get, and waits until all are done.
 fn exchange<
     C: Story<Buffer, u64> + Send + Sync + 'static,
     P: Ledger + Send + Sync + 'static,
@@ -195,7 +196,7 @@ fn use_object<
     close(object, passes)
 }
 
-/// How many calls were accepted, as the passes counted them.
+/// Returns how many calls were accepted, as the passes counted them.
 fn counted(closed: &BoundedClosed<Buffer>) -> u64 {
     let mut calls = 0u64;
     for pass in closed.passes() {
@@ -216,7 +217,10 @@ fn main(rt: HostRuntime) -> Result<()> {
         free,
         Keeper::open(),
     )?;
-    let issued = closed.core().next().saturating_sub(START.first_number);
+    let issued = closed
+        .core()
+        .next_number()
+        .saturating_sub(START.first_number);
     println!(rt;
         "{issued} calls were issued, and {} were counted",
         counted(&closed)

@@ -1,8 +1,9 @@
+// SPDX-License-Identifier: MIT
 //! The example of docs/OBJECTS.md: threads that share a bounded buffer.
 //!
-//! Two producers put 100 values each into a buffer for two, and two consumers get 100 each. When they are done, one thread
-//! more calls Get on the empty buffer, and its call waits until it is cancelled. Then the object is closed, and what the
-//! callers were told is compared with the history. What is printed is the same in every run.
+//! Two producers put 100 values each into a buffer for two, and two consumers get 100 each. When they are done, one more thread
+//! calls Get on the empty buffer, and its call waits until it is cancelled. Then the object is closed, and the callers' answers
+//! are compared with the history. Every run prints the same.
 #![tactic(auto)]
 
 ghost use Rattle.std.specs.Prelude.{◌≡◌, ◌+◌, [], Some};
@@ -11,7 +12,7 @@ ghost use Rattle.po_object.specs.Stories.{IsStory};
 
 use anyhow::{Result, bail};
 use po_classic_units::{Buffer, ScriptUnit};
-use po_core::{Aborted, Core, End, Event, Order, Record};
+use po_core::{Attempt, Core, End, Event, Order, Record};
 use po_object::{Closed, Keeper, Object, Pass, Receipt, Receipts, Story, reconcile};
 use po_threads::{Job, start};
 use po_unit::EntryRef;
@@ -35,34 +36,34 @@ const SEATS: u16 = 5;
 /// How many parts each ledger has: one for each seat, and one that the object keeps.
 const PARTS: u64 = 6;
 
-/// How often the main thread attempts to cancel that call, once a millisecond.
+/// How often the main thread tries to cancel that call, once a millisecond.
 const ATTEMPTS: u32 = 10_000;
 
 /// The entry Put of the buffer.
 const PUT: EntryRef = EntryRef {
-    entry: 0,
+    declaration: 0,
     index: None,
 };
 
 /// The entry Get of the buffer.
 const GET: EntryRef = EntryRef {
-    entry: 1,
+    declaration: 1,
     index: None,
 };
 
 /// The function State of the buffer: how many values it holds.
 const STATE: u16 = 0;
 
-/// A core over an empty buffer, whose calls are numbered from 1.
+/// Makes a core over an empty buffer, whose calls are numbered from 1.
 fn empty_buffer(alloc: Global) -> Result<Core<Buffer>> {
     let buffer = Buffer::new(alloc, CAPACITY)?;
     let shape = buffer.shape(alloc)?;
     Ok(Core::new(alloc, buffer, shape, Order::Textual, 1)?)
 }
 
-/// Calls the entry so many times, with the values from 0 on, and gives the pass back. The object is of either kind.
+/// Calls the entry `times` times, with the values from 0 on, and gives the pass back. The object is of either kind.
 ///
-/// A caller that is refused finalizes the object, so that no other waits for what it doesn't do.
+/// A caller that is refused finalizes the object, so that no other caller waits for what this one doesn't do.
 fn call_often<
     C: Story<Buffer, u64>,
     P: Ledger,
@@ -89,7 +90,7 @@ fn call_often<
     pass
 }
 
-/// What a thread does: it calls the entry so many times.
+/// What a thread does: it calls the entry `times` times.
 #[derive(Clone, Copy)]
 struct Calls {
     entry: EntryRef,
@@ -107,14 +108,14 @@ impl<C: Story<Buffer, u64>, P: Ledger> Job<Object<Buffer, C, P>, Pass<u64, C, P>
     }
 }
 
-/// Cancels the call of the seat, which may not be there yet. If it never comes, the object is finalized.
+/// Cancels the call of the seat, which may not be queued yet. If the call never comes, the object is finalized.
 fn cancel<C: Story<Buffer, u64>, P: Ledger, R: Wait + Clock>(
     rt: &R,
     object: &Object<Buffer, C, P>,
     seat: u16,
 ) {
     for _ in 0..ATTEMPTS {
-        if object.abort_seat(rt, seat) == Ok(Aborted::Cancelled) {
+        if object.cancel_seat(rt, seat) == Ok(Attempt::Cancelled) {
             return;
         }
         thread::sleep(rt, Duration::from_millis(1));
@@ -122,7 +123,7 @@ fn cancel<C: Story<Buffer, u64>, P: Ledger, R: Wait + Clock>(
     let _ended = object.finalize(rt);
 }
 
-/// Has a thread for each pass call Put, where its seat is even, or Get, and waits until all are done.
+/// Has a thread for each pass call Put if its seat is even, or else Get, and waits until all are done.
 fn exchange<
     C: Story<Buffer, u64> + Send + Sync + 'static,
     P: Ledger + Send + Sync + 'static,
@@ -147,7 +148,7 @@ fn exchange<
     Ok(())
 }
 
-/// Has a thread call Get, which waits as the buffer is empty, and cancels its call.
+/// Has a thread call Get, which waits since the buffer is empty, and cancels that call.
 fn get_in_vain<
     C: Story<Buffer, u64> + Send + Sync + 'static,
     P: Ledger + Send + Sync + 'static,
@@ -167,7 +168,7 @@ fn get_in_vain<
     Ok(waiting.join(&rt))
 }
 
-/// Has a thread call for each pass, that of the last one alone.
+/// Has a thread for each pass call the object, the last one after all others.
 fn call_all<
     C: Story<Buffer, u64> + Send + Sync + 'static,
     P: Ledger + Send + Sync + 'static,
@@ -185,7 +186,7 @@ fn call_all<
     Ok(())
 }
 
-/// How many values the buffer holds, behind all that these callers have seen.
+/// Returns how many values the buffer holds, after all that these callers have seen.
 fn held<C: Story<Buffer, u64>, P: Ledger, R: Wait>(
     rt: &R,
     object: &Object<Buffer, C, P>,
@@ -212,7 +213,7 @@ fn print_held<C: Story<Buffer, u64>, P: Ledger, R: Wait + Print>(
     Ok(())
 }
 
-/// How many calls completed and how many were cancelled, as their callers were told.
+/// Returns how many calls completed and how many were cancelled, by their callers' answers.
 fn answers(closed: &Closed<Buffer>) -> (u64, u64) {
     let mut completed = 0u64;
     let mut cancelled = 0u64;
@@ -274,7 +275,7 @@ fn use_object<
     close(object, passes)
 }
 
-/// Prints how the calls ended, and whether each answer is the history's.
+/// Prints how the calls ended, and that each answer agrees with the history. If one doesn't, that is an error.
 fn report<R: Print>(rt: &R, closed: &Closed<Buffer>) -> Result<()> {
     let (completed, cancelled) = answers(closed);
     println!(rt; "{completed} calls completed, {cancelled} cancelled")?;

@@ -1,11 +1,11 @@
--- Who went in less who came out is who is inside: the law of readers and writers, of every legal history.
+-- Those inside are those who went in less those who came out: the law of readers and writers, for every legal history.
 use Rattle.std.proofs.Common.{◌≡◌, ℕ, zero, suc, ◌==◌, ◌<◌, ◌≤◌, ◌+◌, List, [], ◌∷◌, length, refl, subst, ap, sym, arith, Bool, true, false, ◌&&◌, nat_lt, Option, Result, Ok, if◌then◌else◌, length-append}
 use Rattle.std.specs.List.{All}
 use Rattle.std.proofs.lemmas.Bool.Decides.{nat_tests}
 use Rattle.std.proofs.lemmas.List.Elements.{All-nil}
 use Rattle.po_calls.specs.declared.call.Call.{Call}
 use Rattle.po_history.specs.declared.event.Event.{Event}
-use Rattle.po_history.specs.declared.event.Event.TheVariants.{Issue, Ran, Abort, Tick, Final, Serve, Break, Expire}
+use Rattle.po_history.specs.declared.event.Event.TheVariants.{Issue, Ran, Cancel, Tick, Final, Serve, Break, Expire}
 use Rattle.po_engine.specs.WaitingCalls.{is_on}
 use Rattle.po_engine.specs.ObjectState.{ObjectState, counts_in}
 use Rattle.po_engine.specs.Step.{step, Needs, replay, IsLegal}
@@ -23,7 +23,7 @@ record IsExclusive (s : ReadersWritersState) : Type 0 where
   one : s.writers ≤ 1
   alone : 1 ≤ s.writers → s.readers ≡ 0
 
--- The unit comes from the old one when so many readers and writers go in and come out.
+-- `new` is what `old` becomes when these numbers of readers and writers go in and come out.
 record Moves (old new : ReadersWritersState) (reads reads_done writes writes_done : ℕ) : Type 0 where
   readers : new.readers + reads_done ≡ old.readers + reads
   writers : new.writers + writes_done ≡ old.writers + writes
@@ -44,14 +44,14 @@ moves_on a b c r rd w wd r2 rd2 w2 wd2 first next = record {
   exclusive = λ before. next.exclusive (first.exclusive before);
 }
 
--- what an open barrier of Read says
+-- what follows if the barrier of Read is open
 open_read : (a b room : Bool) → (a && b) && room ≡ true → (a ≡ true) × (room ≡ true)
 open_read true true true is = (refl, refl)
 open_read true true false is = cc
 open_read true false room is = cc
 open_read false b room is = cc
 
--- what an open barrier of Turn says
+-- what follows if the barrier of Turn is open
 open_turn : (a b : Bool) → a && b ≡ true → (a ≡ true) × (b ≡ true)
 open_turn true true is = (refl, refl)
 open_turn true false is = cc
@@ -63,7 +63,7 @@ is_zero n is = grind (arith, nat_tests)
 is_some : (n : ℕ) → (n == 0) ≡ false → 1 ≤ n
 is_some n is = grind (arith, nat_tests)
 
--- the body of an open entry lets in whom its entry is for
+-- the body of an open entry lets in one of those that the entry is for
 body_moves : (s : ReadersWritersState) (e v turns : ℕ) → e < 3 → readers_writers_barrier s e turns ≡ true
     → Moves s (readers_writers_body s e v).0
     (length (if e == 0 then value_from (readers_writers_body s e v).1 else []))
@@ -128,7 +128,7 @@ write_done_moves false s owner v reply is replies =
       };
     })
 
--- so do the procedures, by their numbers
+-- each procedure, by its number, lets out one of its kind
 procedure_moves : (s : ReadersWritersState) (owner op v : ℕ) (reply : Result ℕ ℕ) → op < 2
     → reply ≡ (if op == 0 then read_done s v else write_done s v).1
     → Moves s (if op == 0 then read_done s v else write_done s v).0 0
@@ -152,7 +152,7 @@ none_completes : (s t : State) → Idles s t → (is_here : Bool) → many is_he
 none_completes s t idles true = rw idles.values refl
 none_completes s t idles false = refl
 
--- nobody goes in where no body runs
+-- no one goes in if no body runs
 idles_moves : (s t : State) → Idles s t → (a b : Bool) → Moves s.unit t.unit (many a s t) 0 (many b s t) 0
 idles_moves s t idles a b = rw (none_completes s t idles a, none_completes s t idles b) (moves_nothing s.unit t.unit idles.unit)
 
@@ -162,7 +162,7 @@ runs_moves : (s t : State) (e v turns : ℕ) → Runs readers_writers_meaning s 
 runs_moves s t e v turns runs low open_now =
     rw (runs.unit, runs.values) (body_moves s.unit e v turns low open_now)
 
--- an issued call runs its body at an open barrier, and else waits
+-- an issued call runs its body if the barrier is open, and otherwise waits
 issue_moves : (s t : State) (e v turns : ℕ) (is_open : Bool) → readers_writers_barrier s.unit e turns ≡ is_open
     → DoesAtBarrier readers_writers_meaning s t e v (Ok is_open)
     → e < 3
@@ -191,9 +191,9 @@ module _ (limit : Option ℕ) where
       let done = does readers_writers_meaning limit s (Issue n owner e v d) needs in
       issue_moves s t e v (turns_in s) (readers_writers_barrier s.unit e (turns_in s)) refl done needs.1
   event_moves s (Ran owner op v reply) needs low = procedure_moves s.unit owner op v reply needs.1 needs.2
-  event_moves s (Abort n) needs low =
-      let idles = does readers_writers_meaning limit s (Abort n) needs in
-      moves_nothing s.unit (step readers_writers_meaning limit s (Abort n)).unit idles.unit
+  event_moves s (Cancel n) needs low =
+      let idles = does readers_writers_meaning limit s (Cancel n) needs in
+      moves_nothing s.unit (step readers_writers_meaning limit s (Cancel n)).unit idles.unit
   event_moves s (Tick time) needs low = moves_nothing s.unit s.unit refl
   event_moves s Final needs low = moves_nothing s.unit s.unit refl
   event_moves s (Serve e) needs low =

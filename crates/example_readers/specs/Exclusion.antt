@@ -1,4 +1,5 @@
--- The law of readers and writers: never a writer with a reader inside, and never two writers.
+-- SPDX-License-Identifier: MIT
+-- The law of readers and writers: a writer is never inside with a reader, nor with another writer.
 use Rattle.std.specs.Prelude.{ℕ, ◌≡◌, ◌≤◌, ◌<◌, ◌+◌, ◌==◌, List, [], ◌∷◌, ◌++◌, length, Bool, false, Ok, if◌then◌else◌}
 use Rattle.po_history.specs.declared.event.Event.{Event}
 use Rattle.po_history.specs.declared.event.Event.TheVariants.{Ran}
@@ -6,7 +7,7 @@ use Rattle.po_core.specs.Setup.{Setup}
 use Rattle.po_laws.specs.Completed.{opening, values_at}
 use Rattle.example_readers.specs.ReadersWriters.{ReadersWritersState, readers_writers_meaning}
 
--- how many calls the events complete on the entry
+-- how many calls on the entry the events complete
 abbrev pub entered : Setup ReadersWritersState → ℕ → List (Event ℕ) → ℕ
 entered setup e events = length (values_at readers_writers_meaning setup.max_queue e (opening setup) events)
 
@@ -20,7 +21,7 @@ abbrev pub left : ℕ → List (Event ℕ) → ℕ
 left op [] = 0
 left op (event ∷ events) = (if has_left op event then 1 else 0) + left op events
 
--- So many readers and writers went in, and so many came out: nobody comes out who isn't inside, at most one writer is
+-- If these numbers of readers and writers went in and came out: no one comes out who isn't inside, at most one writer is
 -- inside, and while one is, no reader is.
 pub record Excludes (reads reads_done writes writes_done : ℕ) : Type 0 where
   pub readers_out : reads_done ≤ reads
@@ -28,8 +29,8 @@ pub record Excludes (reads reads_done writes writes_done : ℕ) : Type 0 where
   pub one_writer : writes ≤ writes_done + 1
   pub alone : writes_done < writes → reads ≡ reads_done
 
--- At every prefix of the history: readers go in by Read, the entry 0, and out by the procedure 0; a writer goes in by
--- Turn, the entry 2, and out by the procedure 1.
+-- At every prefix of the history: readers go in by Read, entry 0, and come out by procedure 0; a writer goes in by Turn, entry
+-- 2, and comes out by procedure 1.
 abbrev pub WritersAreAlone : Setup ReadersWritersState → List (Event ℕ) → Type 0
 WritersAreAlone setup events =
     (early late : List (Event ℕ))

@@ -1,3 +1,4 @@
+-- SPDX-License-Identifier: MIT
 -- What readers and writers mean: readers go in together, and a writer goes in alone.
 use Rattle.std.specs.Prelude.{ℕ, ◌≡◌, ◌+◌, ◌-◌, ◌==◌, ◌&&◌, nat_lt, List, [], ◌∷◌, slice_index, Bool, true, false, Result, Ok, Err, refl, if◌then◌else◌}
 use Rattle.std.proofs.Common.{arith}
@@ -13,18 +14,18 @@ pub record ReadersWritersState : Type 0 where
   pub readers : ℕ
   pub writers : ℕ
 
--- nobody is inside when it is made, for so many readers at most
+-- a new unit, with nobody inside, for at most this number of readers
 abbrev pub new_readers_writers : ℕ → ReadersWritersState
 new_readers_writers most = record { most = most; readers = 0; writers = 0 }
 
--- Read, the entry 0, is open while no writer is inside or has its turn, and there is room; Write, the entry 1, always;
--- and Turn, the entry 2, while nobody is inside
+-- Read, entry 0, is open while no writer is inside or has its turn, and there is room; Write, entry 1, is always open; and
+-- Turn, entry 2, is open while nobody is inside
 abbrev pub readers_writers_barrier : ReadersWritersState → ℕ → ℕ → Bool
 readers_writers_barrier s e turns =
     if e == 0 then ((s.writers == 0) && (turns == 0)) && nat_lt s.readers s.most
     else (if e == 1 then true else (s.writers == 0) && (s.readers == 0))
 
--- one reader more, where there is room
+-- one more reader, if there is room
 abbrev pub read : ReadersWritersState → ReadersWritersState
 read s = if nat_lt s.readers s.most then record s { readers = s.readers + 1 } else s
 
@@ -34,11 +35,11 @@ readers_writers_body s e v =
     if e == 0 then (read s, Complete v)
     else (if e == 1 then (s, Requeue 2 true v) else (record s { writers = 1 }, Complete v))
 
--- one reader less, or exception 1 where none is inside
+-- one reader less, or exception 1 if none is inside
 abbrev pub read_done : ReadersWritersState → ℕ → ReadersWritersState × Result ℕ ℕ
 read_done s v = if s.readers == 0 then (s, Err 1) else (record s { readers = s.readers - 1 }, Ok v)
 
--- one writer less, or exception 1 where none is inside
+-- one writer less, or exception 1 if none is inside
 abbrev pub write_done : ReadersWritersState → ℕ → ReadersWritersState × Result ℕ ℕ
 write_done s v = if s.writers == 0 then (s, Err 1) else (record s { writers = s.writers - 1 }, Ok v)
 
@@ -58,7 +59,7 @@ readers_writers_meaning = record {
 abbrev pub readers_writers_declarations : List Decl
 readers_writers_declarations = public_entry ∷ public_entry ∷ private_entry ∷ []
 
--- only Write requeues, on an entry that there is, and from rank 1 to rank 0
+-- only Write requeues, on an entry that exists, and from rank 1 to rank 0
 lowers : (reads writes : Bool) (s : ReadersWritersState) (e v : ℕ) → (e == 1) ≡ writes
     → LowersRank readers_writers_meaning s e v
     (if◌then◌else◌ {A = ReadersWritersState × Outcome ℕ} reads (read s, Complete v)

@@ -1,4 +1,5 @@
-//! The law of readers and writers, of every history of an object of theirs.
+// SPDX-License-Identifier: MIT
+//! The law of readers and writers, for every history of such an object.
 
 ghost use Rattle.std.specs.Prelude.{◌≡◌, ◌++◌};
 ghost use Rattle.po_history.specs.Histories.{joined};
@@ -11,10 +12,10 @@ use crate::readers_writers::ReadersWriters;
 use po_core::{Core, Event, Record, Volume};
 use po_log::Seen;
 
-/// In the history of every object of readers and writers that was made as a new one, at each point: at most one writer is
-/// inside, and while one is, no reader is.
+/// States the law: at each point in the history of every object of readers and writers that began with nobody inside, at most
+/// one writer is inside, and while one is, no reader is.
 ///
-/// The history is that of the volumes that were cut off, all of them in order, and the present events behind them.
+/// The history is all volumes that were cut off, in order, and then the present events.
 pub fn exclusion_law<R: Record<ReadersWriters>>(
     core: &Core<ReadersWriters, R>,
     volumes: &[Volume<u64>],
@@ -23,10 +24,11 @@ pub fn exclusion_law<R: Record<ReadersWriters>>(
     requires volumes { AreVolumes readers_writers_meaning core.now.object volumes.now }
     ensures law { WritersAreAlone core.now.object.setup (joined volumes.now ++ core.now.object.events) }
 {
+    // Only for the prover: by the headline the history is legal.
     core.headline();
 }
 
-/// The same of the whole history of an object, whatever was cut off.
+/// States the same law for the whole history of an object, whatever was cut off.
 pub fn exclusion_law_of_log<R: Record<ReadersWriters>>(
     core: &Core<ReadersWriters, R>,
     log: &Seen<Event<u64>>,
@@ -35,5 +37,6 @@ pub fn exclusion_law_of_log<R: Record<ReadersWriters>>(
     requires whole { IsWholeLog readers_writers_meaning core.now.object log.now.items }
     ensures law { WritersAreAlone core.now.object.setup log.now.items }
 {
+    // Only for the prover: by the headline the history is legal.
     core.headline();
 }

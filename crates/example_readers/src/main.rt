@@ -1,7 +1,8 @@
-//! A unit of one's own with a requeue and a law, as an example: readers and writers.
+// SPDX-License-Identifier: MIT
+//! An example of a unit of your own with a requeue and a law: readers and writers.
 //!
-//! A reader goes in, a writer asks, and then a second reader: the writer has the next turn, and the second reader comes
-//! after it. It is printed who asks, and who goes in. Then threads go in and out.
+//! A reader goes in, a writer asks to, and then a second reader asks: the writer has the next turn, and the second reader goes
+//! in after it. The program prints each call that asks and each that goes in. Then threads go in and out.
 #![tactic(auto)]
 
 ghost use Rattle.std.specs.Prelude.{◌≡◌, [], IfOk, OnOk};
@@ -29,10 +30,10 @@ use visits::{SEATS, visit_by_threads};
 /// How many readers may be inside at once.
 const MOST: u64 = 8;
 
-/// The parts of each ledger: one for each seat, and one for the object.
+/// How many parts each ledger has: one for each seat, and one that the object keeps.
 const PARTS: u64 = SEATS as u64 + 1;
 
-/// A core over readers and writers, whose calls are numbered from 1.
+/// Makes a core over readers and writers, whose calls are numbered from 1.
 fn new_core(alloc: Global) -> Result<Core<ReadersWriters>>
     ensures whole { IfOk result (λ c. AreVolumes readers_writers_meaning c.object []) }
     ensures new { IfOk result (λ c. c.object.setup.opening ≡ new_readers_writers c.object.setup.opening.most) }
@@ -42,7 +43,7 @@ fn new_core(alloc: Global) -> Result<Core<ReadersWriters>>
     Ok(Core::new(alloc, unit, shape, Order::Textual, 1)?)
 }
 
-/// Says which calls the last command let in.
+/// Prints which calls the latest command let in.
 fn tell<R: Print>(rt: &R, core: &Core<ReadersWriters>) -> Result<()> {
     for call in core.ended_now() {
         println!(rt; "call {} is inside", call.number)?;
@@ -50,27 +51,36 @@ fn tell<R: Print>(rt: &R, core: &Core<ReadersWriters>) -> Result<()> {
     Ok(())
 }
 
-/// A caller asks to go in by this entry.
+/// Prints that a caller asks to go in, and issues its call on this entry.
 fn ask<R: Print>(rt: &R, core: &mut Core<ReadersWriters>, entry: u16) -> Result<()>
     ensures { OnOk result (KeepsVolumes readers_writers_meaning core.old.object core.new.object) }
 {
-    println!(rt; "call {} asks", core.next())?;
-    core.issue(0, EntryRef { entry, index: None }, 0, Deadline::Never)?;
+    println!(rt; "call {} asks", core.next_number())?;
+    core.issue(
+        0,
+        EntryRef {
+            declaration: entry,
+            index: None,
+        },
+        0,
+        Deadline::Never,
+    )?;
     tell(rt, core)
 }
 
-/// Somebody comes out by this procedure.
+/// Lets a reader or a writer out by this procedure, and prints that one comes out.
 fn leave<R: Print>(rt: &R, core: &mut Core<ReadersWriters>, op: u16) -> Result<()>
     ensures { OnOk result (KeepsVolumes readers_writers_meaning core.old.object core.new.object) }
 {
-    match core.run(0, op, 0)? {
+    match core.procedure(0, op, 0)? {
         Ok(_) => println!(rt; "one comes out")?,
         Err(exception) => println!(rt; "exception {exception}")?,
     }
     tell(rt, core)
 }
 
-/// What the head of this file says. In the end the law is stated of all that has happened: nothing was cut off.
+/// Plays the scene that the head of this file tells. At the end it states the law of all that has happened, since nothing was
+/// cut off.
 fn visit<R: Print>(rt: &R, core: &mut Core<ReadersWriters>) -> Result<()>
     requires { AreVolumes readers_writers_meaning core.old.object [] }
 {
@@ -85,7 +95,7 @@ fn visit<R: Print>(rt: &R, core: &mut Core<ReadersWriters>) -> Result<()>
     Ok(())
 }
 
-/// How often threads went in.
+/// Returns how often threads went in.
 fn count_visits(closed: &Closed<ReadersWriters>) -> u64 {
     let mut visits = 0u64;
     for pass in closed.passes() {
@@ -94,13 +104,13 @@ fn count_visits(closed: &Closed<ReadersWriters>) -> u64 {
     visits
 }
 
-/// One thread uses a core by itself.
+/// Has one thread use a core by itself.
 fn take_turns<R: Print + AllocGlobal>(rt: &R) -> Result<()> {
     let mut core = new_core(rt.alloc())?;
     visit(rt, &mut core)
 }
 
-/// Threads share an object. In the end it is known of all that they did that never two writers were inside.
+/// Has threads share an object. At the end it is proved that never two writers were inside, whatever the threads did.
 fn share<R: Threads + Wait + AllocGlobal + Print + Copy + Send + 'static>(rt: R) -> Result<()> {
     let core = new_core(rt.alloc())?;
     let (calls, procedures) = (Blank::new(PARTS), Blank::new(PARTS));

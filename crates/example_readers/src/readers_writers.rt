@@ -1,4 +1,5 @@
-//! Readers and writers.
+// SPDX-License-Identifier: MIT
+//! Readers and writers. In Ada the unit would be:
 //!
 //! ```ada
 //! protected type Readers_Writers (Most : Natural) is
@@ -51,7 +52,7 @@
 //! ```
 ghost use Rattle.std.specs.Prelude.{◌≡◌, ◌≢◌, ◌↔◌, IfOk, IsTrue};
 
-use po_unit::{Decl, Outcome, Shape, ShapeFault, Unit};
+use po_unit::{Decl, Outcome, Shape, ShapeError, Unit};
 use std::alloc::{AllocError, Global};
 use std::marker::Model;
 
@@ -90,10 +91,10 @@ const PRIVATE: Decl = Decl {
     high: 0,
 };
 
-/// `Read`, `Write` and `Turn`.
+/// The declarations of `Read`, `Write` and `Turn`.
 const DECLARATIONS: [Decl; 3] = [PUBLIC, PUBLIC, PRIVATE];
 
-/// Readers go in together, a writer goes in alone, and a writer that waits for its turn lets no further reader in.
+/// Readers go in together, a writer goes in alone, and no further reader goes in while a writer waits for its turn.
 #[derive(Debug, Drop)]
 pub struct ReadersWriters {
     most: u64,
@@ -113,7 +114,7 @@ impl ReadersWriters {
     ghost use Rattle.po_unit.specs.Numbering.{entry_count};
     ghost use Rattle.example_readers.specs.ReadersWriters.{new_readers_writers, readers_writers_declarations, readers_writers_meaning};
 
-    /// Nobody is inside, and so many readers may be at once.
+    /// Returns a unit with nobody inside, which lets in at most `most` readers at once.
     pub fn new(most: u64) -> ReadersWriters
         ensures { result ≡ new_readers_writers most }
     {
@@ -124,18 +125,18 @@ impl ReadersWriters {
         }
     }
 
-    /// Whether the state is the one that `new` makes: nobody is inside.
+    /// Returns whether the state is one that `new` makes: nobody is inside.
     pub fn is_new(&self) -> bool
         ensures { IsTrue result ↔ self.now ≡ new_readers_writers self.now.most }
     {
         self.readers == 0 && self.writers == 0
     }
 
-    /// The shape that the entries' declarations make (9.5.2). Only memory can be missing.
-    pub fn shape(&self, alloc: Global) -> Result<Shape, ShapeFault>
+    /// Returns the shape that the entries' declarations make (9.5.2). It can fail only if memory runs out.
+    pub fn shape(&self, alloc: Global) -> Result<Shape, ShapeError>
         ensures shape { IfOk result (λ shape. shape ≡ readers_writers_declarations) }
         ensures counted { IfOk result (λ shape. entry_count shape ≡ readers_writers_meaning.entries self.now) }
-        ensures within_limits { result ≢ Err ShapeFault.TooManyEntries }
+        ensures within_limits { result ≢ Err ShapeError.TooManyEntries }
     {
         Shape::new(alloc, &DECLARATIONS)
     }
@@ -225,13 +226,16 @@ impl Unit for ReadersWriters {
 #[cfg(test)]
 mod tests {
     use super::*;
-    use po_core::{Aborted, CallStatus, Core, Deadline, End, Order};
+    use po_core::{Attempt, CallStatus, Core, Deadline, End, Order};
     use po_unit::EntryRef;
     use std::process::Abort;
     use std::test::Fail;
 
     fn on(entry: u16) -> EntryRef {
-        EntryRef { entry, index: None }
+        EntryRef {
+            declaration: entry,
+            index: None,
+        }
     }
 
     fn new_core(alloc: Global) -> Result<Core<ReadersWriters>, Fail> {
@@ -240,15 +244,15 @@ mod tests {
         Ok(Core::new(alloc, unit, shape, Order::Textual, 1)?)
     }
 
-    /// A reader that waits behind a writer's turn goes in when the writer is cancelled, and comes out once.
+    /// A reader that waits because of a writer's turn goes in when the writer is cancelled. It goes in only once.
     fn give_up_a_turn<R: Abort>(rt: &R, core: &mut Core<ReadersWriters>) -> Result<(), Fail> {
         core.issue(0, on(READ), 0, Deadline::Never)?;
         core.issue(0, on(WRITE), 0, Deadline::Never)?;
         let reader = core.issue(0, on(READ), 7, Deadline::Never)?;
         assert_eq!(rt; core.end_of(reader), CallStatus::Waiting);
-        assert_eq!(rt; core.abort(2)?, Aborted::Cancelled);
+        assert_eq!(rt; core.cancel_number(2)?, Attempt::Cancelled);
         assert_eq!(rt; core.end_of(reader), CallStatus::Ended(End::Completed(7)));
-        assert_eq!(rt; core.read(STATE, 0)?, Ok(2));
+        assert_eq!(rt; core.function(STATE, 0)?, Ok(2));
         Ok(())
     }
 
@@ -260,7 +264,7 @@ mod tests {
     #[test]
     fn nobody_comes_out_who_is_not_inside(rt: HostRuntime) -> Result<(), Fail> {
         let mut core = new_core(rt.alloc())?;
-        assert_eq!(&rt; core.run(0, WRITE_DONE, 0)?, Err(NOBODY_INSIDE));
+        assert_eq!(&rt; core.procedure(0, WRITE_DONE, 0)?, Err(NOBODY_INSIDE));
         Ok(())
     }
 }

@@ -1,4 +1,5 @@
-//! Threads that go in and out of an object of readers and writers, and the law of what they did.
+// SPDX-License-Identifier: MIT
+//! Has threads go in and out of an object of readers and writers, and states the law of what they did.
 
 ghost use Rattle.std.specs.Prelude.{◌≡◌, ◌+◌, [], IfOk};
 ghost use Rattle.po_object.specs.Stories.{IsStory};
@@ -18,13 +19,13 @@ use std::sync::ledger::{Blank, Ledger};
 use std::sync::{Arc, Wait};
 use std::thread::Threads;
 
-/// How many threads visit: as many write as read.
+/// How many threads visit: half of them read, half of them write.
 pub(crate) const SEATS: u16 = 4;
 
-/// How often each goes in and comes out.
+/// How often each thread goes in and comes out.
 const VISITS: u64 = 100;
 
-/// A reader or a writer: by which entry it goes in, and by which procedure it comes out.
+/// A reader or a writer: the entry by which it goes in, and the procedure by which it comes out.
 #[derive(Clone, Copy)]
 struct Visitor {
     enter: u16,
@@ -41,9 +42,9 @@ const WRITER: Visitor = Visitor {
     leave: WRITE_DONE,
 };
 
-/// Goes in and comes out so often, and gives the pass back.
+/// Goes in and comes out `VISITS` times, and gives the pass back.
 ///
-/// A visitor that isn't let in, or is refused, finalizes the object, so that no other waits for it.
+/// A visitor that isn't let in, or is refused, finalizes the object, so that no other visitor waits for it.
 fn visit_often<C: Story<ReadersWriters, u64>, P: Ledger, W: Wait>(
     rt: &W,
     object: &Object<ReadersWriters, C, P>,
@@ -54,7 +55,7 @@ fn visit_often<C: Story<ReadersWriters, u64>, P: Ledger, W: Wait>(
         return pass;
     }
     let enter = EntryRef {
-        entry: visitor.enter,
+        declaration: visitor.enter,
         index: None,
     };
     for _ in 0..VISITS {
@@ -102,7 +103,7 @@ fn visit_all<
     Ok(())
 }
 
-/// Closes the object, which no thread has any more. It is the one that was opened.
+/// Closes the object, which no thread has any more. By its setup it is the one that was opened.
 fn close<C: Story<ReadersWriters, u64>, P: Ledger>(
     object: Arc<Object<ReadersWriters, C, P>>,
     passes: Vec<Pass<u64, C, P>>,
@@ -118,17 +119,18 @@ fn close<C: Story<ReadersWriters, u64>, P: Ledger>(
     }
 }
 
-/// At each point of the history of an object that was made as a new one at most one writer was inside, and while one was, no
-/// reader.
+/// States the law for the whole history of an object that began with nobody inside: at each point at most one writer was
+/// inside, and while one was, no reader.
 fn writers_were_alone(closed: &Closed<ReadersWriters>)
     requires { closed.now.core.object.setup.opening ≡ new_readers_writers closed.now.core.object.setup.opening.most }
     ensures { WritersAreAlone closed.now.core.object.setup closed.now.log }
 {
+    // Only for the prover: the log of a closed object is its whole history, and the law holds of it.
     closed.closing_totals();
     exclusion_law_of_log(closed.core(), closed.log());
 }
 
-/// Opens an object over the core, has threads visit it, and closes it. However they were scheduled: at each point of the
+/// Opens an object over the core, has threads visit it, and closes it. However the threads were scheduled, at each point of the
 /// object's history at most one writer was inside, and while one was, no reader.
 pub(crate) fn visit_by_threads<
     C: Story<ReadersWriters, u64> + Send + Sync + 'static,

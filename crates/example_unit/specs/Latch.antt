@@ -1,4 +1,5 @@
--- What a latch means: the entry Wait opens after so many calls of the procedure Arrive.
+-- SPDX-License-Identifier: MIT
+-- What a latch means: the entry Wait opens after a given number of calls of the procedure Arrive.
 use Rattle.std.specs.Prelude.{ℕ, ◌-◌, ◌==◌, List, [], ◌∷◌, true, false, Ok, pos, refl}
 use Rattle.po_unit.specs.declared.decl.Decl.{Decl}
 use Rattle.po_unit.specs.Meaning.{Meaning, IsLawful}
@@ -8,11 +9,11 @@ use Rattle.po_unit.specs.declared.outcome.Outcome.TheVariants.{Complete}
 pub record LatchState : Type 0 where
   pub left : ℕ
 
--- the latch of so many arrivals as it is made
+-- a new latch for this number of arrivals
 abbrev pub new_latch : ℕ → LatchState
 new_latch arrivals = record { left = arrivals }
 
--- Wait, the only entry, is open when no arrival is left; Arrive takes one off, down to 0, and replies with what is left
+-- Wait, the only entry, is open if no arrival is left; Arrive takes one off, down to 0, and replies with what is left
 abbrev pub latch_meaning : Meaning LatchState ℕ
 latch_meaning = record {
   entries = λ s. 1;

@@ -1,1 +1,2 @@
+-- SPDX-License-Identifier: MIT
 pub mod Latch

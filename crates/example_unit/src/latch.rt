@@ -1,4 +1,5 @@
-//! The latch.
+// SPDX-License-Identifier: MIT
+//! A latch. In Ada it would be:
 //!
 //! ```ada
 //! protected type Latch (Arrivals : Natural) is
@@ -28,11 +29,11 @@
 //! ```
 ghost use Rattle.std.specs.Prelude.{◌≡◌, ◌≢◌, IfOk};
 
-use po_unit::{Decl, Outcome, Shape, ShapeFault, Unit};
+use po_unit::{Decl, Outcome, Shape, ShapeError, Unit};
 use std::alloc::{AllocError, Global};
 use std::marker::Model;
 
-/// The only entry, `Wait`: a single one, in the visible part.
+/// The declaration of the only entry, `Wait`: a single public entry, not a family.
 const DECLARATIONS: [Decl; 1] = [Decl {
     public: true,
     family: false,
@@ -40,7 +41,7 @@ const DECLARATIONS: [Decl; 1] = [Decl {
     high: 0,
 }];
 
-/// A latch: calls on `Wait` wait until `Arrive` was called as often as the latch was made for. From then on it is open.
+/// A latch: calls on `Wait` wait until `Arrive` has been called as often as `new` says. From then on the latch is open.
 #[derive(Debug, Drop)]
 pub struct Latch {
     left: u64,
@@ -58,18 +59,18 @@ impl Latch {
     ghost use Rattle.po_unit.specs.Numbering.{entry_count};
     ghost use Rattle.example_unit.specs.Latch.{new_latch, latch_declarations, latch_meaning};
 
-    /// A latch that opens after so many arrivals, at once where they are none.
+    /// Returns a latch that opens after `arrivals` arrivals, or is open at once if that is 0.
     pub fn new(arrivals: u64) -> Latch
         ensures { result ≡ new_latch arrivals }
     {
         Latch { left: arrivals }
     }
 
-    /// The shape that the entries' declarations make (9.5.2). Only memory can be missing.
-    pub fn shape(&self, alloc: Global) -> Result<Shape, ShapeFault>
+    /// Returns the shape that the entries' declarations make (9.5.2). It can fail only if memory runs out.
+    pub fn shape(&self, alloc: Global) -> Result<Shape, ShapeError>
         ensures shape { IfOk result (λ shape. shape ≡ latch_declarations) }
         ensures counted { IfOk result (λ shape. entry_count shape ≡ latch_meaning.entries self.now) }
-        ensures within_limits { result ≢ Err ShapeFault.TooManyEntries }
+        ensures within_limits { result ≢ Err ShapeError.TooManyEntries }
     {
         Shape::new(alloc, &DECLARATIONS)
     }
@@ -136,7 +137,7 @@ mod tests {
 
     /// The entry `Wait`.
     const WAIT: EntryRef = EntryRef {
-        entry: 0,
+        declaration: 0,
         index: None,
     };
 
@@ -152,21 +153,21 @@ mod tests {
         Ok(Core::new(alloc, latch, shape, Order::Textual, 1)?)
     }
 
-    /// A call that waits goes with the last of two arrivals.
+    /// A waiting call goes through at the second of two arrivals.
     fn run_to_opening<R: Abort>(rt: &R, core: &mut Core<Latch>) -> Result<(), Fail> {
         let ticket = core.issue(0, WAIT, 7, Deadline::Never)?;
-        assert_eq!(rt; core.run(0, ARRIVE, 0)?, Ok(1));
+        assert_eq!(rt; core.procedure(0, ARRIVE, 0)?, Ok(1));
         assert_eq!(rt; core.end_of(ticket), CallStatus::Waiting);
-        assert_eq!(rt; core.run(0, ARRIVE, 0)?, Ok(0));
+        assert_eq!(rt; core.procedure(0, ARRIVE, 0)?, Ok(0));
         assert_eq!(rt; core.end_of(ticket), CallStatus::Ended(End::Completed(7)));
         Ok(())
     }
 
-    /// After its only arrival, and a further one, a call goes at once.
+    /// After the only arrival, and one more, a call goes through at once.
     fn run_past_opening<R: Abort>(rt: &R, core: &mut Core<Latch>) -> Result<(), Fail> {
-        assert_eq!(rt; core.read(STATE, 0)?, Ok(1));
-        assert_eq!(rt; core.run(0, ARRIVE, 0)?, Ok(0));
-        assert_eq!(rt; core.run(0, ARRIVE, 0)?, Ok(0));
+        assert_eq!(rt; core.function(STATE, 0)?, Ok(1));
+        assert_eq!(rt; core.procedure(0, ARRIVE, 0)?, Ok(0));
+        assert_eq!(rt; core.procedure(0, ARRIVE, 0)?, Ok(0));
         let ticket = core.issue(0, WAIT, 7, Deadline::At(0))?;
         assert_eq!(rt; core.end_of(ticket), CallStatus::Ended(End::Completed(7)));
         Ok(())

@@ -1,3 +1,4 @@
+-- SPDX-License-Identifier: MIT
 -- What a handle owns.
 use Rattle.std.specs.Prelude.{Option, Some, None}
 use base.Fml.{Fml, ftrue, ffalse}
@@ -9,7 +10,7 @@ use Rattle.std.specs.declared.alloc.Global.{Global}
 use Rattle.std.specs.contracts.impls.GlobalAllocator.TheImpl.{ghosts}
 use Rattle.po_driven.specs.contracts.driven_object.DrivenObject.{the_row}
 
--- at null nothing, and else what a box of the object owns
+-- what a handle owns: nothing at null, and else what a box of the object owns
 abbrev pub held : Global → Ptr → Option the_row.Denot → Fml
 held alloc p (Some x) = box_owns (ghosts.dealloc_token alloc) the_row p x
 held alloc null_ptr None = ftrue

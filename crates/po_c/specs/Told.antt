@@ -1,4 +1,5 @@
--- What the functions of include/pobj.h answer, and what an answer says of the object (this project's own).
+-- SPDX-License-Identifier: MIT
+-- What the functions of include/pobj.h return, and what that says about the object (this project's own).
 use Rattle.std.specs.Prelude.{ℕ, ◌≡◌, ◌==◌, ◌+◌, ◌*◌, ◌/◌, ◌%◌, Bool, not, Option, Some, None, IsSome, nat_lt, if◌then◌else◌}
 use Rattle.po_calls.specs.declared.call.Deadline.TheVariants.{Never, At}
 use Rattle.po_engine.specs.declared.arriving.Arriving.{Arriving}
@@ -12,7 +13,7 @@ use Rattle.po_driven.specs.declared.words.BodyEnd.TheVariants.{Completed, Failed
 use Rattle.po_driven.specs.declared.words.Cancellation.{Cancellation}
 use Rattle.po_driven.specs.declared.words.Cancellation.TheVariants.{Made, Kept, Unknown, Refused as IsRefused}
 
--- What a function makes of the object in a handle, if there is one before and after it.
+-- What a function does to the object in a handle, if there is one before and after it.
 abbrev pub FromTo : Option DrivenView → Option DrivenView → (DrivenView → DrivenView → Type 0) → Type 0
 FromTo before after makes = (old new : DrivenView) → before ≡ Some old → after ≡ Some new → makes old new
 
@@ -32,13 +33,13 @@ number_of_action ProgramError = 5
 number_of_action NoMemory = 6
 number_of_action Refused = 7
 
--- The number is that of an action, of which this is so.
+-- The number is that of an action for which this holds.
 pub record Answers (number : ℕ) (says : Action → Type 0) : Type 0 where
   pub action : Action
   pub told : number ≡ number_of_action action
   pub said : says action
 
--- what the number says of a barrier
+-- what the number says about a barrier
 abbrev pub barrier_named : ℕ → Barrier
 barrier_named number = if number == 0 then Closed else (if number == 1 then Open else Raised)
 
@@ -67,8 +68,8 @@ arriving_named caller entry marks = record {
   deadline = if has_mark marks 1 then At 0 else Never;
 }
 
--- how a body ended: 0 completed, 1 failed, 2 and 3 requeued without and with abort, 4 requeued elsewhere; any other number names no
--- entry
+-- how a body ended: 0 completed, 1 failed, 2 and 3 requeued without and with abort, 4 requeued elsewhere; any other number
+-- names no entry
 abbrev pub body_end_named : ℕ → ℕ → ℕ → BodyEnd
 body_end_named how entry marks =
     if how == 0 then Completed else (if how == 4 then RequeuedElsewhere else (if how == 1 then Failed else
@@ -77,7 +78,7 @@ body_end_named how entry marks =
 abbrev pub is_not_zero : ℕ → Bool
 is_not_zero n = not (n == 0)
 
--- The number is that of what came of an attempt to cancel, and so much is so of it.
+-- The number is that of an outcome of an attempt to cancel for which this holds.
 pub record Cancelling (answer : ℕ) (says : Cancellation → Type 0) : Type 0 where
   pub what : Cancellation
   pub told : answer ≡ number_of_cancellation what

@@ -1,3 +1,4 @@
+// SPDX-License-Identifier: MIT
 //! The handle that C holds of an object.
 
 ghost use Rattle.std.specs.Prelude.{◌≡◌, Some, None, Option, MatchOption};
@@ -25,7 +26,7 @@ impl Model for Handle {
 }
 
 impl Handle {
-    /// A handle with no object.
+    /// Makes a handle with no object.
     fn none(alloc: Global) -> Handle
         ensures { result.object ≡ None }
     {
@@ -35,7 +36,7 @@ impl Handle {
         }
     }
 
-    /// The object's box, if there is an object. It leaves none.
+    /// Takes the object's box out of the handle, if there is an object, and leaves none.
     pub fn take(&mut self, alloc: Global) -> Option<Box<DrivenObject, Global>>
         ensures taken { MatchOption result (self.old.object ≡ None) (λ b. self.old.object ≡ Some b.value) }
         ensures left { self.new.object ≡ None }
@@ -68,7 +69,7 @@ impl Handle {
         }
     }
 
-    /// The handle of a box.
+    /// Makes the handle of a box.
     pub fn of(boxed: Box<DrivenObject, Global>) -> Handle
         ensures { result.object ≡ Some boxed.value }
     {
@@ -76,5 +77,5 @@ impl Handle {
     }
 }
 
-// What it owns may be dropped by another thread.
+// Another thread may drop what it owns.
 unsafe impl Send for Handle {}

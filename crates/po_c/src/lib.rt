@@ -1,5 +1,13 @@
-//! The C interface of a driven object (include/pobj.h). A function on a handle with no object changes nothing, and answers that it
-//! refuses, false or 0.
+// SPDX-License-Identifier: MIT
+//! The C interface of a driven object: the functions of include/pobj.h.
+//!
+//! C holds an object by a `Handle`. Each `pobj_` function takes the object out of its handle, calls the method of
+//! `DrivenObject` (`po_driven`) that matches, and puts the object back. `NamedCall` tells C which call an answer is about. Actions,
+//! barriers and entries are numbers in C, which src/numbers.rt translates.
+//!
+//! A function on a handle with no object changes nothing, and returns that it refuses, false or 0.
+//!
+//! Begin with include/pobj.h and `pobj_issue` here; specs/Told.antt says what each number means.
 #![tactic(auto)]
 
 ghost use Rattle.std.specs.Prelude.{◌≡◌, ◌<◌, None, Some, MatchBool, count_by, slice_set, true, false, ◌≤◌};
@@ -9,7 +17,7 @@ ghost use Rattle.po_driven.specs.declared.words.Cancellation.TheVariants.{Refuse
 ghost use Rattle.po_driven.specs.Steps.{Attempts, EndsBody, Evaluates, Finalizes, GoesOn, Issues};
 ghost use Rattle.po_engine.specs.WaitingCalls.{is_on};
 ghost use Rattle.po_driven.specs.DrivenView.{DrivenView, at_opening};
-ghost use Rattle.po_driven.specs.TracedView.{opening_calls};
+ghost use Rattle.po_driven.specs.DrivenCallsView.{opening_calls};
 
 mod handle;
 mod loose;
@@ -17,10 +25,10 @@ mod numbers;
 
 use handle::Handle;
 use numbers::{answer_of, arriving_of, barrier_of, body_end_of, entry_of, number_of, refused};
-use po_driven::{Cancellation, DrivenObject, Step, Ticket};
+use po_driven::{Cancellation, DrivenObject, NamedCall, Ticket};
 use std::alloc::Global;
 
-/// Puts the object into a handle that has none. False: out of memory.
+/// Puts the object into a handle that has none. Returns false if memory runs out.
 fn put(alloc: Global, handle: &mut Handle, object: DrivenObject) -> bool
     requires { handle.old.object ≡ None }
     ensures { MatchBool result (handle.new.object ≡ Some object) (handle.new.object ≡ None) }
@@ -34,7 +42,7 @@ fn put(alloc: Global, handle: &mut Handle, object: DrivenObject) -> bool
     }
 }
 
-/// Makes an object in a handle that has none. False: out of memory, or there are too many entries.
+/// Makes an object in a handle that has none. Returns false if memory runs out or there are too many entries.
 #[unsafe(no_mangle)]
 pub extern "C" fn pobj_make(alloc: Global, handle: &mut Handle, entries: u64) -> bool
     requires { handle.old.object ≡ None }
@@ -49,7 +57,7 @@ pub extern "C" fn pobj_make(alloc: Global, handle: &mut Handle, entries: u64) ->
     }
 }
 
-/// The same with all its memory, for so many calls at once that are queued or being served.
+/// Like `pobj_make`, but takes all its memory at once, for up to `calls` calls that are queued or being served.
 #[unsafe(no_mangle)]
 pub extern "C" fn pobj_make_fixed(
     alloc: Global,
@@ -77,7 +85,7 @@ pub extern "C" fn pobj_free(alloc: Global, handle: &mut Handle)
     drop(handle.take(alloc));
 }
 
-/// From now on at most so many calls may be queued on the entry; 0: any number. False: there is no such entry.
+/// Sets how many calls may be queued on the entry from now on; 0 means any number. Returns false if there is no such entry.
 #[unsafe(no_mangle)]
 pub extern "C" fn pobj_limit(alloc: Global, handle: &mut Handle, entry: u64, longest: u64) -> bool
     ensures made { KeepsObject handle.old.object handle.new.object }
@@ -95,7 +103,7 @@ pub extern "C" fn pobj_limit(alloc: Global, handle: &mut Handle, entry: u64, lon
     is_set
 }
 
-/// A call of this caller arrives, and its barrier says so.
+/// Issues a call of this caller, with this answer about its barrier.
 #[unsafe(no_mangle)]
 pub extern "C" fn pobj_issue(
     alloc: Global,
@@ -104,7 +112,7 @@ pub extern "C" fn pobj_issue(
     entry: u64,
     marks: u64,
     barrier: u64,
-    step: &mut Step,
+    step: &mut NamedCall,
 ) -> u64
     ensures made { KeepsObject handle.old.object handle.new.object }
     ensures no_object { handle.old.object ≡ None → (result ≡ number_of_action Refused) × (step.new ≡ step.old) }
@@ -120,13 +128,13 @@ pub extern "C" fn pobj_issue(
     answer_of(action)
 }
 
-/// What the barrier says that was asked for.
+/// Takes the answer about the barrier that was asked for, and returns what is next.
 #[unsafe(no_mangle)]
 pub extern "C" fn pobj_answer(
     alloc: Global,
     handle: &mut Handle,
     barrier: u64,
-    step: &mut Step,
+    step: &mut NamedCall,
 ) -> u64
     ensures made { KeepsObject handle.old.object handle.new.object }
     ensures no_object { handle.old.object ≡ None → (result ≡ number_of_action Refused) × (step.new ≡ step.old) }
@@ -140,7 +148,7 @@ pub extern "C" fn pobj_answer(
     answer_of(action)
 }
 
-/// How the body ended that was run.
+/// Takes how the body that was run has ended, and returns what is next.
 #[unsafe(no_mangle)]
 pub extern "C" fn pobj_body_ended(
     alloc: Global,
@@ -148,7 +156,7 @@ pub extern "C" fn pobj_body_ended(
     how: u64,
     entry: u64,
     marks: u64,
-    step: &mut Step,
+    step: &mut NamedCall,
 ) -> u64
     ensures made { KeepsObject handle.old.object handle.new.object }
     ensures no_object { handle.old.object ≡ None → (result ≡ number_of_action Refused) × (step.new ≡ step.old) }
@@ -162,9 +170,9 @@ pub extern "C" fn pobj_body_ended(
     answer_of(action)
 }
 
-/// What the client is to do next.
+/// Returns what the client is to do next.
 #[unsafe(no_mangle)]
-pub extern "C" fn pobj_next(alloc: Global, handle: &mut Handle, step: &mut Step) -> u64
+pub extern "C" fn pobj_next(alloc: Global, handle: &mut Handle, step: &mut NamedCall) -> u64
     ensures made { KeepsObject handle.old.object handle.new.object }
     ensures no_object { handle.old.object ≡ None → (result ≡ number_of_action Refused) × (step.new ≡ step.old) }
     ensures answer { FromTo handle.old.object handle.new.object (λ old new. Answers result (GoesOn step.new old new)) }
@@ -177,7 +185,7 @@ pub extern "C" fn pobj_next(alloc: Global, handle: &mut Handle, step: &mut Step)
     answer_of(action)
 }
 
-/// An attempt to cancel a queued call.
+/// Attempts to cancel a queued call.
 #[unsafe(no_mangle)]
 pub extern "C" fn pobj_cancel(
     alloc: Global,
@@ -199,9 +207,9 @@ pub extern "C" fn pobj_cancel(
     number_of(what)
 }
 
-/// The object is finalized.
+/// Finalizes the object.
 #[unsafe(no_mangle)]
-pub extern "C" fn pobj_finalize(alloc: Global, handle: &mut Handle, step: &mut Step) -> u64
+pub extern "C" fn pobj_finalize(alloc: Global, handle: &mut Handle, step: &mut NamedCall) -> u64
     ensures made { KeepsObject handle.old.object handle.new.object }
     ensures no_object { handle.old.object ≡ None → (result ≡ number_of_action Refused) × (step.new ≡ step.old) }
     ensures answer { FromTo handle.old.object handle.new.object (λ old new. Answers result (Finalizes step.new old new)) }
@@ -214,7 +222,7 @@ pub extern "C" fn pobj_finalize(alloc: Global, handle: &mut Handle, step: &mut S
     answer_of(action)
 }
 
-/// How many calls are queued on the entry; 0 if there is no such entry.
+/// Returns how many calls are queued on the entry, or 0 if there is no such entry.
 #[unsafe(no_mangle)]
 pub extern "C" fn pobj_count(alloc: Global, handle: &mut Handle, entry: u64) -> u64
     ensures no_object { handle.old.object ≡ None → result ≡ 0 }

@@ -1,3 +1,4 @@
+// SPDX-License-Identifier: MIT
 //! The numbers of include/pobj.h.
 
 ghost use Rattle.std.specs.Prelude.{◌≡◌, ◌<◌, ◌+◌, ◌*◌};
@@ -6,7 +7,7 @@ ghost use Rattle.po_c.specs.Told.{number_of_action, barrier_named, entry_named, 
 
 use po_driven::{Action, Arriving, Barrier, BodyEnd, Cancellation, Deadline, Requeue};
 
-/// An action and an entry in one number.
+/// Returns an action and an entry as one number.
 #[inline(always)]
 fn with_entry(action: u64, entry: u16) -> u64
     requires { action < 256 }
@@ -15,7 +16,7 @@ fn with_entry(action: u64, entry: u16) -> u64
     action + 256 * u64::from(entry)
 }
 
-/// The action as C is told it.
+/// Returns the action as a number for C.
 #[inline(always)]
 pub fn answer_of(action: Action) -> u64
     ensures { result ≡ number_of_action action }
@@ -32,7 +33,7 @@ pub fn answer_of(action: Action) -> u64
     }
 }
 
-/// What a step is answered if there is no object. It is cold, so that a step of an object costs no more for it.
+/// Returns the answer to a step if there is no object. It is cold, so that a step of an object costs no more for it.
 #[cold]
 #[inline(never)]
 pub fn refused() -> u64
@@ -41,7 +42,7 @@ pub fn refused() -> u64
     answer_of(Action::Refused)
 }
 
-/// What C says of a barrier: 0 closed, 1 open, else that it raised an exception.
+/// Returns what C says about a barrier: 0 closed, 1 open, any other number that it raised an exception.
 pub fn barrier_of(number: u64) -> Barrier
     ensures { result ≡ barrier_named number }
 {
@@ -52,14 +53,14 @@ pub fn barrier_of(number: u64) -> Barrier
     }
 }
 
-/// The entry of this number; one that no object has, if the number is too great.
+/// Returns the entry of this number, or one that no object has, if the number is too great.
 pub fn entry_of(number: u64) -> u16
     ensures { result ≡ entry_named number }
 {
     if number < 65535 { number as u16 } else { 65535 }
 }
 
-/// Whether the mark is among those that C added.
+/// Returns whether the mark is among those that C added.
 #[inline(always)]
 fn has_mark(marks: u64, mark: u64) -> bool
     requires { 0 < mark }
@@ -68,7 +69,7 @@ fn has_mark(marks: u64, mark: u64) -> bool
     marks / mark % 2 == 1
 }
 
-/// The call that C issues. Marks: 1 due, 2 by a requeue without abort, 4 aborted.
+/// Returns the call that C issues. Marks: 1 due, 2 by a requeue without abort, 4 aborted.
 #[inline(always)]
 pub fn arriving_of(caller: u64, entry: u64, marks: u64) -> Arriving<u64>
     ensures { result ≡ arriving_named caller entry marks }
@@ -86,8 +87,8 @@ pub fn arriving_of(caller: u64, entry: u64, marks: u64) -> Arriving<u64>
     }
 }
 
-/// How C says that a body ended: 0 completed, 1 failed, 2 and 3 requeued to the entry, without and with abort, 4 requeued
-/// elsewhere; any other number names no entry, and so is refused.
+/// Returns how C says that a body ended: 0 completed, 1 failed, 2 and 3 requeued to the entry, without and with abort, 4
+/// requeued elsewhere. Any other number names no entry, and so is refused.
 pub fn body_end_of(how: u64, entry: u64, marks: u64) -> BodyEnd
     ensures { result ≡ body_end_named how entry marks }
 {
@@ -104,7 +105,7 @@ pub fn body_end_of(how: u64, entry: u64, marks: u64) -> BodyEnd
     }
 }
 
-/// What came of an attempt to cancel, as C is told it.
+/// Returns what came of an attempt to cancel, as a number for C.
 pub fn number_of(cancellation: Cancellation) -> u64
     ensures { result ≡ number_of_cancellation cancellation }
 {

@@ -7,7 +7,7 @@ use Rattle.slab.specs.Slab.{Slab, get, Updates}
 use Rattle.po_calls.specs.declared.kept.Kept.{Kept}
 use Rattle.po_calls.specs.Calls.{AreReached, IsAbove, IsReached}
 
--- a number that was reached is at most each one that is above all
+-- a reached number is at most each number that is above all
 at_most : (last : Option ℕ) (n m : ℕ) → IsReached last n → IsAbove last m → n ≤ m
 at_most None n m reached above = absurd reached
 at_most (Some most) n m reached above = omega (arith, reached, above)
@@ -27,7 +27,7 @@ module _ {V : Type 0} where
     | inr other ↦ at_most last found.call.number kept.call.number (h k found (sym (set.others k other) ∙ is)) above
   ]
 
-  -- another call with the same number leaves the numbers
+  -- if a call is replaced by one with the same number, the numbers stay
   pub numbers_stay : (slots : List (Option (Kept V))) (key : ℕ) (was now : Kept V)
       → Some was ≡ get_or slots key None → now.call.number ≡ was.call.number
       → map (option_map (λ k. k.call.number)) (set slots key (Some now)) ≡ map (option_map (λ k. k.call.number)) slots

@@ -1,4 +1,5 @@
-//! How calls end, and where they are.
+// SPDX-License-Identifier: MIT
+//! How calls end, and the status of a ticket's call.
 
 /// How a call ended.
 #[derive(Clone, Copy, Debug, PartialEq, Eq)]
@@ -14,16 +15,13 @@ pub enum End<V> {
     ProgramError,
 }
 
-/// Where the call of a ticket is.
+/// The status of the call of a ticket.
 #[derive(Clone, Copy, Debug, PartialEq, Eq)]
 pub enum CallStatus<V> {
-    /// The ticket is of no uncollected call.
+    /// No uncollected call has this ticket.
     Unknown,
     /// The call waits on a queue.
     Waiting,
     /// The call has ended in this way.
     Ended(End<V>),
 }
-
-/// `CallStatus`, for callers that know it by this name.
-pub type Place<V> = CallStatus<V>;

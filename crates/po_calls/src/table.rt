@@ -1,3 +1,4 @@
+// SPDX-License-Identifier: MIT
 //! The table of the calls that aren't collected.
 
 ghost use Rattle.std.specs.Prelude.{ℕ, [], ◌≡◌, ◌<◌, ◌≤◌, ◌+◌, ◌↔◌, Ok, None, Some, IfOk, OnOk, OnSome, IfNone, IsTrue, option_copied, true};
@@ -17,11 +18,12 @@ use std::marker::Model;
 
 /// The calls of an object that aren't collected, each found by its ticket.
 ///
-/// A ticket whose key holds a call of another number, or none, is `Unknown`. Only `reserve_one` takes memory.
+/// A ticket is `Unknown` if its key holds no call, or one with another number. Only `with_capacity` and `reserve_one` take
+/// memory.
 #[derive(Drop)]
 pub struct Table<V: Copy> {
     calls: Slab<Kept<V>>,
-    /// The greatest number of a call that was put.
+    /// The greatest number of all calls put so far.
     last: Option<u64>,
 }
 
@@ -36,7 +38,7 @@ impl<V: Copy> Model for Table<V> {
 }
 
 impl<V: Copy> Table<V> {
-    /// A table with no call, into which a call of any number can be put.
+    /// Makes a table with no call. A call of any number can be put into it.
     pub fn new(alloc: Global) -> Table<V>
         ensures kept { (ticket : Ticket) → kept result ticket ≡ None }
         ensures vacant { (key : ℕ) → get result.calls key ≡ None }
@@ -50,7 +52,7 @@ impl<V: Copy> Table<V> {
         }
     }
 
-    /// A table with no call and with room for so many.
+    /// Makes a table with no call, and with room for `most` of them.
     pub fn with_capacity(alloc: Global, most: usize) -> Result<Table<V>, AllocError>
         ensures kept { IfOk result (λ t. (ticket : Ticket) → kept t ticket ≡ None) }
         ensures vacant { IfOk result (λ t. (key : ℕ) → get t.calls key ≡ None) }
@@ -63,7 +65,7 @@ impl<V: Copy> Table<V> {
         Ok(Table { calls, last: None })
     }
 
-    /// Makes room for one more call. No room is lost, also where it fails.
+    /// Makes room for one more call. No room is lost, even if this fails.
     pub fn reserve_one(&mut self) -> Result<(), AllocError>
         ensures room { OnOk result (HasRoomFor self.new.calls 1) }
         ensures grows { self.old.calls.capacity ≤ self.new.calls.capacity }
@@ -77,35 +79,36 @@ impl<V: Copy> Table<V> {
         self.calls.reserve(1)
     }
 
-    /// Whether there is room for one more call, so that it can be put.
+    /// Returns whether there is room to put one more call.
     pub fn has_room(&self) -> bool
         ensures { IsTrue result ↔ HasRoomFor self.now.calls 1 }
     {
         self.calls.len() < self.calls.capacity()
     }
 
-    /// How many calls are kept.
+    /// Returns how many calls are kept.
     pub fn len(&self) -> usize
         ensures { result ≡ slab_len self.now.calls }
     {
         self.calls.len()
     }
 
-    /// For how many calls there is memory, those that are kept among them. Keys are below it.
+    /// Returns for how many calls there is memory, those that are kept included. All keys are below it.
     pub fn capacity(&self) -> usize
         ensures { result ≡ self.now.calls.capacity }
     {
         self.calls.capacity()
     }
 
-    /// The greatest number of a call that was put, if one was: a call can be put that has a greater one.
+    /// Returns the greatest number of all calls put so far, if there is one. The next call that is put has to have a greater
+    /// one.
     pub fn last(&self) -> Option<u64>
         ensures { result ≡ self.now.last }
     {
         self.last
     }
 
-    /// The key that a `put` would give now.
+    /// Returns the key that a `put` would give now.
     pub fn next_key(&self) -> usize
         ensures exact { result ≡ self.now.calls.vacant_key }
         ensures vacant { get self.now.calls result ≡ None }
@@ -113,8 +116,8 @@ impl<V: Copy> Table<V> {
         self.calls.vacant_key()
     }
 
-    /// Keeps a waiting call, whose number is above those of all calls put before, where there is room for it. The caller
-    /// sees both from `last` and `has_room`.
+    /// Keeps a waiting call. There has to be room, and its number has to be above those of all calls put before: `has_room` and
+    /// `last` let the caller check both.
     pub fn put(&mut self, call: Call<V>) -> Ticket
         requires room { HasRoomFor self.old.calls 1 }
         requires number { IsAbove self.old.last call.number }
@@ -134,7 +137,7 @@ impl<V: Copy> Table<V> {
         Ticket { key, number }
     }
 
-    /// The call of the ticket, where it waits.
+    /// Returns the call of the ticket, if it waits.
     pub fn get(&self, ticket: Ticket) -> Option<&Call<V>>
         ensures { option_copied result ≡ waiting_call (kept self.now ticket) }
     {
@@ -146,7 +149,7 @@ impl<V: Copy> Table<V> {
         }
     }
 
-    /// The waiting call that has this key, if one has.
+    /// Returns the waiting call that has this key, if there is one.
     pub fn at(&self, key: usize) -> Option<&Call<V>>
         ensures { option_copied result ≡ waiting_call (get self.now.calls key) }
     {
@@ -156,7 +159,7 @@ impl<V: Copy> Table<V> {
         }
     }
 
-    /// Where the call of the ticket is.
+    /// Returns the status of the ticket's call.
     pub fn status(&self, ticket: Ticket) -> CallStatus<V>
         ensures { result ≡ status_of (kept self.now ticket) }
     {
@@ -185,7 +188,7 @@ impl<V: Copy> Table<V> {
         }
     }
 
-    /// Takes out the call of the ticket and gives its end, where it has ended. The ticket is then `Unknown` for good.
+    /// Takes out the call of the ticket and returns its end, if it has ended. The ticket is then `Unknown` for good.
     pub fn collect(&mut self, ticket: Ticket) -> Option<End<V>>
         ensures exact { result ≡ end_of (kept self.old ticket) }
         ensures otherwise { IfNone result (self.new ≡ self.old) }
@@ -207,7 +210,7 @@ impl<V: Copy> Table<V> {
         Some(end)
     }
 
-    /// Gives a waiting call another entry and value, and whether it may be cancelled.
+    /// Gives a waiting call another entry and value, and sets whether it is protected against cancellation.
     pub fn requeue(&mut self, ticket: Ticket, entry: u16, value: V, without_abort: bool)
         requires { status_of (kept self.old ticket) ≡ Waiting }
         ensures sets { (call : Call V) → waiting_call (kept self.old ticket) ≡ Some call

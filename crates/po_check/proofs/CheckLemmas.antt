@@ -1,4 +1,4 @@
--- What is said of lines that are put together, and how far a check has come.
+-- What is said about lines that are put together, and how far a check has come.
 use Rattle.std.proofs.Common.{◌≡◌, ℕ, suc, ◌+◌, ◌<◌, ◌≤◌, Bool, true, false, cond, eqb, ltb, List, [], ◌∷◌, ◌++◌, length, take, Option, Some, None, Result, Ok, Err, IfOk, refl, sym, ap, ◌∙◌, inl, inr, arith, append_assoc, length-append}
 use Rattle.std.proofs.lemmas.Bool.{cases_Bool, lt-ltb, le-ltb, ltb-true, ltb-false}
 use Rattle.std.proofs.lemmas.List.{append-nil, take_all, take_at, length-take-le, take-append-le}
@@ -65,7 +65,7 @@ module _ (units : ScriptUnits) where
       let shift : n + suc (length ls) ≡ n + 1 + length ls = omega arith in
       rw shift (ap (λ cs. claims_at units known n (says (listed units) known m) ++ cs) (claims-push (known_after known (says (listed units) known m)) (n + 1) ls l) ∙ sym (append_assoc (claims_at units known n (says (listed units) known m)) _ _))
 
-  -- what is said of the line being read, where it ends
+  -- what is said about the line being read, once it ends
   abbrev pub line_says : Known → List ℕ → List Claim
   line_says known bytes = claims_at units known (length (cut bytes).full + 1) (says (listed units) known (cut bytes).rest)
 

@@ -1,4 +1,4 @@
--- The first fault that a check says is that of a run.
+-- The first fault that a check tells is that of a run.
 use Rattle.std.proofs.Common.{◌≡◌, ℕ, ◌+◌, Bool, true, false, cond, ltb, List, [], ◌∷◌, ◌++◌, length, take, Option, Some, None, Result, Ok, Err, refl, ap, ◌∙◌}
 use Rattle.po_language.specs.declared.command.UnitChoice.{UnitChoice}
 use Rattle.po_language.specs.declared.command.Command.{Command}
@@ -13,7 +13,7 @@ use Rattle.po_check.specs.declared.claim.Claim.{Claim}
 use Rattle.po_check.specs.declared.claim.Claim.TheVariants.{HasFault, IsRefused}
 use Rattle.po_check.specs.Claims.{says, known_after, refusal_at, warning, claims_at, claims_from, whole_claims, limit_claim, claims_within, first_fault}
 
--- what is known in a check where a run has begun this unit
+-- what is known in a check if a run has begun this unit
 abbrev pub known_of : Option UnitChoice → Known
 known_of None = Nothing
 known_of (Some unit) = Begun unit
@@ -39,7 +39,7 @@ module _ (units : ScriptUnits) where
       ap (λ said. first_fault (claims_at units (known_of begun) n said ++ claims_from units (known_after (known_of begun) said) (n + 1) ls)) (says_same units begun l)
       ∙ line_first n begun (line_of (listed units) begun l) (λ known. claims_from units known (n + 1) ls) (λ later. reading (listed units) later (n + 1) ls) (λ later. lines_first later (n + 1) ls)
 
-  -- the fault of the limit comes first where none came before
+  -- the fault of the limit comes first if none came before
   limit_first : (claims : List Claim) (fault : Option (ℕ × FaultKind)) (cs : List Command) (c : Cut) → first_fault claims ≡ fault → first_fault (claims ++ limit_claim units c ∷ []) ≡ (past_limit cs fault c).fault
   limit_first claims None cs c e = last_first claims e
     where

@@ -35,7 +35,7 @@ line_of_claim (HasFault n kind known) = n
 line_of_claim (IsRefused n refusal known) = n
 
 module _ (units : ScriptUnits) where
-  -- the claim is of one of the lines from number n on
+  -- the claim is about one of the lines from number n on
   abbrev IsFrom : ℕ → Claim → Type 0
   IsFrom n claim = (i : ℕ) × (line_of_claim claim ≡ n + i)
 
@@ -50,7 +50,7 @@ module _ (units : ScriptUnits) where
   at_from known n (Err kind) = All-cons (IsFrom n) (HasFault n kind known) [] (zero, omega arith) (All-nil (IsFrom n))
   at_from known n (Ok command) = warning_from n known (refusal_at units known command)
 
-  -- what is said of lines from number n on is of such lines
+  -- what is said about lines from number n on is about such lines
   claims_are_from : (known : Known) (n : ℕ) (ls : List (List ℕ)) → All (IsFrom n) (claims_from units known n ls)
   claims_are_from known n [] = All-nil (IsFrom n)
   claims_are_from known n (l ∷ ls) =
@@ -61,7 +61,7 @@ module _ (units : ScriptUnits) where
 
   -- the commands so far were these, and the lines from number n on follow
   module _ (behind : (commands : List Command) → RefusesBehind units commands) where
-    -- line i of these is refused behind the commands so far and those of the lines before it
+    -- line i of these is refused after the commands so far and those of the lines before it
     pub record IsRefusedFrom (so_far : List Command) (begun : Option UnitChoice) (n : ℕ) (ls : List (List ℕ)) (i : ℕ) (refusal : Refusal) : Type 0 where
       pub operation : Operation
       pub line : (reading (listed units) begun n (take (suc i) ls)).commands ≡ (reading (listed units) begun n (take i ls)).commands ++ Operate operation ∷ []
@@ -72,7 +72,7 @@ module _ (units : ScriptUnits) where
     HoldsFrom so_far begun n ls (IsRefused k refusal known) =
         (i : ℕ) × (k ≡ n + i) × ((reading (listed units) begun n (take i ls)).fault ≡ None → IsRefusedFrom so_far begun n ls i refusal)
 
-    -- behind a line with a fault nothing is reached
+    -- after a line with a fault, nothing is reached
     after_fault : (so_far : List Command) (begun : Option UnitChoice) (n : ℕ) (l : List ℕ) (ls : List (List ℕ)) (kind : FaultKind) (claim : Claim) → line_of (listed units) begun l ≡ Err kind → IsFrom (n + 1) claim → HoldsFrom so_far begun n (l ∷ ls) claim
     after_fault so_far begun n l ls kind (HasFault k other known) is from = tt
     after_fault so_far begun n l ls kind (IsRefused k refusal known) is from =
@@ -158,7 +158,7 @@ module _ (units : ScriptUnits) where
         subst (λ said. All (HoldsFrom so_far begun n (l ∷ ls)) (claims_at units (known_of begun) n said ++ claims_from units (known_after (known_of begun) said) (n + 1) ls)) (sym (says_same units begun l))
         (line_holds so_far begun n l ls (line_of (listed units) begun l) from refl (λ next later is. lines_hold next later (n + 1) ls is))
 
-    -- what is said of a script is said of the lines that a run reads
+    -- what is said about a script is said about the lines that a run reads
     claims_hold : (most : ℕ) (bytes : List ℕ) → All (HoldsFrom [] None 1 (lines_within most bytes)) (claims_within units most bytes)
     claims_hold most bytes = go (ltb most (length bytes))
       where
@@ -190,7 +190,7 @@ module _ (units : ScriptUnits) where
     unfolding after
     refuses_after s operation refusal r = ap (λ (t : SessionState units). after units t (Operate operation)) r.present ∙ ap (λ (o : Object units). Some o) r.stays ∙ sym r.present
 
-    -- what is written where an operation is refused
+    -- what is written if an operation is refused
     written_around : (s : SessionState units) (before later : List Command) (operation : Operation) (refusal : Refusal) → Refuses units (state_after units s before) operation refusal → answers units s (before ++ Operate operation ∷ later) ≡ answers units s before ++ refused_line refusal ++ answers units (state_after units s before) later
     written_around s before later operation refusal r =
         text_by-append (after units) (answer units) s before (Operate operation ∷ later)

@@ -1,3 +1,4 @@
+-- SPDX-License-Identifier: MIT
 -- What a check of a script says: which lines have a fault, and which are sure to be refused.
 use Rattle.std.specs.Prelude.{ℕ, ◌+◌, nat_lt, List, [], ◌∷◌, ◌++◌, length, take, Option, Some, None, Result, Ok, Err, if◌then◌else◌}
 use Rattle.po_language.specs.Commands.{form_of}
@@ -17,14 +18,14 @@ use Rattle.po_check.specs.declared.claim.Claim.TheVariants.{HasFault, IsRefused}
 use Rattle.po_check.specs.declared.verdict.Verdict.{Verdict}
 use Rattle.po_check.specs.declared.verdict.Verdict.TheVariants.{Clean, Faulty}
 
--- What a line says: a command, nothing, or its fault. As long as no line before it has a fault, that is what it says in a
--- run; where the unit isn't known, its form alone is judged.
+-- What a line says: a command, nothing, or its fault. As long as no line before it has a fault, that is what it says in a run.
+-- If the unit isn't known, only the form of the line is judged.
 abbrev pub says : UnitList → Known → List ℕ → Result (Option Command) FaultKind
 says units Nothing line = line_of units None line
 says units (Begun unit) line = line_of units (Some unit) line
 says units Unclear line = if nat_lt 4096 (length line) then Err LineTooLong else form_of units line
 
--- what is known of the unit behind a line: a fault before a unit is begun leaves it open which one was meant
+-- what is known about the unit after a line; a fault before a unit is begun leaves open which one was meant
 abbrev pub known_after : Known → Result (Option Command) FaultKind → Known
 known_after known (Ok None) = known
 known_after known (Ok (Some (Begin beginning))) = Begun beginning.unit
@@ -42,53 +43,53 @@ abbrev pub warning : ℕ → Known → Option Refusal → List Claim
 warning n known None = []
 warning n known (Some refusal) = IsRefused n refusal known ∷ []
 
--- what is said of line n, and what is known of the unit before it: its fault, or that it is sure to be refused
+-- what is said about line n and what is known about the unit before it: its fault, or that it is sure to be refused
 abbrev pub claims_at : ScriptUnits → Known → ℕ → Result (Option Command) FaultKind → List Claim
 claims_at units known n (Err kind) = HasFault n kind known ∷ []
 claims_at units known n (Ok command) = warning n known (refusal_at units known command)
 
--- what is said of the lines from number n on
+-- what is said about the lines from number n on
 abbrev pub claims_from : ScriptUnits → Known → ℕ → List (List ℕ) → List Claim
 claims_from units known n [] = []
 claims_from units known n (line ∷ lines) =
     claims_at units known n (says (listed units) known line)
     ++ claims_from units (known_after known (says (listed units) known line)) (n + 1) lines
 
--- what is known of the unit behind these lines
+-- what is known about the unit after these lines
 abbrev pub known_behind : ScriptUnits → Known → List (List ℕ) → Known
 known_behind units known [] = known
 known_behind units known (line ∷ lines) = known_behind units (known_after known (says (listed units) known line)) lines
 
--- what is said of the lines that a newline ends
+-- what is said about the lines that a newline ends
 abbrev pub whole_claims : ScriptUnits → List ℕ → List Claim
 whole_claims units bytes = claims_from units Nothing 1 (cut bytes).full
 
--- the fault of the line at whose end the script is too long
+-- the fault of the line at whose end the script becomes too long
 abbrev pub limit_claim : ScriptUnits → Cut → Claim
 limit_claim units c = HasFault (length c.full + 1) (if nat_lt 4096 (length c.rest) then LineTooLong else ScriptTooLong) (known_behind units Nothing c.full)
 
--- what is said of a script of at most so many bytes; what stands behind the last newline is a line too
+-- what is said about a script that may have `most` bytes; what comes after the last newline is a line too
 abbrev pub claims_within : ScriptUnits → ℕ → List ℕ → List Claim
 claims_within units most bytes =
     if nat_lt most (length bytes)
     then whole_claims units (take most bytes) ++ limit_claim units (cut (take most bytes)) ∷ []
     else claims_from units Nothing 1 ((cut bytes).full ++ (cut bytes).rest ∷ [])
 
--- what is said of the script, line by line: a script has at most 67,108,864 bytes
+-- what is said about the script, line by line: a script has at most 67,108,864 bytes
 abbrev pub claims_of : ScriptUnits → List ℕ → List Claim
 claims_of units bytes = claims_within units 67108864 bytes
 
--- the fault that is said first, with its line
+-- the first fault that is said, with its line
 abbrev pub first_fault : List Claim → Option (ℕ × FaultKind)
 first_fault [] = None
 first_fault (HasFault n kind known ∷ claims) = Some (n, kind)
 first_fault (IsRefused n refusal known ∷ claims) = first_fault claims
 
--- what a check comes to that said these claims after what it had come to
+-- the result of a check that said these claims, after its result so far
 abbrev pub verdict_with : Verdict → List Claim → Verdict
 verdict_with verdict [] = verdict
 verdict_with verdict (claim ∷ claims) = Faulty
 
--- what a check comes to that said these claims: it is clean exactly where there are none
+-- the result of a check that said these claims: it is clean exactly if there are none
 abbrev pub verdict_of : List Claim → Verdict
 verdict_of claims = verdict_with Clean claims

@@ -1,3 +1,4 @@
+-- SPDX-License-Identifier: MIT
 pub mod Check
 pub mod Checked
 pub mod Claims

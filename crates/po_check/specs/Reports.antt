@@ -1,3 +1,4 @@
+-- SPDX-License-Identifier: MIT
 -- What a report was told.
 use Rattle.std.specs.Prelude.{ℕ, ◌≡◌, List, [], ◌∷◌, ◌++◌, Option, Some, None}
 use Rattle.std.specs.Option.{option_map}
@@ -9,16 +10,16 @@ use Rattle.po_check.specs.declared.finding.Found.{Found}
 use Rattle.po_check.specs.declared.finding.Found.TheVariants.{Fault, Refused}
 use Rattle.po_language.specs.Faults.{kind_of}
 
--- It was told these claims after what it was told before, where it says what it was told; one that doesn't never does.
+-- It was told these claims after what it was told before, if it says what it was told. A report that doesn't say so never does.
 abbrev pub Tells : Option (List Claim) → Option (List Claim) → List Claim → Type 0
 Tells old new claims = new ≡ option_map (λ before. before ++ claims) old
 
--- It was told the first of these claims after what it was told before, and none of the later ones.
+-- It was told the first of these claims, after what it was told before, and none of the later ones.
 abbrev pub TellsFirst : Option (List Claim) → Option (List Claim) → List Claim → Type 0
 TellsFirst old new claims =
     (first : List Claim) × (later : List Claim) × (claims ≡ first ++ later) × Tells old new first
 
--- what is said of line n by what is known of the unit before it and found there
+-- what is said about line n, given what was known about the unit before it and what was found there
 abbrev pub claim_by : ℕ → Known → Found → Claim
 claim_by n known (Fault fault) = HasFault n (kind_of fault.reason) known
 claim_by n known (Refused operation refusal) = IsRefused n refusal known
@@ -27,7 +28,7 @@ claim_by n known (Refused operation refusal) = IsRefused n refusal known
 abbrev pub claim_of : Finding → Claim
 claim_of finding = claim_by finding.number finding.known finding.found
 
--- what is said of line n by what is known of the unit before it and found there, if anything is
+-- what is said about line n, given what was known about the unit before it and what was found there, if anything was
 abbrev pub claims_of_found : ℕ → Known → Option Found → List Claim
 claims_of_found n known None = []
 claims_of_found n known (Some found) = claim_by n known found ∷ []

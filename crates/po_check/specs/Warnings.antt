@@ -1,4 +1,5 @@
--- What a warning is worth in a run of the same script.
+-- SPDX-License-Identifier: MIT
+-- What a warning means for a run of the same script.
 use Rattle.std.specs.Prelude.{ℕ, ◌≡◌, ◌-◌, nat_lt, List, [], ◌∷◌, ◌++◌, length, take, None, Contains, if◌then◌else◌}
 use Rattle.po_language.specs.declared.command.Command.{Command}
 use Rattle.po_language.specs.declared.command.Command.TheVariants.{Operate}
@@ -14,7 +15,7 @@ use Rattle.po_check.specs.declared.known.Known.{Known}
 use Rattle.po_check.specs.declared.claim.Claim.TheVariants.{IsRefused}
 use Rattle.po_check.specs.Claims.{claims_within}
 
--- the lines of a script of at most so many bytes; of a longer one those that end within them
+-- the lines of a script that may have `most` bytes; of a longer one, those that end within them
 abbrev pub lines_within : ℕ → List ℕ → List (List ℕ)
 lines_within most bytes =
     if nat_lt most (length bytes) then (cut (take most bytes)).full else (cut bytes).full ++ (cut bytes).rest ∷ []
@@ -34,17 +35,17 @@ module _ (units : ScriptUnits) (most : ℕ) (bytes : List ℕ) where
     pub operation : Operation
     pub line : (first_lines n).commands ≡ (first_lines (n - 1)).commands ++ Operate operation ∷ []
     pub refused : Refuses units (state_after units (opening_state units) (first_lines (n - 1)).commands) operation refusal
-    -- the commands of the lines behind it
+    -- the commands of the lines after it
     pub later : List Command
     pub script : (script_within (listed units) most bytes).commands ≡ (first_lines n).commands ++ later
-    -- what the script writes: what the lines before it write, the line of the refusal, and what the lines behind it write,
-    -- which find the object as the lines before it left it
+    -- what the script writes: what the lines before it write, the line of the refusal, and what the lines after it write, which
+    -- find the object as the lines before it left it
     pub written : answers units (opening_state units) (script_within (listed units) most bytes).commands
         ≡ answers units (opening_state units) (first_lines (n - 1)).commands
         ++ refused_line refusal
         ++ answers units (state_after units (opening_state units) (first_lines (n - 1)).commands) later
 
--- A line with a warning of a refusal is refused with that refusal by a run that reaches it.
+-- If a line has a warning of a refusal, a run that reaches the line refuses it with that refusal.
 abbrev pub WarnsOfRefusals : ScriptUnits → ℕ → List ℕ → Type 0
 WarnsOfRefusals units most bytes =
     (n : ℕ) (refusal : Refusal) (known : Known)
@@ -52,6 +53,6 @@ WarnsOfRefusals units most bytes =
     → IsReached units most bytes n
     → IsRefusedInRun units most bytes n refusal
 
--- So it is in each script: one has at most 67,108,864 bytes.
+-- This holds for each script: one has at most 67,108,864 bytes.
 abbrev pub WarningsComeTrue : ScriptUnits → Type 0
 WarningsComeTrue units = (bytes : List ℕ) → WarnsOfRefusals units 67108864 bytes

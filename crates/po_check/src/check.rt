@@ -1,4 +1,5 @@
-//! A check of a script, from the bytes to what is told of them.
+// SPDX-License-Identifier: MIT
+//! A check of a script, from its bytes to the report.
 
 ghost use Rattle.std.specs.Prelude.{◌≡◌, ◌+◌, ◌<◌, ◌≤◌, ◌∷◌, ◌++◌, [], List, Option, ℕ, false, nat_lt, if◌then◌else◌, length, OnOk, IfOk, IfErr};
 ghost use Rattle.std.specs.Io.KnownBytes.{Consumes};
@@ -14,18 +15,18 @@ ghost use Rattle.po_script.specs.Units.{listed};
 ghost use Rattle.po_script.specs.declared.cutter.TheConstants.{SCRIPT_LIMIT};
 
 use crate::checker::Checker;
-use crate::fault::CheckFault;
+use crate::error::CheckError;
 use crate::finding::{Finding, Found};
 use crate::report::Report;
 use crate::verdict::Verdict;
-use po_language::{LineFault, Reason, Span};
-use po_script::cutter::{Cutter, Step};
+use po_language::{LineError, Reason, Span};
+use po_script::cutter::{Cutter, Piece};
 use po_script::facts::refused_behind;
 use po_script::{ScriptObject, Units};
 use po_streams::Source;
 use std::alloc::Global;
 
-/// A script as far as it has been checked.
+/// A script, as far as it has been checked.
 #[derive(Drop)]
 struct Check {
     lines: Cutter,
@@ -37,11 +38,11 @@ impl Check {
     ghost use Rattle.po_check.specs.declared.claim.Claim.{Claim};
     ghost use Rattle.po_script.specs.Cutter.{kept, total_of, waiting};
 
-    /// A check that has read nothing.
-    fn new<O: ScriptObject>(alloc: Global) -> Result<Check, CheckFault>
+    /// Makes a check that has read nothing.
+    fn new<O: ScriptObject>(alloc: Global) -> Result<Check, CheckError>
         ensures ok { IfOk result (λ check. (start : Option (List ℕ)) (first : Option ℕ) (had : Option (List Claim))
             → Stands O.units check [] start start first first had had) }
-        ensures err { IfErr result (λ fault. fault ≡ CheckFault.Memory) }
+        ensures err { IfErr result (λ fault. fault ≡ CheckError.Memory) }
     {
         let lines = Cutter::new(alloc)?;
         Ok(Check {
@@ -50,12 +51,12 @@ impl Check {
         })
     }
 
-    /// Checks the line that a newline ends, which comes next.
+    /// Checks the line that ends here. The next byte is its newline.
     fn newline<O: ScriptObject, P: Report>(
         &mut self,
         alloc: Global,
         report: &mut P,
-    ) -> Result<(), CheckFault>
+    ) -> Result<(), CheckError>
         requires room { total_of self.old.lines < SCRIPT_LIMIT }
         requires next { (more : List ℕ) × (waiting self.old.lines ≡ 10 ∷ more) }
         ensures ok { OnOk result (GoesOn O.units self.old self.new (10 ∷ []) (P.told report.old) (P.told report.new)) }
@@ -68,12 +69,12 @@ impl Check {
         Ok(())
     }
 
-    /// Checks what stands behind the last newline.
+    /// Checks what comes after the last newline.
     fn finish<O: ScriptObject, P: Report>(
         &mut self,
         alloc: Global,
         report: &mut P,
-    ) -> Result<Verdict, CheckFault>
+    ) -> Result<Verdict, CheckError>
         requires { waiting self.old.lines ≡ [] }
         ensures ok { IfOk result (λ verdict. (bytes : List ℕ) (start left : Option (List ℕ)) (first reads : Option ℕ) (had : Option (List Claim))
             → Stands O.units self.old bytes start left first reads had (P.told report.old)
@@ -85,8 +86,8 @@ impl Check {
         Ok(self.checker.verdict)
     }
 
-    /// The fault of the line at whose end the script is too long.
-    fn limit_fault(&self) -> LineFault
+    /// Returns the fault of the line at whose end the script becomes too long.
+    fn limit_fault(&self) -> LineError
         ensures { kind_of result.reason ≡ (if nat_lt 4096 (length (kept self.now.lines)) then FaultKind.LineTooLong else FaultKind.ScriptTooLong) }
     {
         let reason = if self.lines.is_too_long() {
@@ -94,7 +95,7 @@ impl Check {
         } else {
             Reason::ScriptTooLong
         };
-        LineFault {
+        LineError {
             reason,
             word: 0,
             span: Span {
@@ -104,11 +105,11 @@ impl Check {
         }
     }
 
-    /// Tells the report that a byte follows the most that a script may have.
+    /// Tells the report that there are more bytes than a script may have.
     fn past_limit<O: ScriptObject, P: Report>(
         &mut self,
         report: &mut P,
-    ) -> Result<Verdict, CheckFault>
+    ) -> Result<Verdict, CheckError>
         requires all { total_of self.old.lines ≡ SCRIPT_LIMIT }
         requires next { (byte : ℕ) × (more : List ℕ) × (waiting self.old.lines ≡ byte ∷ more) }
         ensures ok { IfOk result (λ verdict. (bytes : List ℕ) (start left : Option (List ℕ)) (first reads : Option ℕ) (had : Option (List Claim))
@@ -126,13 +127,14 @@ impl Check {
         Ok(Verdict::Faulty)
     }
 
-    /// Reads the script from its beginning to its end, or to the most bytes that it may have, and tells what is found.
+    /// Reads the script from its beginning to its end, or to the most bytes that it may have, and tells the report what is
+    /// found.
     fn read_on<O: ScriptObject, R: Source, P: Report>(
         &mut self,
         alloc: Global,
         reader: &mut R,
         report: &mut P,
-    ) -> Result<Verdict, CheckFault>
+    ) -> Result<Verdict, CheckError>
         requires fresh { Stands O.units self.old [] (R.left reader.old) (R.left reader.old)
             (R.reads reader.old) (R.reads reader.old) (P.told report.old) (P.told report.old) }
         requires reader { (R.failed reader.old ≡ false) × (R.ended reader.old ≡ false) }
@@ -146,24 +148,24 @@ impl Check {
         loop {
             let step = match self.lines.next(reader) {
                 Ok(step) => step,
-                Err(_) => return Err(CheckFault::Read),
+                Err(_) => return Err(CheckError::Read),
             };
             match step {
-                Step::Letter => {}
-                Step::Newline => self.newline::<O, P>(alloc, report)?,
-                Step::End => return self.finish::<O, P>(alloc, report),
-                Step::Past => return self.past_limit::<O, P>(report),
+                Piece::Letter => {}
+                Piece::Newline => self.newline::<O, P>(alloc, report)?,
+                Piece::End => return self.finish::<O, P>(alloc, report),
+                Piece::Past => return self.past_limit::<O, P>(report),
             }
         }
     }
 }
 
-/// Checks the script that the reader gives by the units of a list.
+/// Checks the script that the reader gives, with the units of a list.
 fn check_over<O: ScriptObject, R: Source, P: Report>(
     alloc: Global,
     reader: &mut R,
     report: &mut P,
-) -> Result<Verdict, CheckFault>
+) -> Result<Verdict, CheckError>
     requires reader { (R.failed reader.old ≡ false) × (R.ended reader.old ≡ false) }
     ensures reads { (more : ℕ) × (more ≤ SCRIPT_LIMIT + 1)
         × CountsMore (R.reads reader.old) (R.reads reader.new) more }
@@ -174,6 +176,7 @@ fn check_over<O: ScriptObject, R: Source, P: Report>(
     ensures first { (bytes : List ℕ) → first_fault (claims_of O.units bytes) ≡ (script_of (listed O.units) bytes).fault }
     ensures warned { WarningsComeTrue O.units }
 {
+    // Only for the prover: sure refusals come true after any commands.
     refused_behind::<O>();
     let mut check = Check::new::<O>(alloc)?;
     let verdict = check.read_on::<O, R, P>(alloc, reader, report);
@@ -181,17 +184,18 @@ fn check_over<O: ScriptObject, R: Source, P: Report>(
     verdict
 }
 
-/// Checks the script that the reader gives, carries out nothing, and tells the report what is found, line by line, as it is
-/// found: each fault, and each line that is sure to be refused. Memory doesn't grow with the script.
+/// Checks the script that the reader gives, and carries out nothing. Tells the report what is found, line by line, as it is
+/// found: each fault, and each line that is sure to be refused whatever was carried out before it. Memory doesn't grow with the
+/// script.
 ///
-/// The first fault that is told is that of a run of the same bytes. Where a read fails, the report was told what is to be said of
-/// the whole lines of what was read. Where the report fails, or memory is wanting, it was told the first of what is to be said,
-/// and no more.
+/// The first fault that is told is that of a run of the same bytes. If a read fails, the report was told all that there is to
+/// say about the whole lines of what was read. If the report fails, or memory runs out, it was told the first part of what
+/// there is to say, and no more.
 pub fn check_script<R: Source, P: Report>(
     alloc: Global,
     reader: &mut R,
     report: &mut P,
-) -> Result<Verdict, CheckFault>
+) -> Result<Verdict, CheckError>
     requires reader { (R.failed reader.old ≡ false) × (R.ended reader.old ≡ false) }
     ensures reads { (more : ℕ) × (more ≤ SCRIPT_LIMIT + 1)
         × CountsMore (R.reads reader.old) (R.reads reader.new) more }
@@ -199,10 +203,10 @@ pub fn check_script<R: Source, P: Report>(
         × IsChecked ⟦<Units as ScriptObject>⟧.units verdict bytes (P.told report.old) (P.told report.new) (R.left reader.new) (R.ended reader.new) (R.failed reader.new)) }
     ensures err { IfErr result (λ fault. (bytes : List ℕ) × Consumes (R.left reader.old) (R.left reader.new) bytes
         × EndsEarly ⟦<Units as ScriptObject>⟧.units fault bytes (P.told report.old) (P.told report.new) (R.failed reader.new)) }
-    // The first fault that is told is the one that a run ends with, and there is one exactly where a run has one.
+    // The first fault that is told is the one that a run ends with. There is one exactly if a run has one.
     ensures first { (bytes : List ℕ) → first_fault (claims_of ⟦<Units as ScriptObject>⟧.units bytes)
         ≡ (script_of (listed ⟦<Units as ScriptObject>⟧.units) bytes).fault }
-    // A line with a warning of a refusal is refused with that refusal by a run that reaches it.
+    // If a line has a warning of a refusal, a run that reaches the line refuses it with that refusal.
     ensures warned { WarningsComeTrue ⟦<Units as ScriptObject>⟧.units }
 {
     check_over::<Units, R, P>(alloc, reader, report)

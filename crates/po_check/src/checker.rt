@@ -1,4 +1,5 @@
-//! What checks the lines of a script, one after another.
+// SPDX-License-Identifier: MIT
+//! A checker of the lines of a script, one after another.
 
 ghost use Rattle.std.specs.Prelude.{◌≡◌, ◌≢◌, ℕ, IfOk, OnOk, IfErr, IfSome, Some, None};
 ghost use Rattle.po_check.specs.Checked.{facts_known};
@@ -8,22 +9,22 @@ ghost use Rattle.po_language.specs.Commands.{CanBegin};
 ghost use Rattle.po_language.specs.Faults.{by_kind};
 ghost use Rattle.po_script.specs.Units.{listed};
 
-use crate::fault::CheckFault;
+use crate::error::CheckError;
 use crate::finding::{Finding, Found};
 use crate::known::Known;
 use crate::report::Report;
 use crate::verdict::Verdict;
-use po_language::{Command, LineFault, Reason, Span, command_of, form_of};
+use po_language::{Command, LineError, Reason, Span, command_of, form_of};
 use po_script::cutter::LINE_LIMIT;
 use po_script::{ScriptObject, UnitFacts};
 use po_unit::Shape;
 use std::alloc::{AllocError, Global};
 
-/// The fault of a line that has too many bytes.
-fn too_long() -> LineFault
+/// Returns the fault of a line that has too many bytes.
+fn too_long() -> LineError
     ensures { result.reason ≡ Reason.LineTooLong }
 {
-    LineFault {
+    LineError {
         reason: Reason::LineTooLong,
         word: 0,
         span: Span {
@@ -33,8 +34,8 @@ fn too_long() -> LineFault
     }
 }
 
-/// What the line says, by what is known of the unit.
-fn says<O: ScriptObject>(known: Known, line: &[u8]) -> Result<Option<Command>, LineFault>
+/// Returns what the line says, given what is known about the unit.
+fn says<O: ScriptObject>(known: Known, line: &[u8]) -> Result<Option<Command>, LineError>
     ensures exact { by_kind result ≡ says (listed O.units) known line.now }
     ensures valid { IfOk result (λ command. IfSome command (CanBegin (listed O.units))) }
 {
@@ -48,19 +49,19 @@ fn says<O: ScriptObject>(known: Known, line: &[u8]) -> Result<Option<Command>, L
     }
 }
 
-/// What the lines so far have told, and what was found in them.
+/// What the lines so far say about the unit, and whether anything was found in them.
 #[derive(Drop)]
 pub(crate) struct Checker {
-    /// What is known of the unit.
+    /// What is known about the unit.
     pub(crate) known: Known,
-    /// The facts of the unit, where it is known.
+    /// The facts of the unit, if it is known.
     pub(crate) facts: Option<UnitFacts>,
     /// Whether anything was found.
     pub(crate) verdict: Verdict,
 }
 
 impl Checker {
-    /// Before the first line.
+    /// Makes the checker that has seen no line.
     pub(crate) fn new() -> Checker
         ensures known { result.known ≡ Known.Nothing }
         ensures facts { result.facts ≡ None }
@@ -73,8 +74,8 @@ impl Checker {
         }
     }
 
-    /// What is found in a line that says this.
-    fn found<O: ScriptObject>(&self, said: Result<Option<Command>, LineFault>) -> Option<Found>
+    /// Returns what is found in a line that says this.
+    fn found<O: ScriptObject>(&self, said: Result<Option<Command>, LineError>) -> Option<Found>
         ensures { self.now.facts ≡ facts_known O.units self.now.known
             → (n : ℕ) → claims_of_found n self.now.known result ≡ claims_at O.units self.now.known n (by_kind said) }
     {
@@ -88,7 +89,7 @@ impl Checker {
         }
     }
 
-    /// The declarations of the unit's entries, where it is known.
+    /// Returns the declarations of the unit's entries, if the unit is known.
     fn shape(&self) -> Option<&Shape> {
         match &self.facts {
             Some(facts) => Some(facts.shape()),
@@ -103,12 +104,12 @@ impl Checker {
         line: &[u8],
         found: Option<Found>,
         report: &mut P,
-    ) -> Result<(), CheckFault>
+    ) -> Result<(), CheckError>
         ensures known { self.new.known ≡ self.old.known }
         ensures facts { self.new.facts ≡ self.old.facts }
         ensures told { OnOk result (Tells (P.told report.old) (P.told report.new) (claims_of_found number self.old.known found)) }
         ensures verdict { OnOk result (self.new.verdict ≡ verdict_with self.old.verdict (claims_of_found number self.old.known found)) }
-        ensures err { IfErr result (λ fault. (fault ≢ CheckFault.Read) × (P.told report.new ≡ P.told report.old)) }
+        ensures err { IfErr result (λ fault. (fault ≢ CheckError.Read) × (P.told report.new ≡ P.told report.old)) }
     {
         let Some(found) = found else {
             return Ok(());
@@ -123,11 +124,11 @@ impl Checker {
         Ok(())
     }
 
-    /// Takes note of the unit that a line begins, or should have begun.
+    /// Notes the unit that a line begins, or should have begun.
     fn learn<O: ScriptObject>(
         &mut self,
         alloc: Global,
-        said: Result<Option<Command>, LineFault>,
+        said: Result<Option<Command>, LineError>,
     ) -> Result<(), AllocError>
         requires valid { IfOk said (λ command. IfSome command (CanBegin (listed O.units))) }
         ensures known { OnOk result (self.new.known ≡ known_after self.old.known (by_kind said)) }
@@ -158,7 +159,7 @@ impl Checker {
         number: u64,
         line: &[u8],
         report: &mut P,
-    ) -> Result<(), CheckFault>
+    ) -> Result<(), CheckError>
         ensures known { OnOk result (self.new.known ≡ known_after self.old.known (says (listed O.units) self.old.known line.now)) }
         ensures facts { OnOk result (self.old.facts ≡ facts_known O.units self.old.known
             → self.new.facts ≡ facts_known O.units self.new.known) }
@@ -168,7 +169,7 @@ impl Checker {
         ensures verdict { OnOk result (self.old.facts ≡ facts_known O.units self.old.known
             → self.new.verdict ≡ verdict_with self.old.verdict
             (claims_at O.units self.old.known number (says (listed O.units) self.old.known line.now))) }
-        ensures err { IfErr result (λ fault. (fault ≢ CheckFault.Read) × (self.old.facts ≡ facts_known O.units self.old.known
+        ensures err { IfErr result (λ fault. (fault ≢ CheckError.Read) × (self.old.facts ≡ facts_known O.units self.old.known
             → TellsFirst (P.told report.old) (P.told report.new)
             (claims_at O.units self.old.known number (says (listed O.units) self.old.known line.now)))) }
     {

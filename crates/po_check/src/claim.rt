@@ -1,10 +1,11 @@
-//! What a check says of a line.
+// SPDX-License-Identifier: MIT
+//! What a check says about a line.
 
 use crate::known::Known;
 use po_core::Refusal;
 use po_language::FaultKind;
 
-/// What a check says of a line, and what is known of the unit where it says that. Lines are numbered from 1.
+/// What a check says about a line, and what is known about the unit there. Lines are numbered from 1.
 #[derive(Clone, Copy, Debug, PartialEq, Eq)]
 pub enum Claim {
     /// This line has this fault.

@@ -1,16 +1,17 @@
-//! What a fault says.
+// SPDX-License-Identifier: MIT
+//! The explanation of a fault.
 
 use crate::names::{COMMANDS, OPTIONS, unit_names};
 use crate::wording::{push_known, push_nearest, push_position, push_word};
 use po_language::words::{cut_word, number};
-use po_language::{Argument, LineFault, Reason, Span, UnitPart};
+use po_language::{Argument, LineError, Reason, Span, UnitPart};
 use std::alloc::{AllocError, Global};
 use std::fmt::Write;
 
 /// The bytes with which some editors begin a file.
 const BYTE_ORDER_MARK: [u8; 3] = [0xef, 0xbb, 0xbf];
 
-/// The word at the place.
+/// Returns the word at the place.
 fn word_at(line: &[u8], span: Span) -> &[u8] {
     if span.start > line.len() {
         return &[];
@@ -21,7 +22,7 @@ fn word_at(line: &[u8], span: Span) -> &[u8] {
     }
 }
 
-/// Where the first tab of the word stands.
+/// Returns the place of the first tab in the word.
 fn tab_in(word: &[u8], span: Span) -> Option<Span> {
     let before = word.iter().position(|byte| *byte == b'\t')?;
     Some(Span {
@@ -30,17 +31,17 @@ fn tab_in(word: &[u8], span: Span) -> Option<Span> {
     })
 }
 
-/// Whether each byte is a digit, and there is one.
+/// Returns whether each byte is a digit, and there is one.
 fn is_digits(word: &[u8]) -> bool {
     !word.is_empty() && word.iter().all(|byte| byte.is_ascii_digit())
 }
 
-/// Adds what is wrong with a byte that no word may hold. Where there is none, nothing is added.
+/// Adds what is wrong with a byte that no word may have, and returns whether there is one. If there is none, adds nothing.
 fn push_bytes(
     text: &mut String,
     line_number: u64,
     line: &[u8],
-    fault: LineFault,
+    fault: LineError,
 ) -> Result<bool, AllocError> {
     let word = word_at(line, fault.span);
     if line_number == 1 && line.starts_with(&BYTE_ORDER_MARK) {
@@ -58,11 +59,11 @@ fn push_bytes(
         return Ok(false);
     };
     push_position(text, line_number, span)?;
-    text.push_str("a tab; only spaces stand between words")?;
+    text.push_str("a tab; only spaces separate words")?;
     Ok(true)
 }
 
-/// Adds what was expected in the place of a number.
+/// Adds what is wrong with a word that should be a number.
 fn push_number(text: &mut String, word: &[u8], what: &str) -> Result<(), AllocError> {
     if word.is_empty() {
         return write!(text, "a word is missing: the {what}, a number");
@@ -86,7 +87,7 @@ fn push_number(text: &mut String, word: &[u8], what: &str) -> Result<(), AllocEr
     )
 }
 
-/// Adds what was expected in the place of a name.
+/// Adds what is wrong with a word that should be a name.
 fn push_name(text: &mut String, word: &[u8], what: &str) -> Result<(), AllocError> {
     if word.is_empty() {
         return write!(text, "a word is missing: the name of {what}");
@@ -98,7 +99,7 @@ fn push_name(text: &mut String, word: &[u8], what: &str) -> Result<(), AllocErro
     )
 }
 
-/// Adds what was expected in the place of an entry.
+/// Adds what is wrong with a word that should be an entry.
 fn push_entry(text: &mut String, word: &[u8]) -> Result<(), AllocError> {
     if word.is_empty() {
         return text.push_str("a word is missing: an entry");
@@ -115,7 +116,7 @@ fn push_end(text: &mut String, word: &[u8]) -> Result<(), AllocError> {
     text.push_str(" is a word too many")
 }
 
-/// Adds what was expected in the place of a unit's name.
+/// Adds what is wrong with a word that should be a unit's name.
 fn push_unit(alloc: Global, text: &mut String, word: &[u8]) -> Result<(), AllocError> {
     let units = unit_names(alloc)?;
     if word.is_empty() {
@@ -131,7 +132,7 @@ fn push_unit(alloc: Global, text: &mut String, word: &[u8]) -> Result<(), AllocE
     Ok(())
 }
 
-/// Adds what was expected in the place of a unit's size.
+/// Adds what is wrong with a word that should be a unit's size.
 fn push_size(text: &mut String, word: &[u8]) -> Result<(), AllocError> {
     if word.is_empty() {
         return text.push_str("a word is missing: the unit's size, a number from 1 to 1024");
@@ -140,14 +141,14 @@ fn push_size(text: &mut String, word: &[u8]) -> Result<(), AllocError> {
     text.push_str(" is no size; this unit has a size, a number from 1 to 1024")
 }
 
-/// Adds what may stand behind a unit.
+/// Adds what may follow a unit.
 fn push_option(alloc: Global, text: &mut String, word: &[u8]) -> Result<(), AllocError> {
     push_word(text, word)?;
     if number(word).is_some() {
-        return text.push_str(" is a word too many; no number stands here");
+        return text.push_str(" is a word too many; no number belongs here");
     }
     text.push_str(
-        " is a word too many; behind a unit may stand an order (textual, oldest, rotating), and then max M",
+        " is a word too many; after a unit there may be an order (textual, oldest, rotating), and then max M",
     )?;
     push_nearest(alloc, text, word, &OPTIONS)?;
     Ok(())
@@ -182,7 +183,7 @@ fn push_argument(text: &mut String, word: &[u8], argument: Argument) -> Result<(
     }
 }
 
-/// Adds what the fault says of its word.
+/// Adds what the fault says about its word.
 fn push_reason(
     alloc: Global,
     text: &mut String,
@@ -212,13 +213,13 @@ fn push_reason(
     }
 }
 
-/// Adds what the fault of the line with this number says.
+/// Adds the explanation of the fault of the line with this number.
 pub(crate) fn push_fault(
     alloc: Global,
     text: &mut String,
     line_number: u64,
     line: &[u8],
-    fault: LineFault,
+    fault: LineError,
 ) -> Result<(), AllocError> {
     if push_bytes(text, line_number, line, fault)? {
         return Ok(());

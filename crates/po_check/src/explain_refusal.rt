@@ -1,4 +1,5 @@
-//! What a line says that is sure to be refused.
+// SPDX-License-Identifier: MIT
+//! The explanation of a line that is sure to be refused.
 
 use crate::finding::Finding;
 use crate::names::names_of;
@@ -12,7 +13,7 @@ use po_unit::{Decl, EntryRef, Shape};
 use std::alloc::{AllocError, Global};
 use std::fmt::Write;
 
-/// The number of the word that names the operation, counted from 0: behind the time of a timed call.
+/// Returns the number of the word that names the operation, counted from 0. In a timed call it comes after the time.
 fn name_word(line: &[u8]) -> usize {
     match cut_word(line) {
         Some((first, _)) if first == b"timed".as_slice() => 2,
@@ -20,7 +21,7 @@ fn name_word(line: &[u8]) -> usize {
     }
 }
 
-/// The word at which the bytes begin.
+/// Returns the word at which the bytes begin.
 fn word_of(line: &[u8]) -> &[u8] {
     match cut_word(line) {
         Some((word, _)) => word,
@@ -28,7 +29,7 @@ fn word_of(line: &[u8]) -> &[u8] {
     }
 }
 
-/// The name in a word that names an entry.
+/// Returns the name in a word that names an entry.
 fn name_of(word: &[u8]) -> &[u8] {
     match entry_word(word) {
         Some(parts) => parts.name,
@@ -36,14 +37,14 @@ fn name_of(word: &[u8]) -> &[u8] {
     }
 }
 
-/// What a name could have been one of.
+/// A kind of operation that a name could have named.
 #[derive(Clone, Copy)]
 struct Kind {
-    /// What the unit doesn't have.
+    /// The word for it in `no such ..`.
     what: &'static str,
-    /// What one is that a script may call.
+    /// The words for one that a script may call.
     one: &'static str,
-    /// What they are together.
+    /// The words for several of these.
     many: &'static str,
     /// The command that calls them.
     command: &'static str,
@@ -79,7 +80,7 @@ struct Operations {
     functions: &'static [&'static str],
 }
 
-/// The names of the entries that may be called from outside (9.4).
+/// Returns the names of the entries that may be called from outside (9.4).
 fn public_entries(
     alloc: Global,
     names: &UnitNames,
@@ -96,13 +97,13 @@ fn public_entries(
     Ok(public)
 }
 
-/// Whether the name is one of these.
+/// Returns whether the name is one of these.
 fn is_one_of(name: &[u8], names: &[&'static str]) -> bool {
     names.iter().any(|other| other.as_bytes() == name)
 }
 
 impl Operations {
-    /// Those of the unit with these names and this shape.
+    /// Makes those of the unit with these names and this shape.
     fn new(alloc: Global, names: &UnitNames, shape: &Shape) -> Result<Operations, AllocError> {
         Ok(Operations {
             unit: names.unit,
@@ -112,7 +113,7 @@ impl Operations {
         })
     }
 
-    /// What the name is, where the unit has something of that name.
+    /// Returns the kind of operation that the name names, if the unit has one of that name.
     fn kind_of(&self, name: &[u8]) -> Option<Kind> {
         if is_one_of(name, self.entries.as_slice()) {
             return Some(ENTRIES);
@@ -126,7 +127,7 @@ impl Operations {
         None
     }
 
-    /// Adds what there is of this kind.
+    /// Adds which operations of this kind there are.
     fn push_known(
         &self,
         text: &mut String,
@@ -164,7 +165,7 @@ impl Operations {
         }
     }
 
-    /// Adds that the entry is private, and which ones aren't.
+    /// Adds that the entry is private, and which entries aren't.
     fn push_private(&self, text: &mut String, name: &[u8]) -> Result<(), AllocError> {
         text.push_str("private entry ")?;
         push_word(text, name)?;
@@ -173,7 +174,7 @@ impl Operations {
     }
 }
 
-/// Adds of what kind the name is, and which command calls it.
+/// Adds which kind of operation the name names, and which command calls it.
 fn push_kind(text: &mut String, name: &[u8], kind: Kind) -> Result<(), AllocError> {
     let (one, command) = (kind.one, kind.command);
     text.push_str("; ")?;
@@ -210,7 +211,7 @@ fn push_call(
     operations: &Operations,
     shape: &Shape,
 ) -> Result<(), AllocError> {
-    let Some(declared) = shape.decl(entry.entry) else {
+    let Some(declared) = shape.decl(entry.declaration) else {
         let known = operations.entries.as_slice();
         return operations.push_unknown(alloc, text, ENTRIES, known, name_of(word));
     };
@@ -232,17 +233,17 @@ fn push_operation(
 ) -> Result<(), AllocError> {
     match operation {
         Operation::Call { entry, .. } => push_call(alloc, text, word, entry, operations, shape),
-        Operation::Run { .. } => {
+        Operation::Procedure { .. } => {
             operations.push_unknown(alloc, text, PROCEDURES, operations.procedures, word)
         }
-        Operation::Read { .. } => {
+        Operation::Function { .. } => {
             operations.push_unknown(alloc, text, FUNCTIONS, operations.functions, word)
         }
         _ => Ok(()),
     }
 }
 
-/// The word that names the operation, or nothing where it isn't there.
+/// Returns the word that names the operation, or nothing if it isn't there.
 fn operation_word(line: &[u8], span: Span) -> &[u8] {
     if span.start > line.len() {
         return &[];
@@ -250,7 +251,7 @@ fn operation_word(line: &[u8], span: Span) -> &[u8] {
     word_of(&line[span.start..])
 }
 
-/// Adds what the line of a finding says, whose operation is sure to be refused.
+/// Adds the explanation of a finding whose operation is sure to be refused.
 pub(crate) fn push_refusal(
     alloc: Global,
     text: &mut String,

@@ -1,3 +1,4 @@
+// SPDX-License-Identifier: MIT
 //! What a check finds in a line.
 
 ghost use Rattle.std.specs.Prelude.{◌≡◌};
@@ -6,13 +7,13 @@ ghost use Rattle.po_check.specs.Reports.{claim_of};
 use crate::claim::Claim;
 use crate::known::Known;
 use po_core::Refusal;
-use po_language::{LineFault, Operation};
+use po_language::{LineError, Operation};
 
 /// What is found in a line.
 #[derive(Clone, Copy, Debug, PartialEq, Eq)]
 pub enum Found {
     /// A fault.
-    Fault(LineFault),
+    Fault(LineError),
     /// An operation that is sure to be refused.
     Refused(Operation, Refusal),
 }
@@ -22,14 +23,14 @@ pub enum Found {
 pub struct Finding {
     /// The number of the line, from 1.
     pub number: u64,
-    /// What is known of the unit that is begun.
+    /// What is known about the unit that was begun.
     pub known: Known,
     /// What is found.
     pub found: Found,
 }
 
 impl Finding {
-    /// What it says of the line.
+    /// Returns what it says about the line.
     pub fn claim(&self) -> Claim
         ensures { result ≡ claim_of self.now }
     {

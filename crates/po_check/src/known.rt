@@ -1,14 +1,15 @@
-//! What is known of the unit that a script has begun.
+// SPDX-License-Identifier: MIT
+//! What is known about the unit that a script has begun.
 
 use po_language::UnitChoice;
 
-/// What is known of the unit that is begun.
+/// What is known about the unit that was begun.
 #[derive(Clone, Copy, Debug, PartialEq, Eq)]
 pub enum Known {
-    /// None is begun yet.
+    /// None was begun yet.
     Nothing,
-    /// This one is.
+    /// This one was begun.
     Begun(UnitChoice),
-    /// A line with a fault stands where a unit should have been begun.
+    /// A line that should have begun a unit has a fault.
     Unclear,
 }

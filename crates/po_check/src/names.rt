@@ -1,3 +1,4 @@
+// SPDX-License-Identifier: MIT
 //! The words that scripts know.
 
 use crate::known::Known;
@@ -6,7 +7,7 @@ use po_language::UnitList;
 use po_script::Units;
 use std::alloc::{AllocError, Global};
 
-/// More units than a list has.
+/// A number that is above that of any unit in a list.
 const MOST_UNITS: u16 = 64;
 
 /// The words of the commands.
@@ -14,10 +15,10 @@ pub(crate) const COMMANDS: [&str; 10] = [
     "unit", "call", "cond", "timed", "proc", "func", "cancel", "tick", "final", "show",
 ];
 
-/// The words that may stand behind a unit.
+/// The words that may follow a unit.
 pub(crate) const OPTIONS: [&str; 4] = ["textual", "oldest", "rotating", "max"];
 
-/// The names of the units, in their order.
+/// Returns the names of the units, in their order.
 pub(crate) fn unit_names(alloc: Global) -> Result<Vec<&'static str>, AllocError> {
     let mut units = Vec::new(alloc);
     for number in 0..MOST_UNITS {
@@ -30,7 +31,7 @@ pub(crate) fn unit_names(alloc: Global) -> Result<Vec<&'static str>, AllocError>
     Ok(units)
 }
 
-/// The names of the unit that is begun, if it is known.
+/// Returns the names of the unit that was begun, if it is known.
 pub(crate) fn names_of(known: Known) -> Option<UnitNames> {
     match known {
         Known::Begun(unit) => Some(<Units as UnitList>::names_at(unit.number)),

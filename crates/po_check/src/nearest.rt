@@ -1,4 +1,5 @@
-//! The known word that is nearest to a word that isn't known.
+// SPDX-License-Identifier: MIT
+//! The known word that is nearest to an unknown one.
 
 use std::alloc::{AllocError, Global};
 use strsim::osa_distance;
@@ -6,7 +7,7 @@ use strsim::osa_distance;
 /// The most bytes of a word for which a nearest one is looked for.
 const LONGEST: usize = 32;
 
-/// The word with its capital letters as small ones, and with no other bytes than those of ASCII.
+/// Returns the word in small letters, without bytes that aren't ASCII.
 fn lowered(alloc: Global, word: &[u8]) -> Result<String, AllocError> {
     let mut text = String::new(alloc);
     for byte in word {
@@ -17,8 +18,9 @@ fn lowered(alloc: Global, word: &[u8]) -> Result<String, AllocError> {
     Ok(text)
 }
 
-/// The known word with the fewest edits between it and this one, the first of those: at most one edit in a word of up to four
-/// bytes, and one more for each five bytes. Capital letters are as small ones. A known word has none.
+/// Returns the known word that is the fewest edits from this one, the first if there are several. At most one edit is allowed
+/// in a word of up to four bytes, and one more for each five bytes. Capital letters count as small ones. A known word has no
+/// nearest one.
 pub(crate) fn nearest(
     alloc: Global,
     word: &[u8],

@@ -1,8 +1,9 @@
+// SPDX-License-Identifier: MIT
 //! A report that writes a line of text for each finding.
 
+use crate::error::CheckError;
 use crate::explain_fault::push_fault;
 use crate::explain_refusal::push_refusal;
-use crate::fault::CheckFault;
 use crate::finding::{Finding, Found};
 use crate::known::Known;
 use crate::report::Report;
@@ -13,7 +14,8 @@ use std::alloc::{AllocError, Global};
 /// What is added to a fault before a unit is begun.
 const FORM_ALONE: &str = "; until a unit is begun, the form of what follows alone is judged";
 
-/// Writes a line of text for each finding to a sink. It doesn't say what it was told: what the texts say is no contract.
+/// A report that writes a line of text for each finding to a sink. It doesn't say what it was told, since no contract is about
+/// the texts.
 #[derive(Drop)]
 pub struct TextReport<W> {
     alloc: Global,
@@ -45,7 +47,7 @@ pub fn push_explanation(
 }
 
 impl<W> TextReport<W> {
-    /// Over a sink.
+    /// Makes a report over a sink.
     pub fn new(alloc: Global, sink: W) -> TextReport<W> {
         TextReport {
             alloc,
@@ -54,7 +56,7 @@ impl<W> TextReport<W> {
         }
     }
 
-    /// The sink itself.
+    /// Returns the sink itself.
     pub fn into_sink(self) -> W {
         let TextReport {
             alloc: _,
@@ -75,13 +77,13 @@ impl<W: Sink> Report for TextReport<W> {
         finding: Finding,
         line: &[u8],
         shape: Option<&Shape>,
-    ) -> Result<(), CheckFault> {
+    ) -> Result<(), CheckError> {
         self.text.clear();
         push_explanation(self.alloc, &mut self.text, finding, line, shape)?;
         self.text.push_str("\n")?;
         match write_all(&mut self.sink, self.text.as_bytes()) {
             Ok(()) => Ok(()),
-            Err(_) => Err(CheckFault::Write),
+            Err(_) => Err(CheckError::Write),
         }
     }
 }

@@ -1,6 +1,7 @@
-//! What a check comes to.
+// SPDX-License-Identifier: MIT
+//! The result of a check.
 
-/// What a check comes to.
+/// The result of a check.
 #[derive(Clone, Copy, Debug, PartialEq, Eq)]
 pub enum Verdict {
     /// Nothing was found.

@@ -1,4 +1,5 @@
-//! Parts of the text that explains what is found in a line.
+// SPDX-License-Identifier: MIT
+//! Parts of the texts that explain findings.
 
 use crate::nearest::nearest;
 use po_language::Span;
@@ -8,13 +9,13 @@ use std::fmt::Write;
 /// The most bytes of a word that are shown.
 const SHOWN: usize = 40;
 
-/// Adds where it is: the line, and the column, counted in bytes from 1.
+/// Adds the place: the line, and the column, counted in bytes from 1.
 pub(crate) fn push_position(text: &mut String, number: u64, span: Span) -> Result<(), AllocError> {
     let column = span.start.saturating_add(1);
     write!(text, "line {number}, column {column}: ")
 }
 
-/// Adds a byte as it is read, or its number where it isn't a printed one.
+/// Adds a byte as it is, or its number if it isn't printable.
 fn push_byte(text: &mut String, byte: u8) -> Result<(), AllocError> {
     if byte.is_ascii_graphic() {
         text.push(char::from(byte))?;
@@ -24,7 +25,7 @@ fn push_byte(text: &mut String, byte: u8) -> Result<(), AllocError> {
     }
 }
 
-/// Adds the word between quotes, cut short where it is long.
+/// Adds the word between quotes, cut short if it is long.
 pub(crate) fn push_word(text: &mut String, word: &[u8]) -> Result<(), AllocError> {
     text.push_str("'")?;
     for byte in word.iter().take(SHOWN) {
@@ -49,7 +50,7 @@ pub(crate) fn push_words(text: &mut String, words: &[&'static str]) -> Result<()
     Ok(())
 }
 
-/// Adds the known word that is nearest, and says whether one is near.
+/// Adds the nearest known word, and returns whether one is near.
 pub(crate) fn push_nearest(
     alloc: Global,
     text: &mut String,
@@ -63,7 +64,7 @@ pub(crate) fn push_nearest(
     Ok(true)
 }
 
-/// Adds what the known words are, or that there are none.
+/// Adds which words are known, or that there are none.
 pub(crate) fn push_known(
     text: &mut String,
     kind: &str,

@@ -1,4 +1,5 @@
--- What an allocator means: calls take numbers of a resource, and wait until so many are free.
+-- SPDX-License-Identifier: MIT
+-- What an allocator means: calls take numbers of a resource, and wait until that many are free.
 use Rattle.std.specs.Prelude.{ℕ, ◌≡◌, ◌<◌, ◌≤◌, ◌+◌, ◌-◌, List, [], ◌∷◌, nat_lt, nat_le, ◌==◌, ◌||◌, pos, Bool, true, false, Result, Ok, Err, refl, codes, if◌then◌else◌}
 use Rattle.std.proofs.Common.{arith}
 use Rattle.std.proofs.lemmas.Bool.Decides.{nat_tests}
@@ -19,7 +20,7 @@ pub record AllocatorState : Type 0 where
 abbrev pub new_allocator : ℕ → AllocatorState
 new_allocator size = record { size = size; free = size }
 
--- An allocator of a size that it may have, of which no more are free than there are.
+-- An allocator of a size that it may have, with no more free than there are.
 pub record KeepsWithin (a : AllocatorState) : Type 0 where
   pub sized : IsSize a.size
   pub within : a.free ≤ a.size
@@ -29,7 +30,7 @@ pub record IsNewAllocator (a : AllocatorState) : Type 0 where
   pub all_free : a.free ≡ a.size
   pub sized : IsSize a.size
 
--- Request and Claim, the entries 0 and 1, are always open, and Grant(i), the entry i + 1, where so many are free
+-- Request and Claim, the entries 0 and 1, are always open; Grant(i), the entry i + 1, is open if i are free
 abbrev pub allocator_barrier : AllocatorState → ℕ → Bool
 allocator_barrier a e = nat_lt e 2 || nat_le (e - 1) a.free
 
@@ -37,22 +38,22 @@ allocator_barrier a e = nat_lt e 2 || nat_le (e - 1) a.free
 abbrev pub is_beyond : ℕ → ℕ → Bool
 is_beyond most v = (v == 0) || nat_lt most v
 
--- Request requeues on Grant(v) with abort and Claim without (9.5.4), unless there are never so many to give
+-- Request requeues on Grant(v) with abort and Claim without (9.5.4), unless there are never v to give
 abbrev pub ask : AllocatorState → Bool → ℕ → Outcome ℕ
 ask a with_abort v = if is_beyond a.size v then Raise 2 else Requeue (v + 1) with_abort v
 
--- so many are taken, unless fewer are free
+-- i are taken, unless fewer are free
 abbrev pub grant : AllocatorState → ℕ → AllocatorState
 grant a i = if nat_le i a.free then record a { free = a.free - i } else a
 
 abbrev pub allocator_body : AllocatorState → ℕ → ℕ → AllocatorState × Outcome ℕ
 allocator_body a e v = if nat_lt e 2 then (a, ask a (e == 0) v) else (grant a (e - 1), Complete v)
 
--- so many are given back, unless fewer are taken
+-- v are given back, unless fewer are taken
 abbrev pub release : AllocatorState → ℕ → AllocatorState × Result ℕ ℕ
 release a v = if is_beyond (a.size - a.free) v then (a, Err 1) else (record a { free = a.free + v }, Ok v)
 
--- how many requeues are ahead
+-- how many requeues may follow
 abbrev pub allocator_rank : ℕ → ℕ
 allocator_rank e = if nat_lt e 2 then 1 else 0
 

@@ -1,3 +1,4 @@
+-- SPDX-License-Identifier: MIT
 -- What a broadcast means: the procedure Send gives a message to each call that waits on the entry Receive.
 use Rattle.std.specs.Prelude.{ℕ, List, [], ◌∷◌, slice_index, nat_lt, ◌==◌, Bool, true, false, Ok, refl, codes, if◌then◌else◌}
 use Rattle.po_unit.specs.declared.decl.Decl.{Decl}

@@ -1,3 +1,4 @@
+-- SPDX-License-Identifier: MIT
 -- What a bounded buffer means: the entry Put adds a value, and the entry Get takes the first one.
 use Rattle.std.specs.Prelude.{◌≡◌, ℕ, ◌≤◌, List, [], ◌∷◌, ◌++◌, length, nat_lt, ◌==◌, Bool, true, false, Ok, refl, codes, if◌then◌else◌}
 use Rattle.po_unit.specs.declared.decl.Decl.{Decl}
@@ -17,7 +18,7 @@ pub record BufferState : Type 0 where
 abbrev pub new_buffer : ℕ → BufferState
 new_buffer capacity = record { values = []; capacity = capacity }
 
--- a buffer that keeps to its capacity, where there is memory for this many values
+-- a buffer that keeps to its capacity, with memory for at least that many of these values
 pub record HasRoomFor (memory : ℕ) (b : BufferState) : Type 0 where
   pub values : length b.values ≤ b.capacity
   pub sized : IsSize b.capacity
@@ -40,7 +41,7 @@ buffer_barrier b e = if e == 0 then has_room b else nat_lt 0 (length b.values)
 abbrev pub put : BufferState → ℕ → BufferState × Outcome ℕ
 put b v = (if has_room b then record b { values = b.values ++ v ∷ [] } else b, Complete v)
 
--- Get takes the first of the values, and its call completes with it, or with its own value where there is none
+-- Get takes the first of the values, and its call completes with it, or with the call's own value if there is none
 abbrev pub get : BufferState → List ℕ → ℕ → BufferState × Outcome ℕ
 get b [] v = (b, Complete v)
 get b (x ∷ xs) v = (record b { values = xs }, Complete x)

@@ -1,3 +1,4 @@
+-- SPDX-License-Identifier: MIT
 -- Declarations of entries (9.5.2).
 use Rattle.std.specs.Prelude.{true, false, ℤ, pos}
 use Rattle.po_unit.specs.declared.decl.Decl.{Decl}

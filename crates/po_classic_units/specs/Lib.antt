@@ -1,3 +1,4 @@
+-- SPDX-License-Identifier: MIT
 pub mod Allocator
 pub mod Broadcast
 pub mod Buffer

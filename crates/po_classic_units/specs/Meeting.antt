@@ -1,3 +1,4 @@
+-- SPDX-License-Identifier: MIT
 -- What a meeting means: calls on the entry Wait go together, as many as its size.
 use Rattle.std.specs.Prelude.{ℕ, ◌≡◌, List, [], ◌∷◌, slice_index, nat_lt, ◌==◌, ◌||◌, Bool, false, Ok, refl, codes, true}
 use Rattle.po_unit.specs.declared.decl.Decl.{Decl}
@@ -7,7 +8,7 @@ use Rattle.po_classic_units.specs.Declarations.{public_entry}
 use Rattle.po_classic_units.specs.ScriptUnit.{KnownUnit}
 use Rattle.po_classic_units.specs.Sizes.{IsSize}
 
--- how many calls a meeting is of, and whether calls are leaving one
+-- how many calls meet, and whether calls are leaving the meeting
 pub record MeetingState : Type 0 where
   pub size : ℕ
   pub leaving : Bool
@@ -21,7 +22,7 @@ pub record IsNewMeeting (s : MeetingState) : Type 0 where
   pub none_leaving : s.leaving ≡ false
   pub sized : IsSize s.size
 
--- Wait, the only entry, is open while calls are leaving, and when as many are queued on it as the meeting is of (9.9)
+-- Wait, the only entry, is open while calls are leaving, and when as many calls are queued on it as the meeting's size (9.9)
 abbrev pub meeting_barrier : MeetingState → ℕ → Bool
 meeting_barrier s queued = s.leaving || (queued == s.size)
 

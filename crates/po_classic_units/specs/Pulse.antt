@@ -1,4 +1,5 @@
--- What a pulse means: a call on the entry Signal lets all calls go that wait on the entry Wait.
+-- SPDX-License-Identifier: MIT
+-- What a pulse means: a call on the entry Signal releases all calls that wait on the entry Wait.
 use Rattle.std.specs.Prelude.{ℕ, ◌≡◌, List, [], ◌∷◌, slice_index, ◌==◌, Bool, true, false, Ok, refl, codes, if◌then◌else◌}
 use Rattle.std.proofs.Common.{arith}
 use Rattle.po_unit.specs.declared.decl.Decl.{Decl}
@@ -8,7 +9,7 @@ use Rattle.po_unit.specs.declared.outcome.Outcome.TheVariants.{Complete, Requeue
 use Rattle.po_classic_units.specs.Declarations.{public_entry, private_entry}
 use Rattle.po_classic_units.specs.ScriptUnit.{KnownUnit}
 
--- whether a pulse has occurred whose calls haven't all gone
+-- whether a pulse has occurred and some of its calls haven't gone yet
 pub record PulseState : Type 0 where
   pub occurred : Bool
 
@@ -25,17 +26,17 @@ pub record IsNewPulse (p : PulseState) : Type 0 where
 abbrev pub pulse_barrier : PulseState → ℕ → ℕ → Bool
 pulse_barrier p e waiting = if e == 0 then p.occurred else (if e == 1 then true else waiting == 0)
 
--- where calls wait, the pulse occurs, and the Signal is requeued on Reset without abort (9.5.4); else it completes
+-- if calls wait, the pulse occurs, and the Signal is requeued on Reset without abort (9.5.4); otherwise it completes
 abbrev pub signal : PulseState → ℕ → ℕ → PulseState × Outcome ℕ
 signal p v waiting = if waiting == 0 then (p, Complete v) else (record { occurred = true }, Requeue 2 false v)
 
--- Wait completes, and so does Reset, behind which the pulse is over
+-- Wait completes, and so does Reset, after which the pulse is over
 abbrev pub pulse_body : PulseState → ℕ → ℕ → ℕ → PulseState × Outcome ℕ
 pulse_body p e v waiting =
     if e == 0 then (p, Complete v)
     else (if e == 1 then signal p v waiting else (record { occurred = false }, Complete v))
 
--- how many requeues are ahead
+-- how many requeues may follow
 abbrev pub pulse_rank : ℕ → ℕ
 pulse_rank e = if e == 1 then 1 else 0
 

@@ -1,3 +1,4 @@
+-- SPDX-License-Identifier: MIT
 -- What a relay means: the entries First, Second and Third hand a call on, by a level.
 use Rattle.std.specs.Prelude.{◌≡◌, ℕ, List, [], ◌∷◌, nat_le, ◌==◌, Bool, true, false, Ok, refl, codes, if◌then◌else◌}
 use Rattle.std.proofs.Common.{arith}
@@ -24,7 +25,7 @@ relay_barrier level e = if e == 0 then true else (if e == 1 then nat_le 1 level 
 abbrev pub relay_outcome : ℕ → ℕ → Outcome ℕ
 relay_outcome e v = if e == 0 then Requeue 1 false v else (if e == 1 then Requeue 2 true v else Complete v)
 
--- how many requeues are ahead
+-- how many requeues may follow
 abbrev pub relay_rank : ℕ → ℕ
 relay_rank e = if e == 0 then 2 else (if e == 1 then 1 else 0)
 

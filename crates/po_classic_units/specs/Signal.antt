@@ -1,3 +1,4 @@
+-- SPDX-License-Identifier: MIT
 -- What a signal means: the procedure Send lets one call on the entry Wait go, now or later.
 use Rattle.std.specs.Prelude.{ℕ, List, [], ◌∷◌, Bool, true, false, Ok, refl, codes, if◌then◌else◌}
 use Rattle.po_unit.specs.declared.decl.Decl.{Decl}

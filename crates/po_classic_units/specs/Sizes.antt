@@ -1,3 +1,4 @@
+-- SPDX-License-Identifier: MIT
 -- The sizes that units may have.
 use Rattle.std.specs.Prelude.{ℕ, ◌≤◌, Bool, true, false}
 
@@ -6,7 +7,7 @@ pub record IsSize (size : ℕ) : Type 0 where
   pub some : 1 ≤ size
   pub most : size ≤ 1024
 
--- It is a size where the unit has one. Where it has none, it may be any number, which says nothing.
+-- If the unit has a size, this is one. Otherwise it may be any number, which means nothing.
 abbrev pub IsSizeWhere : Bool → ℕ → Type 0
 IsSizeWhere true size = IsSize size
 IsSizeWhere false size = Unit {0}

@@ -1,3 +1,4 @@
+-- SPDX-License-Identifier: MIT
 -- What a trap means: a barrier that faults, a body that raises, and a barrier on a count.
 use Rattle.std.specs.Prelude.{ℕ, ◌+◌, List, [], ◌∷◌, min, slice_index, nat_lt, nat_le, ◌==◌, ◌&&◌, pos, Bool, true, false, Result, Ok, Err, refl, codes, if◌then◌else◌}
 use Rattle.po_unit.specs.declared.decl.Decl.{Decl}
@@ -15,11 +16,11 @@ pub record TrapState : Type 0 where
 abbrev pub new_trap : TrapState
 new_trap = record { level = 0 }
 
--- Wait(i) faults with the number 13 at the level 13, and else is open from the level i on (9.5.2, 9.5.3)
+-- Wait(i) faults with the number 13 at the level 13; otherwise it is open from the level i on (9.5.2, 9.5.3)
 abbrev pub wait_barrier : ℕ → ℕ → Result Bool ℕ
 wait_barrier level i = if level == 13 then Err 13 else Ok (nat_le i level)
 
--- Exact is open where the level is above 0 and as many calls are queued on it
+-- Exact is open if the level is above 0 and as many calls are queued on it
 abbrev pub exact_barrier : ℕ → ℕ → Bool
 exact_barrier level queued = nat_lt 0 level && (queued == level)
 
@@ -29,7 +30,7 @@ trap_barrier level e c =
     if nat_lt e 3 then wait_barrier level (e + 1)
     else (if e == 3 then Ok true else Ok (exact_barrier level (slice_index c 4)))
 
--- Fail sets the level, and raises the value or the greatest number of an exception where the value is greater (9.5.2)
+-- Fail sets the level, and raises the value, or the greatest number of an exception if the value is greater (9.5.2)
 abbrev pub fail : ℕ → TrapState × Outcome ℕ
 fail v = (record { level = v }, Raise (min v 4294967295))
 

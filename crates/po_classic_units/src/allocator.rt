@@ -1,3 +1,4 @@
+// SPDX-License-Identifier: MIT
 //! The allocator.
 //!
 //! ```ada
@@ -52,20 +53,20 @@ ghost use Rattle.po_classic_units.specs.Allocator.{IsNewAllocator, allocator_mea
 
 use crate::declarations::PUBLIC_ENTRY;
 use crate::script_unit::{ScriptUnit, UnitNames};
-use po_unit::{Decl, Outcome, Shape, ShapeFault, Unit};
+use po_unit::{Decl, Outcome, Shape, ShapeError, Unit};
 use std::alloc::{AllocError, Global};
 use std::marker::Model;
 
 /// The number of the entry `Request`.
 const REQUEST: u16 = 0;
 
-/// The number of the entry `Claim`. The members of the family `Grant (1 .. Size)` come behind it.
+/// The number of the entry `Claim`. The members of the family `Grant (1 .. Size)` follow it.
 const CLAIM: u16 = 1;
 
-/// The number of the exception where a `Release` would give back more than is taken, or nothing.
+/// The number of the exception if a `Release` would give back more than is taken, or nothing.
 const NOT_TAKEN: u32 = 1;
 
-/// The number of the exception where a call asks for more than there ever is, or for nothing.
+/// The number of the exception if a call asks for more than there ever is, or for nothing.
 const NEVER_GIVEN: u32 = 2;
 
 const ENTRY_NAMES: [&str; 3] = ["Request", "Claim", "Grant"];
@@ -74,7 +75,7 @@ const PROCEDURE_NAMES: [&str; 1] = ["Release"];
 
 const FUNCTION_NAMES: [&str; 1] = ["State"];
 
-/// So many of a resource, for calls that take several at once: `Request` and `Claim` requeue on the private entry
+/// A resource with `size` items, for calls that take several at once. `Request` and `Claim` requeue on the private entry
 /// `Grant` of the number that they ask for, with abort and without (9.5.4), and `Release` gives them back.
 #[derive(Debug, Drop)]
 pub struct Allocator {
@@ -100,7 +101,7 @@ impl Allocator {
     /// The greatest size.
     pub const MAX_SIZE: u16 = 1_024;
 
-    /// An allocator of so many, all of them free.
+    /// Returns an allocator of this size, with all of the resource free.
     pub fn new(size: u16) -> Allocator
         requires { IsSize size }
         ensures { result ≡ new_allocator size }
@@ -108,14 +109,14 @@ impl Allocator {
         Allocator { size, free: size }
     }
 
-    /// Whether the state is one that `new` makes: all are free, and a size from 1 to 1,024.
+    /// Returns whether the state is one that `new` makes: all are free, and the size is from 1 to 1,024.
     pub fn is_new(&self) -> bool
         ensures { IsTrue result ↔ IsNewAllocator self.now }
     {
         self.free == self.size
     }
 
-    /// How a call ends that asks for so many: on the queue of `Grant` of that number, if there ever are so many.
+    /// Returns how the body of a call that asks for `v` ends: with a requeue on `Grant (v)`, if there ever are that many.
     fn ask(&self, with_abort: bool, v: u64) -> Outcome<u64>
         ensures { result ≡ ask self.now with_abort v }
     {
@@ -215,7 +216,7 @@ impl ScriptUnit for Allocator {
         Ok(Allocator::new(size))
     }
 
-    fn shape(&self, alloc: Global) -> Result<Shape, ShapeFault> {
+    fn shape(&self, alloc: Global) -> Result<Shape, ShapeError> {
         let grant = Decl {
             public: false,
             family: true,

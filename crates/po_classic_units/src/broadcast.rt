@@ -1,3 +1,4 @@
+// SPDX-License-Identifier: MIT
 //! The broadcast.
 //!
 //! ```ada
@@ -34,7 +35,7 @@ ghost use Rattle.std.specs.Prelude.{◌≡◌, ◌≢◌, IfOk};
 
 use crate::declarations::PUBLIC_ENTRY;
 use crate::script_unit::{ScriptUnit, UnitNames};
-use po_unit::{Decl, Outcome, Shape, ShapeFault, Unit};
+use po_unit::{Decl, Outcome, Shape, ShapeError, Unit};
 use std::alloc::{AllocError, Global};
 use std::marker::Model;
 
@@ -49,8 +50,7 @@ const PROCEDURE_NAMES: [&str; 1] = ["Send"];
 
 const FUNCTION_NAMES: [&str; 1] = ["State"];
 
-/// A message for all who wait: `Send` gives it to each call that is queued on `Receive` (9.9), and to none that comes
-/// later.
+/// A message for all that wait: `Send` gives it to each call that is queued on `Receive` (9.9), and to none that comes later.
 #[derive(Debug, Drop)]
 pub struct Broadcast {
     arrived: bool,
@@ -68,7 +68,7 @@ impl Model for Broadcast {
 impl Broadcast {
     ghost use Rattle.po_classic_units.specs.Broadcast.{new_broadcast};
 
-    /// A broadcast without calls to serve, whose last message is 0.
+    /// Returns a broadcast without calls to serve, whose last message is 0.
     pub fn new() -> Broadcast
         ensures { result ≡ new_broadcast }
     {
@@ -158,7 +158,7 @@ impl ScriptUnit for Broadcast {
         Ok(Broadcast::new())
     }
 
-    fn shape(&self, alloc: Global) -> Result<Shape, ShapeFault> {
+    fn shape(&self, alloc: Global) -> Result<Shape, ShapeError> {
         Shape::new(alloc, &DECLARATIONS)
     }
 }

@@ -1,3 +1,4 @@
+// SPDX-License-Identifier: MIT
 //! The bounded buffer.
 //!
 //! ```ada
@@ -36,7 +37,7 @@ ghost use Rattle.po_classic_units.specs.Buffer.{IsNewBuffer, buffer_meaning};
 
 use crate::declarations::PUBLIC_ENTRY;
 use crate::script_unit::{ScriptUnit, UnitNames};
-use po_unit::{Decl, Outcome, Shape, ShapeFault, Unit};
+use po_unit::{Decl, Outcome, Shape, ShapeError, Unit};
 use std::alloc::{AllocError, Global};
 use std::collections::VecDeque;
 use std::marker::Model;
@@ -80,7 +81,7 @@ impl Buffer {
     /// The greatest capacity.
     pub const MAX_CAPACITY: u16 = 1_024;
 
-    /// A buffer without values, and with all the memory that it needs.
+    /// Returns a buffer without values, and with all the memory that it needs.
     pub fn new(alloc: Global, capacity: u16) -> Result<Buffer, AllocError>
         requires { IsSize capacity }
         ensures { IfOk result (λ b. b ≡ new_buffer capacity) }
@@ -92,7 +93,7 @@ impl Buffer {
         })
     }
 
-    /// Whether the state is one that `new` makes: no values, and a capacity from 1 to 1,024.
+    /// Returns whether the state is one that `new` makes: no values, and a capacity from 1 to 1,024.
     pub fn is_new(&self) -> bool
         ensures { IsTrue result ↔ IsNewBuffer self.now }
     {
@@ -136,7 +137,7 @@ impl Unit for Buffer {
         Outcome::Complete(v)
     }
 
-    /// There is no procedure to call, so this says of any number what the meaning does: nothing changes.
+    /// Does nothing, as the meaning says of any number: there is no procedure to call.
     fn procedure(&mut self, _op: u16, v: u64, _counts: &[u64]) -> Result<u64, u32>
         ensures { (self.new, result) ≡ buffer_meaning.procedure self.old _op v _counts.now }
     {
@@ -189,7 +190,7 @@ impl ScriptUnit for Buffer {
         Buffer::new(alloc, size)
     }
 
-    fn shape(&self, alloc: Global) -> Result<Shape, ShapeFault> {
+    fn shape(&self, alloc: Global) -> Result<Shape, ShapeError> {
         Shape::new(alloc, &DECLARATIONS)
     }
 }

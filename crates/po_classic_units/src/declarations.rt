@@ -1,3 +1,4 @@
+// SPDX-License-Identifier: MIT
 //! Declarations of entries (9.5.2).
 use po_unit::Decl;
 

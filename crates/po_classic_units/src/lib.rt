@@ -1,10 +1,14 @@
-//! The units that come with the runtime: a bounded buffer, a signal, a broadcast, a pulse, a meeting, an allocator, a relay
-//! and a trap.
+// SPDX-License-Identifier: MIT
+//! The units that come with the runtime: a bounded buffer, a signal, a broadcast, a pulse, a meeting, an allocator, a relay and
+//! a trap.
 //!
-//! Each head comment of a module shows its unit as an Ada protected type, over the one type of values
-//! `type Value is mod 2 ** 64;`.
+//! Each unit has a module, whose head comment shows it as an Ada protected type, over the one type of values
+//! `type Value is mod 2 ** 64;`. Its meaning is in the definitions of the same name: that of `Buffer` is `buffer_meaning` of
+//! specs/Buffer.antt.
 //!
-//! Each is a `ScriptUnit`: what scripts know of a unit stands beside it.
+//! Each is also a `ScriptUnit`, which has what scripts know of a unit: its `UnitNames`, its opening and its shape.
+//!
+//! Begin with buffer.rt and specs/Buffer.antt, then read script_unit.rt.
 #![tactic(auto)]
 
 mod allocator;

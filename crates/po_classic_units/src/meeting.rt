@@ -1,3 +1,4 @@
+// SPDX-License-Identifier: MIT
 //! The meeting.
 //!
 //! ```ada
@@ -23,7 +24,7 @@ ghost use Rattle.po_classic_units.specs.Meeting.{IsNewMeeting, meeting_meaning};
 
 use crate::declarations::PUBLIC_ENTRY;
 use crate::script_unit::{ScriptUnit, UnitNames};
-use po_unit::{Decl, Outcome, Shape, ShapeFault, Unit};
+use po_unit::{Decl, Outcome, Shape, ShapeError, Unit};
 use std::alloc::{AllocError, Global};
 use std::marker::Model;
 
@@ -38,7 +39,7 @@ const PROCEDURE_NAMES: [&str; 0] = [];
 
 const FUNCTION_NAMES: [&str; 1] = ["State"];
 
-/// Calls that wait for one another: as soon as as many are queued on `Wait` as the meeting is of, they all go (9.9).
+/// Calls that wait for one another: as soon as `size` calls are queued on `Wait`, they all go (9.9).
 #[derive(Debug, Drop)]
 pub struct Meeting {
     size: u16,
@@ -61,10 +62,10 @@ const _: () = prove!(Meeting::MAX_SIZE == 1_024);
 impl Meeting {
     ghost use Rattle.po_classic_units.specs.Meeting.{IsNewMeeting, new_meeting};
 
-    /// The greatest number of calls that a meeting can be of.
+    /// The greatest size: the most calls that can meet.
     pub const MAX_SIZE: u16 = 1_024;
 
-    /// A meeting of so many calls, which none is leaving.
+    /// Returns a meeting of this size, which no call is leaving.
     pub fn new(size: u16) -> Meeting
         requires { IsSize size }
         ensures { result ≡ new_meeting size }
@@ -75,7 +76,7 @@ impl Meeting {
         }
     }
 
-    /// Whether the state is one that `new` makes: no call is leaving, and a size from 1 to 1,024.
+    /// Returns whether the state is one that `new` makes: no call is leaving, and the size is from 1 to 1,024.
     pub fn is_new(&self) -> bool
         ensures { IsTrue result ↔ IsNewMeeting self.now }
     {
@@ -111,7 +112,7 @@ impl Unit for Meeting {
         Outcome::Complete(v)
     }
 
-    /// There is no procedure to call, so this says of any number what the meaning does: nothing changes.
+    /// Does nothing, as the meaning says of any number: there is no procedure to call.
     fn procedure(&mut self, _op: u16, v: u64, _counts: &[u64]) -> Result<u64, u32>
         ensures { (self.new, result) ≡ meeting_meaning.procedure self.old _op v _counts.now }
     {
@@ -159,7 +160,7 @@ impl ScriptUnit for Meeting {
         Ok(Meeting::new(size))
     }
 
-    fn shape(&self, alloc: Global) -> Result<Shape, ShapeFault> {
+    fn shape(&self, alloc: Global) -> Result<Shape, ShapeError> {
         Shape::new(alloc, &DECLARATIONS)
     }
 }

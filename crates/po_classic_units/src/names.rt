@@ -1,8 +1,9 @@
-//! Looking a name up in a table of names.
+// SPDX-License-Identifier: MIT
+//! How the number of a name is found in a table of names.
 ghost use Rattle.std.specs.Prelude.{◌≡◌, ◌<◌, ◌^◌, length};
 ghost use Rattle.po_classic_units.specs.Names.{number_of_name, texts_of};
 
-/// The number of the first name that is this word, counted from 0, or how many names there are where none is.
+/// Returns the number of the first name that is this word, counted from 0, or the number of names if none is.
 pub(crate) fn number_of_name(names: &[&str], word: &[u8]) -> u16
     requires { length names.now < 2 ^ 16 }
     ensures { result ≡ number_of_name (texts_of names.now) word.now }

@@ -1,3 +1,4 @@
+// SPDX-License-Identifier: MIT
 //! The pulse.
 //!
 //! ```ada
@@ -37,7 +38,7 @@ ghost use Rattle.po_classic_units.specs.Pulse.{IsNewPulse, pulse_meaning};
 
 use crate::declarations::{PRIVATE_ENTRY, PUBLIC_ENTRY};
 use crate::script_unit::{ScriptUnit, UnitNames};
-use po_unit::{Decl, Outcome, Shape, ShapeFault, Unit};
+use po_unit::{Decl, Outcome, Shape, ShapeError, Unit};
 use std::alloc::{AllocError, Global};
 use std::marker::Model;
 
@@ -58,8 +59,8 @@ const PROCEDURE_NAMES: [&str; 0] = [];
 
 const FUNCTION_NAMES: [&str; 1] = ["State"];
 
-/// A pulse that lets go all calls that wait for it: `Signal` opens `Wait`, and requeues on the private entry `Reset`
-/// (9.5.4), which closes `Wait` behind the last of them (9.9).
+/// A pulse that releases all calls that wait for it: `Signal` opens `Wait`, and requeues on the private entry `Reset` (9.5.4),
+/// which closes `Wait` after the last of them (9.9).
 #[derive(Debug, Drop)]
 pub struct Pulse {
     occurred: bool,
@@ -76,14 +77,14 @@ impl Model for Pulse {
 impl Pulse {
     ghost use Rattle.po_classic_units.specs.Pulse.{IsNewPulse, new_pulse};
 
-    /// A pulse that did not occur yet.
+    /// Returns a pulse that has not occurred yet.
     pub fn new() -> Pulse
         ensures { result ≡ new_pulse }
     {
         Pulse { occurred: false }
     }
 
-    /// Whether the state is the one that `new` makes: no pulse lets calls go.
+    /// Returns whether the state is the one that `new` makes: no pulse lets calls go.
     pub fn is_new(&self) -> bool
         ensures { IsTrue result ↔ IsNewPulse self.now }
     {
@@ -135,7 +136,7 @@ impl Unit for Pulse {
         Outcome::Complete(v)
     }
 
-    /// There is no procedure to call, so this says of any number what the meaning does: nothing changes.
+    /// Does nothing, as the meaning says of any number: there is no procedure to call.
     fn procedure(&mut self, _op: u16, v: u64, _counts: &[u64]) -> Result<u64, u32>
         ensures { (self.new, result) ≡ pulse_meaning.procedure self.old _op v _counts.now }
     {
@@ -182,7 +183,7 @@ impl ScriptUnit for Pulse {
         Ok(Pulse::new())
     }
 
-    fn shape(&self, alloc: Global) -> Result<Shape, ShapeFault> {
+    fn shape(&self, alloc: Global) -> Result<Shape, ShapeError> {
         Shape::new(alloc, &DECLARATIONS)
     }
 }

@@ -1,3 +1,4 @@
+// SPDX-License-Identifier: MIT
 //! The relay.
 //!
 //! ```ada
@@ -39,7 +40,7 @@ ghost use Rattle.std.specs.Prelude.{◌≡◌, ◌≢◌, IfOk};
 
 use crate::declarations::{PRIVATE_ENTRY, PUBLIC_ENTRY};
 use crate::script_unit::{ScriptUnit, UnitNames};
-use po_unit::{Decl, Outcome, Shape, ShapeFault, Unit};
+use po_unit::{Decl, Outcome, Shape, ShapeError, Unit};
 use std::alloc::{AllocError, Global};
 use std::marker::Model;
 
@@ -60,8 +61,8 @@ const PROCEDURE_NAMES: [&str; 1] = ["Set"];
 
 const FUNCTION_NAMES: [&str; 1] = ["State"];
 
-/// A level, and three entries that hand a call on as the level allows: `First` requeues on the private entry
-/// `Second`, and that one `with abort` on the private entry `Third` (9.5.4).
+/// A level, and three entries that hand a call on as the level allows. `First` requeues on the private entry `Second`, which
+/// requeues `with abort` on the private entry `Third` (9.5.4).
 #[derive(Debug, Drop)]
 pub struct Relay {
     level: u64,
@@ -78,7 +79,7 @@ impl Model for Relay {
 impl Relay {
     ghost use Rattle.po_classic_units.specs.Relay.{new_relay};
 
-    /// A relay at the level 0.
+    /// Returns a relay at the level 0.
     pub fn new() -> Relay
         ensures { result ≡ new_relay }
     {
@@ -176,7 +177,7 @@ impl ScriptUnit for Relay {
         Ok(Relay::new())
     }
 
-    fn shape(&self, alloc: Global) -> Result<Shape, ShapeFault> {
+    fn shape(&self, alloc: Global) -> Result<Shape, ShapeError> {
         Shape::new(alloc, &DECLARATIONS)
     }
 }

@@ -1,15 +1,16 @@
+// SPDX-License-Identifier: MIT
 //! What a script must know of a unit.
 ghost use Rattle.std.specs.Prelude.{◌≡◌, ◌≢◌, IfOk};
 
 use crate::names::number_of_name;
-use po_unit::{Shape, ShapeFault, Unit};
+use po_unit::{Shape, ShapeError, Unit};
 use std::alloc::{AllocError, Global};
 use std::marker::Model;
 
 /// The names by which scripts know a unit and its operations, each table in the order of their numbers.
 #[derive(Debug, Drop)]
 pub struct UnitNames {
-    /// The word by which a `unit` line names it.
+    /// The word that names it in a `unit` line.
     pub unit: &'static str,
     /// Whether a size follows that word.
     pub is_sized: bool,
@@ -36,21 +37,21 @@ impl Model for UnitNames {
 impl UnitNames {
     ghost use Rattle.po_classic_units.specs.Names.{number_of_name};
 
-    /// The number of the entry's declaration, or how many declarations there are where none has this name.
+    /// Returns the number of the entry's declaration, or the number of declarations if none has this name.
     pub fn entry_named(&self, word: &[u8]) -> u16
         ensures { result ≡ number_of_name self.now.entries word.now }
     {
         number_of_name(self.entries, word)
     }
 
-    /// The number of the procedure, or how many there are where none has this name.
+    /// Returns the number of the procedure, or the number of procedures if none has this name.
     pub fn procedure_named(&self, word: &[u8]) -> u16
         ensures { result ≡ number_of_name self.now.procedures word.now }
     {
         number_of_name(self.procedures, word)
     }
 
-    /// The number of the function, or how many there are where none has this name.
+    /// Returns the number of the function, or the number of functions if none has this name.
     pub fn function_named(&self, word: &[u8]) -> u16
         ensures { result ≡ number_of_name self.now.functions word.now }
     {
@@ -68,36 +69,36 @@ pub trait ScriptUnit: Unit<Value = u64> + Drop {
     /// What scripts know of it.
     ghost known: { KnownUnit Self };
 
-    /// The names of the unit and of its operations.
+    /// Returns the names of the unit and of its operations.
     fn names() -> UnitNames
         ensures { result ≡ known.names };
 
-    /// The unit as it is made, of this size where it has one.
+    /// Makes the unit, of this size if the unit has a size.
     fn made(alloc: Global, size: u16) -> Result<Self, AllocError>
         requires { IsSizeWhere known.names.is_sized size }
         ensures { IfOk result (λ unit. unit ≡ known.opening size) };
 
-    /// The shape that the entries' declarations make (9.5.2). Only memory can be missing.
-    fn shape(&self, alloc: Global) -> Result<Shape, ShapeFault>
+    /// Makes the shape of the entries' declarations (9.5.2). Fails only if memory runs out.
+    fn shape(&self, alloc: Global) -> Result<Shape, ShapeError>
         ensures shape { IfOk result (λ shape. shape ≡ known.declarations self.now) }
         ensures counted { IfOk result (λ shape. entry_count shape ≡ Self.meaning.entries self.now) }
-        ensures within_limits { result ≢ Err ShapeFault.TooManyEntries };
+        ensures within_limits { result ≢ Err ShapeError.TooManyEntries };
 
-    /// The names of the declarations of the entries and families, in their order (9.5.2).
+    /// Returns the names of the declarations of the entries and families, in their order (9.5.2).
     fn entry_names() -> &'static [&'static str]
         ensures { texts_of result.now ≡ known.names.entries }
     {
         Self::names().entries
     }
 
-    /// The names of the protected procedures, in the order of their numbers (9.5.1).
+    /// Returns the names of the protected procedures, in the order of their numbers (9.5.1).
     fn procedure_names() -> &'static [&'static str]
         ensures { texts_of result.now ≡ known.names.procedures }
     {
         Self::names().procedures
     }
 
-    /// The names of the protected functions, in the order of their numbers (9.5.1).
+    /// Returns the names of the protected functions, in the order of their numbers (9.5.1).
     fn function_names() -> &'static [&'static str]
         ensures { texts_of result.now ≡ known.names.functions }
     {

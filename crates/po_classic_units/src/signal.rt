@@ -1,3 +1,4 @@
+// SPDX-License-Identifier: MIT
 //! The signal.
 //!
 //! ```ada
@@ -27,7 +28,7 @@ ghost use Rattle.std.specs.Prelude.{◌≡◌, ◌≢◌, IfOk};
 
 use crate::declarations::PUBLIC_ENTRY;
 use crate::script_unit::{ScriptUnit, UnitNames};
-use po_unit::{Decl, Outcome, Shape, ShapeFault, Unit};
+use po_unit::{Decl, Outcome, Shape, ShapeError, Unit};
 use std::alloc::{AllocError, Global};
 use std::marker::Model;
 
@@ -39,8 +40,7 @@ const PROCEDURE_NAMES: [&str; 1] = ["Send"];
 
 const FUNCTION_NAMES: [&str; 1] = ["State"];
 
-/// A signal that is kept until a call takes it: each `Wait` takes one, and signals that are sent while one is kept are
-/// that one.
+/// A signal that is kept until a call takes it: each `Wait` takes one. A signal that is sent while one is kept adds nothing.
 #[derive(Debug, Drop)]
 pub struct Signal {
     set: bool,
@@ -57,7 +57,7 @@ impl Model for Signal {
 impl Signal {
     ghost use Rattle.po_classic_units.specs.Signal.{new_signal};
 
-    /// A signal that was not sent yet.
+    /// Returns a signal that was not sent yet.
     pub fn new() -> Signal
         ensures { result ≡ new_signal }
     {
@@ -136,7 +136,7 @@ impl ScriptUnit for Signal {
         Ok(Signal::new())
     }
 
-    fn shape(&self, alloc: Global) -> Result<Shape, ShapeFault> {
+    fn shape(&self, alloc: Global) -> Result<Shape, ShapeError> {
         Shape::new(alloc, &DECLARATIONS)
     }
 }

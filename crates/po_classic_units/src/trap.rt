@@ -1,3 +1,4 @@
+// SPDX-License-Identifier: MIT
 //! The trap.
 //!
 //! ```ada
@@ -44,7 +45,7 @@ ghost use Rattle.std.specs.Prelude.{◌≡◌, ◌≢◌, IfOk};
 
 use crate::declarations::PUBLIC_ENTRY;
 use crate::script_unit::{ScriptUnit, UnitNames};
-use po_unit::{Decl, Outcome, Shape, ShapeFault, Unit};
+use po_unit::{Decl, Outcome, Shape, ShapeError, Unit};
 use std::alloc::{AllocError, Global};
 use std::marker::Model;
 
@@ -76,8 +77,8 @@ const PROCEDURE_NAMES: [&str; 1] = ["Set"];
 
 const FUNCTION_NAMES: [&str; 1] = ["State"];
 
-/// A level, and entries that go wrong: barriers that propagate an exception at one level (9.5.3), a body that
-/// raises one (9.5.2), and a barrier that reads how many calls are queued on its entry (9.9).
+/// A level, and entries that go wrong: barriers that propagate an exception at one level (9.5.3), a body that raises one
+/// (9.5.2), and a barrier that reads how many calls are queued on its entry (9.9).
 #[derive(Debug, Drop)]
 pub struct Trap {
     level: u64,
@@ -94,7 +95,7 @@ impl Model for Trap {
 impl Trap {
     ghost use Rattle.po_classic_units.specs.Trap.{new_trap};
 
-    /// A trap at the level 0.
+    /// Returns a trap at the level 0.
     pub fn new() -> Trap
         ensures { result ≡ new_trap }
     {
@@ -181,7 +182,7 @@ impl ScriptUnit for Trap {
         Ok(Trap::new())
     }
 
-    fn shape(&self, alloc: Global) -> Result<Shape, ShapeFault> {
+    fn shape(&self, alloc: Global) -> Result<Shape, ShapeError> {
         Shape::new(alloc, &DECLARATIONS)
     }
 }

@@ -1,6 +1,7 @@
-//! The command `pobj`, its words, and the commands behind it.
+// SPDX-License-Identifier: MIT
+//! The command `pobj`, the commands that can follow it, and the words of the command line.
 
-use crate::fault::Fault;
+use crate::error::CommandError;
 use clap::error::ErrorKind;
 use clap::{Command, Error};
 use std::alloc::{AllocError, Global};
@@ -22,10 +23,10 @@ pub const CHECK: &str = "check";
 /// The word that asks for a run of many threads.
 pub const STRESS: &str = "stress";
 
-/// What is said of words that are no text.
+/// The message for words that aren't text.
 const NOT_TEXT: &str = "the words of the command line aren't UTF-8";
 
-/// What follows the help: the script language in short.
+/// The end of the help: the script language in short.
 const SCRIPTS: &str = "\
 A script has a command a line. This one makes a buffer with room for two values, calls its
 entry Get, which has to wait, and then its entry Put, which lets it go:
@@ -60,13 +61,13 @@ A refused command is answered by a number: 1 no such entry, 2 private entry, 3 b
 4 no such procedure or function, 5 unknown call, 6 the call has ended, 7 the object is
 finalized, 8 numbers spent.
 
-The statuses: 0 at a good end, 1 at a fault of the script, 2 at words that are refused,
-3 where `stress` finds answers that differ from the history, 4 where memory was wanting, or
-a read or a write failed.
+The statuses: 0 at a good end, 1 at a fault of the script, 2 if the words are refused, 3 if
+`stress` finds answers that differ from the history, 4 if memory runs out, or a read or a
+write fails.
 
 The language is described in docs/SCRIPTS.md, the units in docs/UNITS.md.";
 
-/// The command `pobj`; each program adds those of the commands behind it of which it knows.
+/// Returns the command `pobj`. Each program adds the commands that it knows, which can follow it.
 pub fn pobj<'a>(alloc: Global) -> Command<'a> {
     Command::new(alloc, NAME)
         .version(VERSION)
@@ -75,7 +76,7 @@ pub fn pobj<'a>(alloc: Global) -> Command<'a> {
         .subcommand_required(true)
 }
 
-/// The command `run`.
+/// Returns the command `run`.
 pub fn run_command<'a>(alloc: Global) -> Command<'a> {
     Command::new(alloc, RUN)
         .about(
@@ -85,21 +86,21 @@ pub fn run_command<'a>(alloc: Global) -> Command<'a> {
         .after_help(SCRIPTS)
 }
 
-/// The command `check`, without what may stand behind it.
+/// Returns the command `check`, without what may follow it.
 pub fn check_command<'a>(alloc: Global) -> Command<'a> {
     Command::new(alloc, CHECK).about(
         "Reads a script and carries out nothing: explains each line with a fault",
     )
 }
 
-/// The command `stress` under this name, without what may stand behind it.
+/// Returns the command `stress` under this name, without what may follow it.
 pub fn stress_command<'a>(alloc: Global, name: &'a str) -> Command<'a> {
     Command::new(alloc, name).about(
-        "Has many threads call one object, and compares what they were answered with its history",
+        "Has many threads call one object, and compares their answers with its history",
     )
 }
 
-/// The words of the command line, with the program's own name in the place of the one by which it was started.
+/// Returns the words of the command line, with the program's own name instead of the one it was started under.
 fn given_words<R: Env + AllocGlobal>(rt: &R) -> io::Result<Vec<String>> {
     let alloc = rt.alloc();
     let mut words = vec![in alloc; String::from_str(alloc, NAME)?]?;
@@ -109,19 +110,21 @@ fn given_words<R: Env + AllocGlobal>(rt: &R) -> io::Result<Vec<String>> {
     Ok(words)
 }
 
-/// The refusal of words that are no text.
+/// Returns the refusal of words that aren't text.
 fn not_text(alloc: Global) -> Result<Error, AllocError> {
     pobj(alloc)
         .subcommand(run_command(alloc))?
         .error(ErrorKind::InvalidValue, NOT_TEXT)
 }
 
-/// The words of the command line, with the program's own name in the place of the one by which it was started. At a fault
-/// they are no text, or memory was wanting.
-pub fn words<R: Env + AllocGlobal>(rt: &R) -> Result<Vec<String>, Fault> {
+/// Returns the words of the command line, with the program's own name instead of the one it was started under. Fails if they
+/// aren't text, or if memory runs out.
+pub fn words<R: Env + AllocGlobal>(rt: &R) -> Result<Vec<String>, CommandError> {
     match given_words(rt) {
         Ok(words) => Ok(words),
-        Err(error) if error.kind() == io::ErrorKind::OutOfMemory => Err(Fault::from(AllocError)),
-        Err(_) => Err(Fault::from(not_text(rt.alloc())?)),
+        Err(error) if error.kind() == io::ErrorKind::OutOfMemory => Err(CommandError::from(
+            AllocError,
+        )),
+        Err(_) => Err(CommandError::from(not_text(rt.alloc())?)),
     }
 }

@@ -1,4 +1,4 @@
--- How many calls are issued and how many procedures run: by an event, by a history, and by a protected action.
+-- How many calls are issued and how many procedures run, by an event, by a history, and by a protected action.
 use Rattle.std.proofs.Common.{◌≡◌, ℕ, zero, ◌+◌, ◌≤◌, length, List, [], ◌∷◌, ◌++◌, refl, ap, sym, ◌∙◌, arith, Bool, true, false, cond, not, ◌&&◌, Option, Some, None, Result, Ok, Err, if◌then◌else◌, map}
 use Rattle.std.specs.List.{All, count_by, find}
 use Rattle.std.specs.Option.{option_map, option_or}
@@ -13,32 +13,32 @@ use Rattle.po_queues.specs.declared.selection.Selection.{Selection}
 use Rattle.po_queues.specs.declared.selection.Selection.TheVariants.{Quiet, Ready, Broken}
 use Rattle.po_queues.specs.declared.order.Order.{Order}
 use Rattle.po_history.specs.declared.event.Event.{Event}
-use Rattle.po_history.specs.declared.event.Event.TheVariants.{Issue, Ran, Abort, Tick, Final, Serve, Break, Expire}
+use Rattle.po_history.specs.declared.event.Event.TheVariants.{Issue, Ran, Cancel, Tick, Final, Serve, Break, Expire}
 use Rattle.po_engine.specs.WaitingCalls.{is_on, has_number, is_due, mark}
 use Rattle.po_engine.specs.ObjectState.{ObjectState, counts_in, barrier_in}
-use Rattle.po_engine.specs.Step.{step, replay, enter, end_call, queue, conclude, run_body, arrive, serve, cancel, abort, take_out, is_full}
+use Rattle.po_engine.specs.Step.{step, replay, enter, end_call, queue, conclude, run_body, arrive, serve, cancel, attempt_cancel, take_out, is_full}
 use Rattle.po_core.specs.Base.{is_issue, is_ran}
 use Rattle.po_engine.specs.Pick.{event_of, next_turn, ArePicks, served_last, last_from}
 use Rattle.po_core.specs.View.{View}
 use Rattle.po_core.specs.ProtectedAction.{IsProtectedAction}
 use Rattle.po_core.specs.Cutting.{procedures_run}
 
--- of two counts that are at most one, none
+-- if two flags are both false, both counts are zero
 none_of_both : (i r : Bool) → (not i && not r) ≡ true → (cond i 1 0 ≡ zero) × (cond r 1 0 ≡ zero)
 none_of_both true r h = cc
 none_of_both false true h = cc
 none_of_both false false h = (refl, refl)
 
 module _ {V : Type 0} where
-  -- one for an event that issues a call
+  -- one for an event that issues a call, else none
   abbrev pub issues : Event V → ℕ
   issues e = cond (is_issue e) 1 0
 
-  -- one for an event by which a procedure ran
+  -- one for an event by which a procedure ran, else none
   abbrev pub runs : Event V → ℕ
   runs e = cond (is_ran e) 1 0
 
-  -- neither issues a call nor is by a procedure
+  -- whether the event neither issues a call nor is by a procedure
   abbrev pub is_neither : Event V → Bool
   is_neither e = not (is_issue e) && not (is_ran e)
 
@@ -55,14 +55,14 @@ module _ {V : Type 0} where
   one_at_most : (e : Event V) → issues e + runs e ≤ 1
   one_at_most (Issue n owner e v d) = omega arith
   one_at_most (Ran owner op v reply) = omega arith
-  one_at_most (Abort n) = omega arith
+  one_at_most (Cancel n) = omega arith
   one_at_most (Tick t) = omega arith
   one_at_most Final = omega arith
   one_at_most (Serve e) = omega arith
   one_at_most (Break e) = omega arith
   one_at_most (Expire n) = omega arith
 
-  -- an event issues a call or is by a procedure, or neither
+  -- an event issues a call, or is by a procedure, or neither
   pub counted-apart : (events : List (Event V)) → count_by is_issue events + count_by is_ran events ≤ length events
   counted-apart [] = omega arith
   counted-apart (e ∷ es) = omega (arith, one_at_most e, counted-apart es, sum_by-cons issues e es, sum_by-cons runs e es)
@@ -83,7 +83,7 @@ module _ {S V : Type 0} (m : Meaning S V) (limit : Option ℕ) where
   next-run_body : (p : ObjectState S V) (x : Call V) → (run_body m limit p x).next ≡ p.next
   next-run_body p x = let r = m.body p.unit x.entry x.value (counts_in m p) in next-conclude (record p { unit = r.0 }) x r.1
 
-  -- no number is taken where a call arrives, is served, or is cancelled
+  -- a call that arrives, is served or is cancelled takes no new number
   pub next-arrive : (p : ObjectState S V) (x : Call V) (r : Result Bool ℕ) → (arrive m limit p x r).next ≡ p.next
   next-arrive p x (Ok true) = next-run_body p x
   next-arrive p x (Ok false) = next-enter p x
@@ -97,15 +97,15 @@ module _ {S V : Type 0} (m : Meaning S V) (limit : Option ℕ) where
   next-cancel p n None = refl
   next-cancel p n (Some x) = refl
 
-  pub next-abort : (p : ObjectState S V) (n : ℕ) (o : Option (Call V)) → (abort p n o).next ≡ p.next
-  next-abort p n None = refl
-  next-abort p n (Some x) = next-if x.without_abort p (record p { waiting = map (mark n) p.waiting }) (cancel p n (Some x)) refl refl
+  pub next-attempt : (p : ObjectState S V) (n : ℕ) (o : Option (Call V)) → (attempt_cancel p n o).next ≡ p.next
+  next-attempt p n None = refl
+  next-attempt p n (Some x) = next-if x.without_abort p (record p { waiting = map (mark n) p.waiting }) (cancel p n (Some x)) refl refl
 
-  -- an event takes a number if it issues a call, and only then
+  -- an event takes a number exactly if it issues a call
   pub step-next : (p : ObjectState S V) (e : Event V) → (step m limit p e).next ≡ p.next + issues e
   step-next p (Issue n owner e v d) = next-arrive (record p { next = p.next + 1 }) (record { number = n; owner = owner; entry = e; value = v; without_abort = false; aborted = false; deadline = d }) (barrier_in m p e)
   step-next p (Ran owner op v reply) = omega arith
-  step-next p (Abort n) = omega (arith, next-abort p n (find (has_number n) p.waiting))
+  step-next p (Cancel n) = omega (arith, next-attempt p n (find (has_number n) p.waiting))
   step-next p (Tick t) = omega arith
   step-next p Final = omega arith
   step-next p (Serve e) = omega (arith, next-serve p e (find (is_on e) p.waiting))

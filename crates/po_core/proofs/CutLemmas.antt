@@ -1,4 +1,4 @@
--- What a cut of the history makes of the present picture, and of the volumes.
+-- How a cut of the history changes the present picture and the volumes.
 use Rattle.std.proofs.Common.{◌≡◌, ℕ, ◌+◌, ◌<◌, ◌≤◌, ◌==◌, List, [], ◌∷◌, ◌++◌, length, map, refl, subst, ap, sym, ◌∙◌, arith, Bool, true, false, cond, Option, None, if◌then◌else◌}
 use Rattle.std.specs.List.{All, count_by}
 use Rattle.std.proofs.lemmas.List.{take_all}
@@ -40,12 +40,12 @@ eq_of : (a b : ℕ) → (a == b) ≡ true → a ≡ b
 eq_of a b h = grind (arith, nat_tests)
 
 module _ {V : Type 0} where
-  -- at their own places
+  -- each call is at its own place
   at_own : (f : ℕ → ℕ) (xs : List (Call V)) → AreAt f xs (map (λ x. f x.number) xs)
   at_own f [] = tt
   at_own f (x ∷ xs) = (refl, at_own f xs)
 
-  -- Both give the same place to each of the calls.
+  -- Both functions give each of the calls the same place.
   abbrev pub Agree : (ℕ → ℕ) → (ℕ → ℕ) → List (Call V) → Type 0
   Agree f g xs = All (λ x. g x.number ≡ f x.number) xs
 
@@ -77,7 +77,7 @@ module _ {V : Type 0} where
   at_by f g (x ∷ xs) (k ∷ places) a h =
       (All-head (λ y. g y.number ≡ f y.number) x xs a ∙ h.0, at_by f g xs places (All-tail (λ y. g y.number ≡ f y.number) x xs a) h.1)
 
--- bases are equal by their parts
+-- bases are equal if their parts are
 pub same_base : {S V : Type 0} (a b : Base S V) → a.unit ≡ b.unit → a.waiting ≡ b.waiting → a.arrivals ≡ b.arrivals → a.ended ≡ b.ended → a.next ≡ b.next → a.clock ≡ b.clock → a.finalized ≡ b.finalized → a.place ≡ b.place → a.ran ≡ b.ran → a.last ≡ b.last → a ≡ b
 same_base {S} {V} a b unit waiting arrivals ended next clock finalized place ran last =
     parts a.unit b.unit a.waiting b.waiting a.arrivals b.arrivals a.ended b.ended a.next b.next a.clock b.clock a.finalized b.finalized a.place b.place a.ran b.ran a.last b.last unit waiting arrivals ended next clock finalized place ran last
@@ -100,7 +100,7 @@ module _ {S V : Type 0} (m : Meaning S V) where
   pub leads_there : (view : View S V) → Replays m view → Leads m view.setup view.events (base_state view) (base_state (cut m view))
   leads_there view h = record { legal = h.legal; to_there = h.leads ∙ sym (present_state view); public = h.public }
 
-  -- A call that waits arrived, by all events since the opening, where it arrived by the base and the events behind it.
+  -- A waiting call's place by all events since the opening is its place by the base and the events after it.
   arrived_there : (view : View S V) → Replays m view → (volumes : List (VolumeView V)) → AreVolumes m view volumes → Agree (arrival m view) (arrival_in m view.setup (joined volumes ++ view.events)) view.state.waiting
   arrived_there view h volumes are =
       let limit = view.setup.max_queue in
@@ -151,7 +151,7 @@ module _ {S V : Type 0} (m : Meaning S V) where
   pub base_begun : (view : View S V) → IsHistory m view.setup view.base view.state view.events → view.setup.first_place ≤ view.base.place
   base_begun view h = omega (arith, h.base.counted, h.base.low)
 
-  -- without events behind the opening, the present picture is the opening
+  -- if no events follow the opening, the present picture is the opening
   picture_opens : (view : View S V) → view.base ≡ opening_base view.setup.opening view.setup.first_number view.setup.first_place → view.events ≡ [] → replay m view.setup.max_queue (base_state view) view.events ≡ view.state → present_base m view ≡ opening_base view.setup.opening view.setup.first_number view.setup.first_place
   picture_opens view base none leads =
       let setup = view.setup in

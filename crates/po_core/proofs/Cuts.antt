@@ -1,4 +1,4 @@
--- What an object with a record in memory keeps after a cut.
+-- What holds of an object with a record in memory after a cut.
 use Rattle.std.proofs.Common.{◌≡◌, ◌∙◌, ap, sym, arith, ℕ, ◌+◌, [], length, map, Option, Vec}
 use Rattle.std.proofs.lemmas.List.Elements.{All-nil}
 use Rattle.po_unit.specs.Meaning.{Meaning, IsLawful}
@@ -36,7 +36,7 @@ module _ {S V A B : Type 0} (m : Meaning S V) (setup : Setup S) (b : Base S V) (
   abbrev pub viewed : View S V
   viewed = record { setup = setup; base = b; events = h.events; state = s.state; ended_before = s.before }
 
-  -- a base with the parts of the present picture is that picture
+  -- a base with the parts of the present picture is the present picture
   pub is_picture : (new : Base S V) → IsTracked m setup b s h.events place served → IsRecording setup (known_of s) (owed m s.state) 0 b h keys ends ran → IsPicture s h served ran new → new ≡ present_base m viewed
   is_picture new t r is =
       let arrivals : new.arrivals ≡ map (λ x. arrival m viewed x.number) s.state.waiting = is.arrivals ∙ sym (arrivals_are_places (arrival m viewed) s.state.waiting s.places t.placed) in

@@ -10,10 +10,10 @@ use Rattle.po_calls.specs.declared.call.Call.{Call}
 use Rattle.po_calls.specs.declared.end.End.{End}
 use Rattle.po_calls.specs.declared.end.End.TheVariants.{Completed, Raised, Cancelled, ProgramError}
 use Rattle.po_history.specs.declared.event.Event.{Event}
-use Rattle.po_history.specs.declared.event.Event.TheVariants.{Issue, Ran, Abort, Tick, Final, Serve, Break, Expire}
+use Rattle.po_history.specs.declared.event.Event.TheVariants.{Issue, Ran, Cancel, Tick, Final, Serve, Break, Expire}
 use Rattle.po_engine.specs.ObjectState.{ObjectState, counts_in, barrier_in}
 use Rattle.po_engine.specs.WaitingCalls.{has_number, is_on, mark}
-use Rattle.po_engine.specs.Step.{is_full, enter, end_call, end_all, queue, conclude, run_body, arrive, take_out, cancel, abort, serve, step}
+use Rattle.po_engine.specs.Step.{is_full, enter, end_call, end_all, queue, conclude, run_body, arrive, take_out, cancel, attempt_cancel, serve, step}
 use Rattle.po_engine.specs.Ending.{ended_as}
 
 -- The later ends are the earlier ones and some more.
@@ -61,14 +61,14 @@ module _ {S V : Type 0} (m : Meaning S V) (limit : Option ℕ) where
   more_cancel p n None = same p.ended
   more_cancel p n (Some x) = more_one (take_out p (has_number n)) x Cancelled
 
-  more_abort : (p : ObjectState S V) (n : ℕ) (o : Option (Call V)) → Grows p.ended (abort p n o).ended
-  more_abort p n None = same p.ended
-  more_abort p n (Some x) = more_if x.without_abort p.ended (record p { waiting = map (mark n) p.waiting }) (cancel p n (Some x)) (same p.ended) (more_cancel p n (Some x))
+  more_attempt : (p : ObjectState S V) (n : ℕ) (o : Option (Call V)) → Grows p.ended (attempt_cancel p n o).ended
+  more_attempt p n None = same p.ended
+  more_attempt p n (Some x) = more_if x.without_abort p.ended (record p { waiting = map (mark n) p.waiting }) (cancel p n (Some x)) (same p.ended) (more_cancel p n (Some x))
 
   pub ended_after : (p : ObjectState S V) (e : Event V) → Grows p.ended (step m limit p e).ended
   ended_after p (Issue n owner e v d) = more_arrive (record p { next = p.next + 1 }) (record { number = n; owner = owner; entry = e; value = v; without_abort = false; aborted = false; deadline = d }) (barrier_in m p e)
   ended_after p (Ran owner op v reply) = same p.ended
-  ended_after p (Abort n) = more_abort p n (find (has_number n) p.waiting)
+  ended_after p (Cancel n) = more_attempt p n (find (has_number n) p.waiting)
   ended_after p (Tick t) = same p.ended
   ended_after p Final = more_all p ProgramError
   ended_after p (Serve e) = more_serve p e (find (is_on e) p.waiting)

@@ -1,4 +1,4 @@
--- Each inner event lowers the weight, and the room that is owed.
+-- Each inner event lowers the weight and the room that is owed.
 use Rattle.std.proofs.Common.{◌≡◌, ℕ, ◌+◌, ◌<◌, ◌≤◌, List, [], ◌∷◌, map, refl, subst, ap, sym, ◌∙◌, arith, Bool, true, false, cond, not, ◌&&◌, Option, Some, None, Result, Ok, Err, if◌then◌else◌, IsSome}
 use Rattle.std.specs.List.{sum_by, count_by, find}
 use Rattle.po_unit.specs.Meaning.{Meaning, IsLawful, LowersRank}
@@ -8,15 +8,15 @@ use Rattle.po_calls.specs.declared.call.Call.{Call}
 use Rattle.po_calls.specs.declared.call.Deadline.{Deadline}
 use Rattle.po_calls.specs.declared.end.End.TheVariants.{Cancelled, ProgramError}
 use Rattle.po_history.specs.declared.event.Event.{Event}
-use Rattle.po_history.specs.declared.event.Event.TheVariants.{Issue, Ran, Abort, Tick, Final, Serve, Break, Expire}
+use Rattle.po_history.specs.declared.event.Event.TheVariants.{Issue, Ran, Cancel, Tick, Final, Serve, Break, Expire}
 use Rattle.po_engine.specs.ObjectState.{ObjectState, barrier_in, counts_in}
 use Rattle.po_engine.specs.WaitingCalls.{has_number, is_on, is_due, mark}
-use Rattle.po_engine.specs.Step.{is_full, enter, end_call, end_all, queue, conclude, run_body, take_out, arrive, abort, cancel, serve, step, Needs, IsLegal, replay}
+use Rattle.po_engine.specs.Step.{is_full, enter, end_call, end_all, queue, conclude, run_body, take_out, arrive, attempt_cancel, cancel, serve, step, Needs, IsLegal, replay}
 use Rattle.po_engine.specs.Finding.{IsFound}
 use Rattle.po_engine.specs.Pick.{weight, owed, Fits}
 use Rattle.po_engine.proofs.Sums.{sum_by-cons, sum_by-push, sum_by-without}
 
--- each call weighs its rank and something more, by whether it is marked
+-- each call weighs its rank and an extra that depends on whether it is marked
 module _ {S V : Type 0} (m : Meaning S V) (law : IsLawful m) (limit : Option ℕ) (extra : Bool → ℕ) (some : (b : Bool) → 1 ≤ extra b) where
   abbrev pub weight_of : Call V → ℕ
   weight_of x = m.rank x.entry x.value + extra x.aborted
@@ -24,7 +24,7 @@ module _ {S V : Type 0} (m : Meaning S V) (law : IsLawful m) (limit : Option ℕ
   abbrev pub load : ObjectState S V → ℕ
   load p = sum_by weight_of p.waiting
 
-  -- the load is lower by one, and the object is finalized or not as before
+  -- the load is lower by one, and whether the object is finalized stays
   pub record Lower (p q : ObjectState S V) (k : ℕ) : Type 0 where
     pub lower : load q + 1 ≤ load p + k
     pub finalized : q.finalized ≡ p.finalized
@@ -76,11 +76,11 @@ module _ {S V : Type 0} (m : Meaning S V) (law : IsLawful m) (limit : Option ℕ
   lower_inner p (Expire n) h = lower_cancel (λ x. is_due p.clock x ≡ true) p n (find (has_number n) p.waiting) refl h.1
   lower_inner p (Issue n owner e v d) h = absurd h
   lower_inner p (Ran owner op v reply) h = absurd h
-  lower_inner p (Abort n) h = absurd h
+  lower_inner p (Cancel n) h = absurd h
   lower_inner p (Tick t) h = absurd h
   lower_inner p Final h = absurd h
 
-  -- a new call adds its own weight at most
+  -- a new call adds at most its own weight
   pub lower_arrive : (p : ObjectState S V) (x : Call V) (r : Result Bool ℕ) → (load (arrive m limit p x r) ≤ load p + weight_of x) × ((arrive m limit p x r).finalized ≡ p.finalized)
   lower_arrive p x (Ok true) = let h = lower_run_body p x in (omega (arith, h.lower), h.finalized)
   lower_arrive p x (Ok false) = let h = lower_enter p x (weight_of x + 1) (omega arith) in (omega (arith, h.lower), h.finalized)
@@ -146,16 +146,16 @@ module _ {S V : Type 0} (m : Meaning S V) (law : IsLawful m) (limit : Option ℕ
   with_abort_or true c h k = k
   with_abort_or false c h k = cc
 
-  aborted_owed : (p : ObjectState S V) (n : ℕ) (b : Bool) (x : Call V) → x.without_abort ≡ b → find (has_number n) p.waiting ≡ Some x → (x.without_abort && x.aborted) ≡ false → owed m (if b then record p { waiting = map (mark n) p.waiting } else cancel p n (Some x)) + 1 ≤ owed m p
-  aborted_owed p n true x s h k = omega (arith, marks_lower n p.waiting x h (with_abort_or x.without_abort x.aborted s k))
-  aborted_owed p n false x s h k = omega (arith, one_or_two_some x.aborted, sum_by-without weighs (has_number n) p.waiting x h)
+  attempted_owed : (p : ObjectState S V) (n : ℕ) (b : Bool) (x : Call V) → x.without_abort ≡ b → find (has_number n) p.waiting ≡ Some x → (x.without_abort && x.aborted) ≡ false → owed m (if b then record p { waiting = map (mark n) p.waiting } else cancel p n (Some x)) + 1 ≤ owed m p
+  attempted_owed p n true x s h k = omega (arith, marks_lower n p.waiting x h (with_abort_or x.without_abort x.aborted s k))
+  attempted_owed p n false x s h k = omega (arith, one_or_two_some x.aborted, sum_by-without weighs (has_number n) p.waiting x h)
 
-  abort_owed : (p : ObjectState S V) (n : ℕ) (o : Option (Call V)) → find (has_number n) p.waiting ≡ o → IsFound (λ x. (x.without_abort && x.aborted) ≡ false) o → owed m (abort p n o) + 1 ≤ owed m p
-  abort_owed p n None h k = absurd k
-  abort_owed p n (Some x) h k = aborted_owed p n x.without_abort x refl h k
+  attempt_owed : (p : ObjectState S V) (n : ℕ) (o : Option (Call V)) → find (has_number n) p.waiting ≡ o → IsFound (λ x. (x.without_abort && x.aborted) ≡ false) o → owed m (attempt_cancel p n o) + 1 ≤ owed m p
+  attempt_owed p n None h k = absurd k
+  attempt_owed p n (Some x) h k = attempted_owed p n x.without_abort x refl h k
 
-  pub owed_abort : (p : ObjectState S V) (n : ℕ) → IsFound (λ x. (x.without_abort && x.aborted) ≡ false) (find (has_number n) p.waiting) → owed m (step m limit p (Abort n)) + 1 ≤ owed m p
-  owed_abort p n k = abort_owed p n (find (has_number n) p.waiting) refl k
+  pub owed_attempt : (p : ObjectState S V) (n : ℕ) → IsFound (λ x. (x.without_abort && x.aborted) ≡ false) (find (has_number n) p.waiting) → owed m (step m limit p (Cancel n)) + 1 ≤ owed m p
+  owed_attempt p n k = attempt_owed p n (find (has_number n) p.waiting) refl k
 
 -- A finalized object has no waiting call.
 abbrev pub IsEmptied : {S V : Type 0} → ObjectState S V → Type 0
@@ -180,9 +180,9 @@ module _ {S V : Type 0} (m : Meaning S V) (law : IsLawful m) (limit : Option ℕ
   dead_if true p q r h k = h
   dead_if false p q r h k = k
 
-  dead_abort : (p : ObjectState S V) (n : ℕ) (o : Option (Call V)) → (abort p n o).finalized ≡ p.finalized
-  dead_abort p n None = refl
-  dead_abort p n (Some x) = dead_if x.without_abort p (record p { waiting = map (mark n) p.waiting }) (cancel p n (Some x)) refl refl
+  dead_attempt : (p : ObjectState S V) (n : ℕ) (o : Option (Call V)) → (attempt_cancel p n o).finalized ≡ p.finalized
+  dead_attempt p n None = refl
+  dead_attempt p n (Some x) = dead_if x.without_abort p (record p { waiting = map (mark n) p.waiting }) (cancel p n (Some x)) refl refl
 
   dead_arrive : (p : ObjectState S V) (x : Call V) (r : Result Bool ℕ) → (arrive m limit p x r).finalized ≡ p.finalized
   dead_arrive p x r = (lower_arrive m law limit one_more (λ b. omega arith) p x r).1
@@ -190,7 +190,7 @@ module _ {S V : Type 0} (m : Meaning S V) (law : IsLawful m) (limit : Option ℕ
   emptied_after : (p : ObjectState S V) (e : Event V) → Needs m p e → IsEmptied p → IsEmptied (step m limit p e)
   emptied_after p (Issue n owner e v d) need h = still_alive p (step m limit p (Issue n owner e v d)) (dead_arrive (record p { next = p.next + 1 }) (record { number = n; owner = owner; entry = e; value = v; without_abort = false; aborted = false; deadline = d }) (barrier_in m p e)) need.0.alive
   emptied_after p (Ran owner op v reply) need h = still_alive p (step m limit p (Ran owner op v reply)) refl need.0.alive
-  emptied_after p (Abort n) need h = still_alive p (step m limit p (Abort n)) (dead_abort p n (find (has_number n) p.waiting)) need.0.alive
+  emptied_after p (Cancel n) need h = still_alive p (step m limit p (Cancel n)) (dead_attempt p n (find (has_number n) p.waiting)) need.0.alive
   emptied_after p (Tick t) need h = still_alive p (step m limit p (Tick t)) refl need.alive
   emptied_after p Final need h = λ _. refl
   emptied_after p (Break e) need h = λ _. refl

@@ -8,7 +8,7 @@ use Rattle.po_queues.specs.declared.selection.Selection.TheVariants.{Quiet, Read
 use Rattle.po_queues.specs.declared.order.Order.{Order}
 use Rattle.po_calls.specs.declared.call.Call.{Call}
 use Rattle.po_history.specs.declared.event.Event.{Event}
-use Rattle.po_history.specs.declared.event.Event.TheVariants.{Issue, Ran, Abort, Tick, Final, Serve, Break, Expire}
+use Rattle.po_history.specs.declared.event.Event.TheVariants.{Issue, Ran, Cancel, Tick, Final, Serve, Break, Expire}
 use Rattle.po_engine.specs.WaitingCalls.{is_due}
 use Rattle.po_engine.specs.ObjectState.{ObjectState}
 use Rattle.po_engine.specs.Pick.{event_of, next_turn, pick}
@@ -30,6 +30,6 @@ first_from_pick m order last s (Serve e) h = tt
 first_from_pick m order last s (Break e) h = tt
 first_from_pick m order last s (Issue n owner e v d) h = tt
 first_from_pick m order last s (Ran owner op v reply) h = tt
-first_from_pick m order last s (Abort n) h = tt
+first_from_pick m order last s (Cancel n) h = tt
 first_from_pick m order last s (Tick t) h = tt
 first_from_pick m order last s Final h = tt

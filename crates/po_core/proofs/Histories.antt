@@ -62,6 +62,6 @@ module _ {S V : Type 0} (m : Meaning S V) (setup : Setup S) where
         public = All-push (NamesPublic setup.shape) es e h.public named;
       }
 
--- an object that was just made is at rest
+-- a newly made object is at rest
 pub rest_opening : {S V : Type 0} (m : Meaning S V) (u : S) (first : ℕ) → IsAtRest {V = V} m (opening_state u first)
 rest_opening {V} m u first = record { quiet = All-nil (λ x. barrier_in {V = V} m (opening_state u first) x.entry ≡ Ok false); none_due = All-nil (λ x. is_due 0 x ≡ false) }

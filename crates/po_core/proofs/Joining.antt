@@ -1,4 +1,4 @@
--- Where calls arrived by the events before a base and by those since: by all of them they arrived there too.
+-- The place of a call by the events before a base and then by those since is its place by all of them.
 use Rattle.std.proofs.Common.{◌≡◌, ℕ, ◌+◌, ◌==◌, List, [], ◌∷◌, ◌++◌, length, length-append, map, refl, subst, ap, sym, ◌∙◌, arith, Bool, true, false, not, ◌&&◌, Option, Some, None, Result, Ok, Err, if◌then◌else◌}
 use Rattle.std.specs.List.{All, count_by, find}
 use Rattle.std.specs.Option.{option_map}
@@ -9,16 +9,16 @@ use Rattle.po_unit.specs.declared.outcome.Outcome.TheVariants.{Complete, Raise, 
 use Rattle.po_calls.specs.declared.call.Call.{Call}
 use Rattle.po_calls.specs.declared.end.End.TheVariants.{Cancelled, ProgramError}
 use Rattle.po_history.specs.declared.event.Event.{Event}
-use Rattle.po_history.specs.declared.event.Event.TheVariants.{Issue, Ran, Abort, Tick, Final, Serve, Break, Expire}
+use Rattle.po_history.specs.declared.event.Event.TheVariants.{Issue, Ran, Cancel, Tick, Final, Serve, Break, Expire}
 use Rattle.po_history.specs.Histories.{VolumeView, RunOn, joined}
 use Rattle.po_engine.specs.ObjectState.{ObjectState, counts_in, barrier_in}
 use Rattle.po_engine.specs.WaitingCalls.{has_number, is_on, mark}
-use Rattle.po_engine.specs.Step.{is_full, enter, end_call, queue, conclude, run_body, arrive, take_out, cancel, abort, serve, step, replay}
+use Rattle.po_engine.specs.Step.{is_full, enter, end_call, queue, conclude, run_body, arrive, take_out, cancel, attempt_cancel, serve, step, replay}
 use Rattle.po_engine.specs.Arrival.{noted, call_of, arrivals}
 use Rattle.po_engine.proofs.Absent.{All-without}
 use Rattle.po_core.proofs.Orders.{noted_same, marked_all}
 
--- Volumes that run on end where their events do.
+-- Volumes that follow one another end where their events do.
 pub ends-at : {V : Type 0} (from : ℕ) (volumes : List (VolumeView V)) (to : ℕ) → RunOn from volumes to → to ≡ from + length (joined volumes)
 ends-at from [] to run = omega (arith, run)
 ends-at from (volume ∷ volumes) to run =
@@ -26,8 +26,8 @@ ends-at from (volume ∷ volumes) to run =
     let both = length-append volume.events (joined volumes) in
     omega (arith, rest, both)
 
--- What holds of the numbers of the waiting calls, and of the number of the call that an event may queue, holds of those that
--- wait after it.
+-- What holds of the numbers of the waiting calls, and of the number of the call that an event may queue, holds of the numbers
+-- of those that wait after the event.
 module _ {S V : Type 0} (m : Meaning S V) (limit : Option ℕ) (P : ℕ → Type 0) where
   abbrev Hold : List (Call V) → Type 0
   Hold xs = All (λ x. P x.number) xs
@@ -68,7 +68,7 @@ module _ {S V : Type 0} (m : Meaning S V) (limit : Option ℕ) (P : ℕ → Type
   marked true p n x h = marked_all n P p.waiting h
   marked false p n x h = cancelled p n (Some x) h
 
-  aborted : (p : ObjectState S V) (n : ℕ) (o : Option (Call V)) → Hold p.waiting → Hold (abort p n o).waiting
+  aborted : (p : ObjectState S V) (n : ℕ) (o : Option (Call V)) → Hold p.waiting → Hold (attempt_cancel p n o).waiting
   aborted p n None h = h
   aborted p n (Some x) h = marked x.without_abort p n x h
 
@@ -76,20 +76,20 @@ module _ {S V : Type 0} (m : Meaning S V) (limit : Option ℕ) (P : ℕ → Type
   numbers_after p (Issue n owner e v d) is h =
       arrived_on (record p { next = p.next + 1 }) (record { number = n; owner = owner; entry = e; value = v; without_abort = false; aborted = false; deadline = d }) (barrier_in m p e) (is n refl) h
   numbers_after p (Ran owner op v reply) is h = h
-  numbers_after p (Abort n) is h = aborted p n (find (has_number n) p.waiting) h
+  numbers_after p (Cancel n) is h = aborted p n (find (has_number n) p.waiting) h
   numbers_after p (Tick t) is h = h
   numbers_after p Final is h = All-nil (λ (y : Call V). P y.number)
   numbers_after p (Serve e) is h = selected p e (find (is_on e) p.waiting) is h
   numbers_after p (Break e) is h = All-nil (λ (y : Call V). P y.number)
   numbers_after p (Expire n) is h = cancelled p n (find (has_number n) p.waiting) h
 
--- Places that are the same for a call stay so as one more is noted.
+-- Two functions that give a call the same place still do so after one more place is noted.
 noted_both : (f g : ℕ → ℕ) (k : ℕ) (o : Option ℕ) (n : ℕ) → g n ≡ f n → noted g k o n ≡ noted f k o n
 noted_both f g k None n same = same
 noted_both f g k (Some i) n same = ap (λ j. if n == i then k else j) same
 
 module _ {S V : Type 0} (m : Meaning S V) (limit : Option ℕ) where
-  -- Places that are the same for the waiting calls stay so for those that wait after some events.
+  -- Two functions that give the waiting calls the same places give the same places to those that wait after some events.
   pub arrivals_agree : (f g : ℕ → ℕ) (k : ℕ) (s : ObjectState S V) (es : List (Event V)) → All (λ x. g x.number ≡ f x.number) s.waiting
       → All (λ x. arrivals m limit s k g es x.number ≡ arrivals m limit s k f es x.number) (replay m limit s es).waiting
   arrivals_agree f g k s [] h = h
@@ -100,7 +100,7 @@ module _ {S V : Type 0} (m : Meaning S V) (limit : Option ℕ) where
       arrivals_agree (noted f k c) (noted g k c) (k + 1) (step m limit s e) es
       (numbers_after m limit Same s e own (All-weaker (λ x. g x.number ≡ f x.number) (λ x. Same x.number) (λ x same. noted_both f g k c x.number same) s.waiting h))
 
-  -- By some events and then by more, a call arrived where it arrived by all of them.
+  -- A call has the same place by all events as by the first of them and then the others.
   pub arrivals_append : (s : ObjectState S V) (k : ℕ) (f : ℕ → ℕ) (es more : List (Event V)) (n : ℕ)
       → arrivals m limit s k f (es ++ more) n ≡ arrivals m limit (replay m limit s es) (k + length es) (arrivals m limit s k f es) more n
   arrivals_append s k f [] more n = ap (λ j. arrivals m limit s j f more n) (omega arith)

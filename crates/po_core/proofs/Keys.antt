@@ -12,7 +12,7 @@ either_same : {X : Type 0} (b : Bool) (o : Option X) → (if b then o else o) �
 either_same true o = refl
 either_same false o = refl
 
--- A ticket by the key of its number is live, where a waiting call has the number.
+-- A ticket with the key of its number is live if a waiting call has the number.
 live_by_key : (first : ℕ) (keys : List ℕ) (tickets : List (Option ℕ)) (ticket : Ticket) → key_of first keys ticket.number ≡ Some ticket.key
     → HasTicket first keys tickets ticket.number → is_live tickets ticket ≡ true
 live_by_key first keys tickets ticket led has =
@@ -28,7 +28,7 @@ module _ {V : Type 0} where
   by_key first keys tickets ticket None led has = either_same (is_live tickets ticket) None
   by_key first keys tickets ticket (Some x) led has = simp (live_by_key first keys tickets ticket led (has x refl)) refl
 
-  -- The waiting call of a ticket by the key of its number is the one of that number.
+  -- The waiting call of a ticket with the key of its number is the one with that number.
   pub waiting_by_key : (first : ℕ) (keys : List ℕ) (tickets : List (Option ℕ)) (waiting : List (Call V)) (ticket : Ticket) → key_of first keys ticket.number ≡ Some ticket.key
       → ((n : ℕ) (x : Call V) → find (has_number n) waiting ≡ Some x → HasTicket first keys tickets n)
       → waiting_among waiting tickets ticket ≡ find (has_number ticket.number) waiting
@@ -39,7 +39,7 @@ module _ {V : Type 0} where
   none_by first keys tickets n None none has = refl
   none_by first keys tickets n (Some x) none has = let bad : None ≡ Some (has x refl).key = sym none ∙ (has x refl).indexed in absurd (cc)
 
-  -- Where a number has no key, no waiting call has it.
+  -- If a number has no key, no waiting call has it.
   pub none_without_key : (first : ℕ) (keys : List ℕ) (tickets : List (Option ℕ)) (waiting : List (Call V)) (n : ℕ) → key_of first keys n ≡ None
       → ((n : ℕ) (x : Call V) → find (has_number n) waiting ≡ Some x → HasTicket first keys tickets n) → find (has_number n) waiting ≡ None
   none_without_key first keys tickets waiting n none has = none_by first keys tickets n (find (has_number n) waiting) none (has n)

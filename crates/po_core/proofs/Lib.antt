@@ -1,4 +1,4 @@
-pub mod Aborts
+pub mod Attempts
 pub mod Counting
 pub mod CutLemmas
 pub mod Cuts

@@ -20,7 +20,7 @@ module _ {X : Type 0} (p : X → Bool) where
   none_there true x xs e h k = absurd (omega arith)
   none_there false x xs e h k = k (omega arith)
 
-  -- Where none is counted, none is found.
+  -- If none is counted, none is found.
   pub none_counted : (xs : List X) → count_by p xs ≡ 0 → find p xs ≡ None
   none_counted [] h = refl
   none_counted (x ∷ xs) h = none_there (p x) x xs refl (sym (sum_by-cons (λ y. cond (p y) 1 0) x xs) ∙ h) (none_counted xs)
@@ -49,7 +49,7 @@ module _ {V : Type 0} where
   pub outcomes_reserved : (h : HistoryView V) (room n : ℕ) → outcome_of (record h { owed = room; outcomes = h.outcomes ++ None ∷ [] }) n ≡ outcome_of h n
   outcomes_reserved h room n = rw (nothing_more h.outcomes (n - h.first_number)) refl
 
-  -- A call that ends but once isn't among the earlier ended calls.
+  -- A call that ends only once isn't among the earlier ended calls.
   pub not_earlier : (xs : List (Ended V)) (i : ℕ) (x : Ended V) → i < length xs → x ≡ get_or xs i x → count_by (has_ended x.number) xs ≤ 1 → find (has_ended x.number) (take i xs) ≡ None
   not_earlier xs i x lt is once =
       let test = has_ended x.number in
@@ -71,7 +71,7 @@ module _ {V : Type 0} where
     | inr other ↦ rw (other_found xs x n other) (others n other ∙ h n)
   ]
 
-  -- A call among further ones hasn't ended among the earlier ones, nor among those of the further ones that stand before it.
+  -- A further call hasn't ended among the earlier ones, nor among those of the further ones that come before it.
   pub not_before : (old now : List (Ended V)) (i : ℕ) (x : Ended V) → i < length now → x ≡ get_or now i x → count_by (has_ended x.number) (old ++ now) ≤ 1 → find (has_ended x.number) (old ++ take i now) ≡ None
   not_before old now i x lt is once =
       let below : length old + i < length (old ++ now) = omega (arith, lt, length-append old now) in
@@ -81,7 +81,7 @@ module _ {V : Type 0} where
   pub later_holds : (P : Ended V → Type 0) (old now : List (Ended V)) (i : ℕ) (x : Ended V) → i < length now → x ≡ get_or now i x → All P (old ++ now) → P x
   later_holds P old now i x lt is all = subst P (get_or-append-add old now i x ∙ sym is) (all (length old + i) x (omega (arith, lt, length-append old now)))
 
--- What is noted of a list is a part of it, and the rest is what stands behind it.
+-- What is noted of a list is a part of it, and the rest is what comes after that part.
 pub rest_noted : {X : Type 0} (all : List X) (before noted k : ℕ) → before + noted ≡ k → k ≤ length all → take k all ++ take (length (drop before all) - noted) (drop noted (drop before all)) ≡ all
 rest_noted all before noted k is le =
     let behind : drop noted (drop before all) ≡ drop k all = drop-drop noted before all ∙ ap (λ i. drop i all) is in

@@ -10,10 +10,10 @@ use Rattle.po_unit.specs.declared.outcome.Outcome.TheVariants.{Complete, Raise, 
 use Rattle.po_calls.specs.declared.call.Call.{Call}
 use Rattle.po_calls.specs.declared.end.End.TheVariants.{Cancelled, ProgramError}
 use Rattle.po_history.specs.declared.event.Event.{Event}
-use Rattle.po_history.specs.declared.event.Event.TheVariants.{Issue, Ran, Abort, Tick, Final, Serve, Break, Expire}
+use Rattle.po_history.specs.declared.event.Event.TheVariants.{Issue, Ran, Cancel, Tick, Final, Serve, Break, Expire}
 use Rattle.po_engine.specs.ObjectState.{ObjectState, counts_in, barrier_in}
 use Rattle.po_engine.specs.WaitingCalls.{has_number, is_on, mark}
-use Rattle.po_engine.specs.Step.{is_full, enter, end_call, queue, conclude, run_body, arrive, take_out, cancel, abort, serve, step, Needs, IsLegal, replay}
+use Rattle.po_engine.specs.Step.{is_full, enter, end_call, queue, conclude, run_body, arrive, take_out, cancel, attempt_cancel, serve, step, Needs, IsLegal, replay}
 use Rattle.po_engine.specs.Finding.{without_first}
 use Rattle.po_engine.specs.Ending.{has_ended}
 use Rattle.po_engine.specs.Arrival.{noted, Rises, call_of, arrivals}
@@ -27,7 +27,7 @@ pub noted_same : (places : ℕ → ℕ) (k n : ℕ) → noted places k (Some n) 
 noted_same places k n = rw (eq_self n) refl
 
 module _ {V : Type 0} where
-  -- the calls stand in the order of their places, which are all below k
+  -- the calls are in the order of their places, which are all below k
   pub record Ordered (places : ℕ → ℕ) (k : ℕ) (xs : List (Call V)) : Type 0 where
     pub rises : Rises places xs
     pub before : All (λ y. places y.number < k) xs
@@ -44,7 +44,7 @@ module _ {V : Type 0} where
   rises_without places p [] h = h
   rises_without places p (x ∷ xs) h = rises_left places p (p x) x xs h (rises_without places p xs h.1)
 
-  -- what is absent isn't noted
+  -- the place of a call isn't changed by noting one for an absent call
   other_place : (places : ℕ → ℕ) (k n : ℕ) (y : Call V) → has_number n y ≡ false → noted places k (Some n) y.number ≡ places y.number
   other_place places k n y h = rw h refl
 
@@ -93,7 +93,7 @@ module _ {V : Type 0} where
   ordered_marked places k n xs h = record { rises = rises_marked places n xs h.rises; before = marked_all n (λ j. places j < k) xs h.before }
 
 module _ {S V : Type 0} (m : Meaning S V) (law : IsLawful m) (limit : Option ℕ) (total first : ℕ) (places : ℕ → ℕ) (k : ℕ) where
-  -- a call that isn't queued is concluded
+  -- after a call that isn't queued is concluded
   entered : (b : Bool) (p : ObjectState S V) (n : ℕ) (x : Call V) → x.number ≡ n → IsAbsent n p.waiting → Ordered places k p.waiting → Ordered (noted places k (Some n)) (k + 1) (if b then end_call p x ProgramError else queue p x).waiting
   entered true p n x is a h = ordered_noted places k n p.waiting a h
   entered false p n x is a h = ordered_push places k n p.waiting x is a h
@@ -140,9 +140,9 @@ module _ {S V : Type 0} (m : Meaning S V) (law : IsLawful m) (limit : Option ℕ
   ordered_if true p q h i = h
   ordered_if false p q h i = i
 
-  ordered_abort : (p : ObjectState S V) (n : ℕ) (o : Option (Call V)) → Ordered places k p.waiting → Ordered places k (abort p n o).waiting
-  ordered_abort p n None h = h
-  ordered_abort p n (Some x) h = ordered_if x.without_abort (record p { waiting = map (mark n) p.waiting }) (cancel p n (Some x)) (ordered_marked places k n p.waiting h) (ordered_cancel p n (Some x) h)
+  ordered_attempt : (p : ObjectState S V) (n : ℕ) (o : Option (Call V)) → Ordered places k p.waiting → Ordered places k (attempt_cancel p n o).waiting
+  ordered_attempt p n None h = h
+  ordered_attempt p n (Some x) h = ordered_if x.without_abort (record p { waiting = map (mark n) p.waiting }) (cancel p n (Some x)) (ordered_marked places k n p.waiting h) (ordered_cancel p n (Some x) h)
 
   bit_new : (n next j : ℕ) → n ≡ next → j ≡ (if nat_le first n && nat_lt n next then 1 else 0) → j ≡ 0
   bit_new n next j is h = grind (arith, nat_tests)
@@ -152,7 +152,7 @@ module _ {S V : Type 0} (m : Meaning S V) (law : IsLawful m) (limit : Option ℕ
       let none = bit_new n p.next (count_by (has_number n) p.waiting + count_by (has_ended n) p.ended) need.2 (w.placed n) in
       ordered_arrive (record p { next = p.next + 1 }) n (record { number = n; owner = owner; entry = e; value = v; without_abort = false; aborted = false; deadline = d }) (barrier_in m p e) refl (absent_from_count n p.waiting (omega (arith, none))) h
   ordered_after p (Ran owner op v reply) need w h = ordered_later places k p.waiting h
-  ordered_after p (Abort n) need w h = ordered_later places k (step m limit p (Abort n)).waiting (ordered_abort p n (find (has_number n) p.waiting) h)
+  ordered_after p (Cancel n) need w h = ordered_later places k (step m limit p (Cancel n)).waiting (ordered_attempt p n (find (has_number n) p.waiting) h)
   ordered_after p (Tick t) need w h = ordered_later places k p.waiting h
   ordered_after p Final need w h = ordered_nil (noted places k None) (k + 1)
   ordered_after p (Serve e) need w h = ordered_serve p e (find (is_on e) p.waiting) w refl h

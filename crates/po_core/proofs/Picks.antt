@@ -1,4 +1,4 @@
--- The event that is picked meets its needs; where none is picked, the object is at rest.
+-- The event that is picked meets its needs. If none is picked, the object is at rest.
 use Rattle.std.proofs.Common.{◌≡◌, ℕ, zero, suc, ◌<◌, ◌≤◌, List, [], ◌∷◌, map, refl, subst, ap, sym, ◌∙◌, arith, Bool, true, false, cond, ◌||◌, Option, Some, None, Result, Ok, Err, if◌then◌else◌, IsSome, length, get_or}
 use Rattle.std.specs.List.{count_by, find, All, list_any}
 use Rattle.std.specs.Option.{option_map, option_or}
@@ -11,7 +11,7 @@ use Rattle.po_queues.specs.declared.selection.Selection.TheVariants.{Quiet, Read
 use Rattle.po_queues.specs.declared.order.Order.{Order}
 use Rattle.po_queues.specs.Turns.{turn, selection_if, examined}
 use Rattle.po_history.specs.declared.event.Event.{Event}
-use Rattle.po_history.specs.declared.event.Event.TheVariants.{Issue, Ran, Abort, Tick, Final, Serve, Break, Expire}
+use Rattle.po_history.specs.declared.event.Event.TheVariants.{Issue, Ran, Cancel, Tick, Final, Serve, Break, Expire}
 use Rattle.po_engine.specs.ObjectState.{ObjectState, barrier_in, IsQuiet, IsAtRest}
 use Rattle.po_engine.specs.WaitingCalls.{has_number, is_on, is_due}
 use Rattle.po_engine.specs.Step.{Needs}
@@ -60,7 +60,7 @@ needs_from_fits m p (Break e) h = (h.1, h.2)
 needs_from_fits m p (Expire n) h = h
 needs_from_fits m p (Issue n owner e v d) h = absurd h
 needs_from_fits m p (Ran owner op v reply) h = absurd h
-needs_from_fits m p (Abort n) h = absurd h
+needs_from_fits m p (Cancel n) h = absurd h
 needs_from_fits m p (Tick t) h = absurd h
 needs_from_fits m p Final h = absurd h
 
@@ -71,7 +71,7 @@ public_from_fits m row p (Break e) h = tt
 public_from_fits m row p (Expire n) h = tt
 public_from_fits m row p (Issue n owner e v d) h = absurd h
 public_from_fits m row p (Ran owner op v reply) h = tt
-public_from_fits m row p (Abort n) h = tt
+public_from_fits m row p (Cancel n) h = tt
 public_from_fits m row p (Tick t) h = tt
 public_from_fits m row p Final h = tt
 
@@ -82,7 +82,7 @@ no_procedure m p (Break e) h = omega arith
 no_procedure m p (Expire n) h = omega arith
 no_procedure m p (Issue n owner e v d) h = absurd h
 no_procedure m p (Ran owner op v reply) h = absurd h
-no_procedure m p (Abort n) h = absurd h
+no_procedure m p (Cancel n) h = absurd h
 no_procedure m p (Tick t) h = absurd h
 no_procedure m p Final h = absurd h
 
@@ -115,7 +115,7 @@ module _ {S V : Type 0} (m : Meaning S V) (law : IsLawful m) (limit : Option ℕ
       let found : find (has_number x.number) p.waiting ≡ Some x = found_alone (is_due p.clock) (has_number x.number) p.waiting x k (eq_self x.number) few in
       (quiet order last h, rw found (found_passes (is_due p.clock) p.waiting x k))
 
-  -- the event of the turn that comes next
+  -- the event of the next turn
   turn_fits : (order : Order) (last : Option ℕ) (y : Event V) → event_of (next_turn m order last p) ≡ Some y → Fits m p y
   turn_fits order last =
       let es = examined order last (m.entries p.unit) queued in

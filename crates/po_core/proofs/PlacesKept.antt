@@ -1,4 +1,4 @@
--- Where the waiting calls arrived, and how that goes on by one event.
+-- The places at which the waiting calls arrived, and how they change with one more event.
 use Rattle.std.proofs.Common.{◌≡◌, ℕ, ◌+◌, ◌<◌, ◌==◌, List, [], ◌∷◌, ◌++◌, length, map, refl, ap, sym, ◌∙◌, subst, arith, Option, Some, None, if◌then◌else◌}
 use Rattle.std.specs.List.{All}
 use Rattle.std.proofs.lemmas.List.Elements.{All-nil, All-cons, All-head, All-tail}
@@ -16,7 +16,7 @@ use Rattle.po_core.proofs.Wells.{well_base}
 use Rattle.po_core.proofs.Orders.{ordered_all}
 
 module _ {V : Type 0} where
-  -- The calls stand at the same places by what says the same of each number.
+  -- Calls have the same places by two functions that agree on each number.
   pub are_at_by : (f g : ℕ → ℕ) → ((n : ℕ) → g n ≡ f n) → (xs : List (Call V)) (ks : List ℕ) → AreAt f xs ks → AreAt g xs ks
   are_at_by f g same [] [] h = tt
   are_at_by f g same [] (k ∷ ks) h = h
@@ -55,11 +55,11 @@ module _ {S V : Type 0} (m : Meaning S V) (limit : Option ℕ) where
       arrivals_push q (k + 1) g es e n ∙ noted_by (arrivals m limit q (k + 1) g es) (k + 1 + length es) (k + length (x ∷ es)) (call_of (replay m limit q es) e) n (omega arith)
 
 module _ {S V : Type 0} (m : Meaning S V) (setup : Setup S) where
-  -- where the calls arrived, by the events from the base to this state
+  -- the place at which each call arrived, by the events from the base to this state
   abbrev pub arrived_by : Base S V → ObjectState S V → List (Event V) → ℕ → ℕ
   arrived_by b s events n = arrivals m setup.max_queue (state_at b s.ended) b.place (arrived b) events n
 
-  -- Where the calls arrived is known after one more event.
+  -- After one more event it is known at which place each call arrived.
   pub places_go_on : (b : Base S V) (p r : ObjectState S V) (es : List (Event V)) (e : Event V) (k : ℕ) (ks : List ℕ) → replay m setup.max_queue (state_at b p.ended) es ≡ p → state_at b p.ended ≡ state_at b r.ended → k ≡ b.place + length es → AreAt (noted (arrived_by b p es) k (call_of p e)) r.waiting ks → AreAt (arrived_by b r (es ++ e ∷ [])) r.waiting ks
   places_go_on b p r es e k ks leads same is h =
       let limit = setup.max_queue in

@@ -1,4 +1,4 @@
--- What a record in memory keeps goes on by an event that follows.
+-- What a record in memory keeps after an event that follows.
 use Rattle.std.proofs.Common.{◌≡◌, ◌∙◌, sym, ap, subst, ℕ, ◌<◌, ◌≤◌, ◌+◌, ◌-◌, List, [], ◌∷◌, ◌++◌, Bool, true, false, Option, None, Some, refl, arith, length, length-append, take, get_or, cond, nat_lt, nat_le, ◌&&◌, if◌then◌else◌, Vec, vec_len, vec_capacity, option_map}
 use Rattle.std.specs.List.{All, count_by, find}
 use Rattle.po_calls.specs.declared.end.End.{End}
@@ -30,8 +30,8 @@ use Rattle.po_core.proofs.Wells.{well}
 use Rattle.po_core.specs.Recording.{IsRecording}
 use Rattle.po_core.specs.Noting.{Follows, Known, known_of, calls_of, keys_on}
 
--- The history may take the calls that the event ended which led from p to r: it has room for the outcome of each, and each
--- ends but once.
+-- The history may take the calls that were ended by the event from p to r: it has room for the outcome of each, and each ends
+-- only once.
 pub record IsOpenFor {S V : Type 0} (p r : ObjectState S V) (h : HistoryView V) : Type 0 where
   pub before : length p.ended ≤ length r.ended
   pub shown : p.ended ≡ take (length p.ended) r.ended
@@ -40,7 +40,7 @@ pub record IsOpenFor {S V : Type 0} (p r : ObjectState S V) (h : HistoryView V) 
   pub outcomes : AreOutcomes h p.ended
 
 module _ {S V B : Type 0} where
-  -- What noting needs to know of the recorded ends, where so many are noted that the command brought.
+  -- What noting needs to know about the recorded ends, if `noted` of those from the command are noted already.
   pub record IsNotable (r : StateView S V) (h : HistoryView V) (ended : Vec (Ended V) B) (noted : ℕ) : Type 0 where
     pub serving : r.serving ≡ None
     pub noted_so_far : r.before + noted ≡ vec_len ended
@@ -99,7 +99,7 @@ module _ {S V : Type 0} (m : Meaning S V) (setup : Setup S) where
       (omega (arith, ap (λ (l : List ℕ). length l) f.keys, keys_len p.keys ticket, ap (λ (l : List ℕ). length l) k.keys, keys.ok.0, k.for_ends)) f.so_far
       (may_be_noted law b es p r e noted ticket h f k.first_number k.outcomes k.numbered)
 
-  -- a procedure's event doesn't come too late
+  -- if the event is a procedure's, the count of procedures has room for it
   pub recording_ran : {A B : Type 0} (b : Base S V) (p r : StateView S V) (e : Event V) (noted room : ℕ) (ticket : Option Ticket) (h : HistoryView V) (keys : Vec ℕ A) (ends : Vec (Ended V) B) (ran : ℕ)
       → IsRecording setup (known_of p) room (calls_of ticket) b h keys ends ran → Follows m setup b h.events p r e noted ticket → is_ran e ≡ true → ran < 18_446_744_073_709_551_615
   recording_ran b p r e noted room ticket h keys ends ran k f runs =
@@ -124,7 +124,7 @@ module _ {S V : Type 0} (m : Meaning S V) (setup : Setup S) where
     for_keys = i.for_keys;
   })
 
-  -- what a record keeps goes on
+  -- what a record keeps after an event that follows
   pub recording_on : {A B : Type 0} (b : Base S V) (p r : StateView S V) (e : Event V) (noted room : ℕ) (ticket : Option Ticket) (h k : HistoryView V) (keys more : Vec ℕ A) (ends now : Vec (Ended V) B) (ran : ℕ)
       → IsRecording setup (known_of p) room (calls_of ticket) b h keys ends ran → {es : List (Event V)} → Follows m setup b es p r e noted ticket
       → k ≡ record h { owed = owed m r.state; outcomes = k.outcomes } → length k.outcomes ≡ length h.outcomes → AreOutcomes k r.state.ended
@@ -146,7 +146,7 @@ module _ {S V : Type 0} (m : Meaning S V) (setup : Setup S) where
     for_keys = omega (arith, i.for_keys, more_len, more_cap);
   }
 
-  -- the record after room was made for a call, and where none could be made
+  -- the record after room was made for a call, and after that failed
   pub recording_room : {A B : Type 0} (b : Base S V) (p q : StateView S V) (room more : ℕ) (h k : HistoryView V) (keys keys_now : Vec ℕ A) (ends ends_now : Vec (Ended V) B) (ran : ℕ)
       → IsRecording setup (known_of p) room 0 b h keys ends ran → q ≡ record p { most = q.most }
       → k ≡ record h { owed = h.owed + more; outcomes = h.outcomes ++ None ∷ [] }
@@ -198,7 +198,7 @@ module _ {S V : Type 0} (m : Meaning S V) (setup : Setup S) where
   none_ended : (first place : ℕ) → AreOutcomes {V = V} (record { first_number = first; place = place; events = []; owed = 1; outcomes = [] }) []
   none_ended first place n = either_same (nat_lt n first) None
 
-  -- the record of an object that was just made
+  -- the record of a newly made object
   pub recording_opens : {A B : Type 0} (h : HistoryView V) (keys : Vec ℕ A) (ends : Vec (Ended V) B)
       → h ≡ record { first_number = setup.first_number; place = setup.first_place; events = []; owed = 1; outcomes = [] } → keys.items ≡ [] → vec_len keys ≡ 0 → ends.items ≡ []
       → (s : Known S V) → s.state ≡ opening_state setup.opening setup.first_number → s.keys ≡ [] → s.first ≡ setup.first_number → s.is_fixed ≡ false

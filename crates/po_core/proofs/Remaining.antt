@@ -1,4 +1,4 @@
--- Whose calls wait: those that wait after a protected action waited before it, or the action issued them.
+-- Which calls wait: a call that waits after a protected action waited before it, or the action issued it.
 use Rattle.std.proofs.Common.{◌≡◌, ℕ, ◌+◌, ◌<◌, ◌≤◌, ◌==◌, List, [], ◌∷◌, ◌++◌, map, get_or, refl, subst, sym, arith, Bool, true, false, cond, not, ◌&&◌, nat_le, nat_lt, Option, Some, None, Result, Ok, Err, if◌then◌else◌}
 use Rattle.std.specs.List.{count_by, find, All}
 use Rattle.std.specs.Option.{option_map, option_or}
@@ -13,15 +13,15 @@ use Rattle.po_queues.specs.declared.selection.Selection.{Selection}
 use Rattle.po_queues.specs.declared.selection.Selection.TheVariants.{Quiet, Ready, Broken}
 use Rattle.po_queues.specs.declared.order.Order.{Order}
 use Rattle.po_history.specs.declared.event.Event.{Event}
-use Rattle.po_history.specs.declared.event.Event.TheVariants.{Issue, Ran, Abort, Tick, Final, Serve, Break, Expire}
+use Rattle.po_history.specs.declared.event.Event.TheVariants.{Issue, Ran, Cancel, Tick, Final, Serve, Break, Expire}
 use Rattle.po_engine.specs.WaitingCalls.{is_on, has_number, is_due, mark}
 use Rattle.po_engine.specs.Ending.{has_ended}
 use Rattle.po_engine.specs.Finding.{IsFound}
 use Rattle.po_engine.specs.ObjectState.{ObjectState, counts_in, barrier_in}
-use Rattle.po_engine.specs.Step.{step, replay, enter, end_call, queue, conclude, run_body, arrive, serve, cancel, abort, take_out, is_full}
+use Rattle.po_engine.specs.Step.{step, replay, enter, end_call, queue, conclude, run_body, arrive, serve, cancel, attempt_cancel, take_out, is_full}
 use Rattle.po_engine.specs.Pick.{event_of, next_turn, ArePicks, served_last, last_from}
 use Rattle.po_core.specs.View.{View, IsInOnePlace}
-use Rattle.po_core.specs.ProtectedAction.{IsProtectedAction, IsAbortOfCall, IsAbortOf}
+use Rattle.po_core.specs.ProtectedAction.{IsProtectedAction, IsAttemptOnCall, IsAttemptOf}
 use Rattle.po_core.specs.Cutting.{cut}
 use Rattle.po_core.proofs.Finds.{All-found}
 use Rattle.po_engine.proofs.Absent.{All-without}
@@ -84,15 +84,15 @@ module _ (P : ℕ → ℕ → Type 0) where
     of-marked : (p : ObjectState S V) (n : ℕ) → OfAll p.waiting → OfAll (map (mark n) p.waiting)
     of-marked p n h = All-map (λ y. P y.number y.owner) (mark n) p.waiting (All-weaker (λ y. P y.number y.owner) (λ y. P (mark n y).number (mark n y).owner) (λ y k. marked_of (has_number n y) y k) p.waiting h)
 
-    of-abort : (p : ObjectState S V) (n : ℕ) (o : Option (Call V)) → OfAll p.waiting → OfAll (abort p n o).waiting
-    of-abort p n None h = h
-    of-abort p n (Some x) h = of-either x.without_abort (record p { waiting = map (mark n) p.waiting }) (cancel p n (Some x)) (of-marked p n h) (of-cancel p n (Some x) h)
+    of-attempt : (p : ObjectState S V) (n : ℕ) (o : Option (Call V)) → OfAll p.waiting → OfAll (attempt_cancel p n o).waiting
+    of-attempt p n None h = h
+    of-attempt p n (Some x) h = of-either x.without_abort (record p { waiting = map (mark n) p.waiting }) (cancel p n (Some x)) (of-marked p n h) (of-cancel p n (Some x) h)
 
     -- what holds of the waiting calls and of the issued one holds of the waiting calls after the event
     pub of-step : (p : ObjectState S V) (e : Event V) → OfIssued e → OfAll p.waiting → OfAll (step m limit p e).waiting
     of-step p (Issue n owner e v d) own h = of-arrive (record p { next = p.next + 1 }) (record { number = n; owner = owner; entry = e; value = v; without_abort = false; aborted = false; deadline = d }) (barrier_in m p e) own h
     of-step p (Ran owner op v reply) own h = h
-    of-step p (Abort n) own h = of-abort p n (find (has_number n) p.waiting) h
+    of-step p (Cancel n) own h = of-attempt p n (find (has_number n) p.waiting) h
     of-step p (Tick t) own h = h
     of-step p Final own h = All-nil (λ y. P y.number y.owner)
     of-step p (Serve e) own h = of-serve p e (find (is_on e) p.waiting) refl h
@@ -107,28 +107,28 @@ module _ (P : ℕ → ℕ → Type 0) where
         of-picks order (served_last last e) (step m limit p e) es picks.1 (of-step p e own h)
 
   module _ {S V : Type 0} (m : Meaning S V) (old new : View S V) where
-    -- what holds of the number and the owner of each waiting call, and of those of the issued one, holds of each call that
-    -- waits after the protected action
+    -- what holds of the number and the owner of each waiting call, and of the issued one, holds of each call that waits after
+    -- the protected action
     pub of-action : (own : Event V) → IsProtectedAction m old new own → OfIssued own → OfAll old.state.waiting → OfAll new.state.waiting
     of-action own a issued h =
         let limit = old.setup.max_queue in
         let last = last_from old.base.last (old.events ++ own ∷ []) in
         subst (λ s. OfAll s.waiting) (sym a.state) (of-picks m limit old.setup.order last (step m limit old.state own) a.inner a.picks (of-step m limit old.state own issued h))
 
-    of-marks : (n : ℕ) (x : Call V) (without_abort aborted : Bool) → x.without_abort ≡ without_abort → x.aborted ≡ aborted → IsAbortOfCall m old new n x → OfAll old.state.waiting → OfAll new.state.waiting
-    of-marks n x false aborted s t a h = of-action (Abort n) (a.cancelled s) tt h
-    of-marks n x true false s t a h = of-action (Abort n) (a.marked s t).0 tt h
+    of-marks : (n : ℕ) (x : Call V) (without_abort aborted : Bool) → x.without_abort ≡ without_abort → x.aborted ≡ aborted → IsAttemptOnCall m old new n x → OfAll old.state.waiting → OfAll new.state.waiting
+    of-marks n x false aborted s t a h = of-action (Cancel n) (a.cancelled s) tt h
+    of-marks n x true false s t a h = of-action (Cancel n) (a.marked s t).0 tt h
     of-marks n x true true s t a h = subst (λ view. OfAll view.state.waiting) (sym (a.kept s t)) h
 
-    of-abort_call : (n : ℕ) (o : Option (Call V)) → IsFound (IsAbortOfCall m old new n) o → OfAll old.state.waiting → OfAll new.state.waiting
-    of-abort_call n None a h = absurd a
-    of-abort_call n (Some x) a h = of-marks n x x.without_abort x.aborted refl refl a h
+    of-attempt_call : (n : ℕ) (o : Option (Call V)) → IsFound (IsAttemptOnCall m old new n) o → OfAll old.state.waiting → OfAll new.state.waiting
+    of-attempt_call n None a h = absurd a
+    of-attempt_call n (Some x) a h = of-marks n x x.without_abort x.aborted refl refl a h
 
     -- an attempt to cancel a call issues none
-    pub of-abort_of : (n : ℕ) → IsAbortOf m old new n → OfAll old.state.waiting → OfAll new.state.waiting
-    of-abort_of n a h = of-abort_call n (find (has_number n) old.state.waiting) a h
+    pub of-attempt_of : (n : ℕ) → IsAttemptOf m old new n → OfAll old.state.waiting → OfAll new.state.waiting
+    of-attempt_of n a h = of-attempt_call n (find (has_number n) old.state.waiting) a h
 
-    -- a cut leaves the waiting calls what they are
+    -- a cut leaves the waiting calls as they are
     pub of-cut : new ≡ cut m old → OfAll old.state.waiting → OfAll new.state.waiting
     of-cut is h = subst (λ view. OfAll view.state.waiting) (sym is) h
 

@@ -1,4 +1,4 @@
--- Inner events one step another.
+-- Inner events, one step after another.
 use Rattle.std.proofs.Common.{ℕ, ◌≡◌, ◌<◌, arith, length-append, List, [], ◌∷◌, ◌++◌, refl, ap, sym, ◌∙◌, Option, Some, None, true, false, MatchOption, append_assoc, append-nil}
 use Rattle.po_unit.specs.Meaning.{Meaning}
 use Rattle.po_history.specs.declared.event.Event.{Event}
@@ -42,7 +42,7 @@ module _ {S V : Type 0} (m : Meaning S V) where
   pub same_on : (s t u : View S V) → IsSameCommand s t → IsSameCommand t u → IsSameCommand s u
   same_on s t u h k = record { setup = k.setup ∙ h.setup; base = k.base ∙ h.base; ended_before = k.ended_before ∙ h.ended_before }
 
-  -- by what a step says
+  -- the inner events so far, given what a step says
   pub settles_by : (X : Type 0) (s t u : View S V) (o : Option (Event V)) → pick m t.setup.order (last_served t) t.state ≡ o → IsSameCommand s t → MatchOption o ((true ≡ false) × X) (λ e. (true ≡ true) × Happens m t u e) → weight m u.state < weight m t.state → Settles m s t → Settles m s u
   settles_by X s t u None k start now less h = let bad = now.0 in cc
   settles_by X s t u (Some e) k start now less h = settles_on s t u e h k start now.1 less

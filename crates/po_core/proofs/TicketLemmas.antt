@@ -39,18 +39,18 @@ module _ {S V : Type 0} (m : Meaning S V) (law : IsLawful m) where
   next_le_of : (s t u : View S V) (own : Event V) → Begins m s t own → Settles m t u → s.state.next ≤ u.state.next
   next_le_of s t u own b h = omega (arith, next_begun s t own b, next_settled t u h)
 
-  -- the number of a new call
+  -- a new call has a number below the next one
   pub issued_new : (s t u : View S V) (n owner e : ℕ) (v : V) (d : Deadline) → Begins m s t (Issue n owner e v d) → Settles m t u → s.state.next < u.state.next
   issued_new s t u n owner e v d b h = omega (arith, next_settled t u h, ap (λ p. p.next) b.happens.state, next-issue m law s.setup.max_queue 0 s.state n owner e v d)
 
--- an object that was just made has no ticket
+-- a newly made object has no ticket
 pub issued_opening : {S : Type 0} (V : Type 0) (setup : Setup S) (capacity : Option ℕ) → AreIssued {V = V} (record { object = opening_view setup; tickets = []; capacity = capacity })
 issued_opening V setup capacity = λ key n is. absurd (none key n is)
   where
     none : (key n : ℕ) → number_at [] key ≡ Some n → ⊥
     none key n e = cc
 
--- with one more ticket
+-- after one more ticket
 pub issued_with : {S V : Type 0} (u : View S V) (old new : List (Option ℕ)) (key n : ℕ) → u.setup.first_number ≤ n → n < u.state.next → SetsTicket old new key (Some n) → AreIssued (record { object = u; tickets = old; capacity = None }) → AreIssued (record { object = u; tickets = new; capacity = None })
 issued_with u old new key n low high set h = λ k j is. elim (cases_eq k key) [
   | inl same ↦ let number : n ≡ j = some_same n j (sym set.changed ∙ (ap (number_at new) (sym same) ∙ is)) in (subst (λ i. u.setup.first_number ≤ i) number low, subst (λ i. i < u.state.next) number high)
@@ -60,7 +60,7 @@ issued_with u old new key n low high set h = λ k j is. elim (cases_eq k key) [
     some_same : (a b : ℕ) → Some a ≡ Some b → a ≡ b
     some_same a b e = cc
 
--- with one less
+-- after one ticket less
 pub issued_without : {S V : Type 0} (u : View S V) (old new : List (Option ℕ)) (key : ℕ) → SetsTicket old new key None → AreIssued (record { object = u; tickets = old; capacity = None }) → AreIssued (record { object = u; tickets = new; capacity = None })
 issued_without u old new key set h = λ k j is. elim (cases_eq k key) [
   | inl same ↦ absurd (none_some j (sym set.changed ∙ (ap (number_at new) (sym same) ∙ is)))
@@ -70,7 +70,7 @@ issued_without u old new key set h = λ k j is. elim (cases_eq k key) [
     none_some : (j : ℕ) → None ≡ Some j → ⊥
     none_some j e = cc
 
--- after a look for the end of a call, which takes the ticket of an ended one
+-- after a collection, which takes the ticket of an ended call
 pub issued_collected : {S V X : Type 0} (s t : CoreView S V) (result : Option X) (key : ℕ) → t.object ≡ s.object → OnSome result (SetsTicket s.tickets t.tickets key None) → IfNone result (t ≡ s) → AreIssued s → AreIssued t
 issued_collected s t None key same taken left h = subst AreIssued (sym left) h
 issued_collected s t (Some x) key same taken left h = subst (λ view. AreIssued (record { object = view; tickets = t.tickets; capacity = None })) (sym same) (issued_without s.object s.tickets t.tickets key taken h)
@@ -83,7 +83,7 @@ issued_issue m law s t u key n owner e v d is low b set settles same exact h =
     let number : n < u.object.state.next = omega (arith, is, issued_new m law s.object t.object u.object s.object.state.next owner e v d b settles) in
     issued_same m law u t.tickets (ap (λ seen. seen.tickets) exact) (issued_with u.object s.tickets t.tickets key n (rw (first, is) low) number set others)
 
--- what is seen of a core is equal by its parts
+-- what is seen of two cores is equal if its parts are
 pub same_core : {S V : Type 0} (s t : CoreView S V) → s.object ≡ t.object → s.tickets ≡ t.tickets → s.capacity ≡ t.capacity → s ≡ t
 same_core {S} {V} s t object tickets capacity = parts s.object t.object s.tickets t.tickets s.capacity t.capacity object tickets capacity
   where

@@ -1,4 +1,5 @@
--- What an object keeps of its history begins, and goes on by one event, which its record notes.
+-- What an object keeps of its history: how that begins, and how it goes on by one event, which its
+-- record notes.
 use Rattle.std.proofs.Common.{◌≡◌, ◌∙◌, sym, ap, subst, refl, arith, ℕ, ◌<◌, ◌≤◌, ◌+◌, ◌-◌, List, [], ◌∷◌, ◌++◌, Bool, true, false, cond, Option, None, Some, length, length-append}
 use Rattle.std.specs.List.{All, count_by}
 use Rattle.po_unit.specs.Meaning.{Meaning, IsLawful}
@@ -31,12 +32,12 @@ not_ran : {X : Type 0} (b : Bool) → b ≡ true → cond {A = ℕ} b 1 0 ≡ 0 
 not_ran true h none = absurd (omega (arith, none))
 not_ran false h none = absurd (cc)
 
--- room for so many events, written otherwise
+-- room for a number of events, with that number written otherwise
 pub room_as : (P : ℕ → ℕ → Type 0) (n i k : ℕ) → n ≡ i → P n k → P i k
 room_as P n i k same h = subst (λ j. P j k) same h
 
 module _ {S V : Type 0} (m : Meaning S V) (setup : Setup S) where
-  -- what an object that was just made keeps
+  -- what a newly made object keeps
   pub tracked_opens : m.entries setup.opening ≡ entry_count setup.shape → setup.first_place < 18_446_744_073_709_551_616 → setup.first_number < 18_446_744_073_709_551_616
       → (s : StateView S V) (most : ℕ) (fixed : Bool)
       → s ≡ record { state = opening_state setup.opening setup.first_number; places = []; serving = None; tickets = []; keys = []; first = setup.first_number; most = most; is_fixed = fixed; before = 0 }
@@ -52,7 +53,7 @@ module _ {S V : Type 0} (m : Meaning S V) (setup : Setup S) where
     idle = refl;
   })
 
-  -- what an object keeps goes on by an event that follows
+  -- what an object keeps after an event that follows
   tracked_on : (b : Base S V) (p r : StateView S V) (es : List (Event V)) (k : ℕ) (last : Option ℕ) (e : Event V) (n : ℕ) (ticket : Option Ticket) → IsTracked m setup b p es k last
       → Follows m setup b es p r e n ticket → AreAt (noted (arrived_by m setup b p.state es) k (call_of p.state e)) r.state.waiting r.places
       → ArePlaces (k + 1) (owed m r.state) r.state.next → r.state.next ≤ 18_446_744_073_709_551_615
@@ -76,7 +77,7 @@ module _ {S V : Type 0} (m : Meaning S V) (setup : Setup S) where
   tracked_fits law b p es k last e kept is =
       pick_fits m law setup.max_queue (entry_count setup.shape) setup.first_number p.state (well m law setup b p.state es kept.history) setup.order last e is
 
-  -- where none is picked, the object is at rest
+  -- if none is picked, the object is at rest
   pub tracked_rests : IsLawful m → (b : Base S V) (p : StateView S V) (es : List (Event V)) (k : ℕ) (last : Option ℕ) → IsTracked m setup b p es k last
       → pick m setup.order last p.state ≡ None → IsAtRest m p.state
   tracked_rests law b p es k last kept is =
@@ -101,7 +102,7 @@ module _ {S V : Type 0} (m : Meaning S V) (setup : Setup S) where
         spent = λ ran. not_ran (is_ran e) ran (no_procedure m p.state e fits);
       }
 
-  -- what an object keeps goes on by an inner event
+  -- what an object keeps after an inner event
   pub tracked_inner : IsLawful m → (b : Base S V) (p r : StateView S V) (es : List (Event V)) (k : ℕ) (last : Option ℕ) (e : Event V) (n : ℕ) → IsTracked m setup b p es k last
       → Fits m p.state e → Follows m setup b es p r e n None
       → AreAt (noted (arrived_by m setup b p.state es) k (call_of p.state e)) r.state.waiting r.places
@@ -110,7 +111,7 @@ module _ {S V : Type 0} (m : Meaning S V) (setup : Setup S) where
       let less : owed m r.state + 1 ≤ owed m p.state = rw f.is (owed_falls m law setup.max_queue p.state e fits) in
       tracked_on b p r es k last e n None kept f at (omega (arith, less, kept.fits, f.next)) (omega (arith, kept.numbers, f.next))
 
-  -- a command's own event follows, which issues no call
+  -- a command's own event that issues no call is one that follows
   pub own_follows : (b : Base S V) (p r : StateView S V) (es : List (Event V)) (k : ℕ) (last : Option ℕ) (e : Event V) → IsTracked m setup b p es k last
       → Needs m p.state e → NamesPublic setup.shape e
       → (places : List ℕ) → r ≡ record p { state = step m setup.max_queue p.state e; places = places; before = length p.state.ended }
@@ -130,7 +131,7 @@ module _ {S V : Type 0} (m : Meaning S V) (setup : Setup S) where
     spent = λ ran. omega (arith, spent ran, kept.place);
   }
 
-  -- what an object keeps goes on by such an event, where the places of those that may follow fit
+  -- what an object keeps after such an event, if the places of those that may follow fit
   pub tracked_own : (b : Base S V) (p r : StateView S V) (es : List (Event V)) (k : ℕ) (last : Option ℕ) (e : Event V) → IsTracked m setup b p es k last
       → Follows m setup b es p r e 0 None → AreAt (noted (arrived_by m setup b p.state es) k (call_of p.state e)) r.state.waiting r.places
       → ArePlaces (k + 1) (owed m r.state) p.state.next
@@ -138,7 +139,7 @@ module _ {S V : Type 0} (m : Meaning S V) (setup : Setup S) where
   tracked_own b p r es k last e kept f at fits =
       tracked_on b p r es k last e 0 None kept f at (omega (arith, fits, f.next)) (omega (arith, kept.numbers, f.next))
 
-  -- an issued call follows
+  -- an issued call is an event that follows
   pub issue_follows : IsLawful m → (b : Base S V) (p r : StateView S V) (es : List (Event V)) (k : ℕ) (last : Option ℕ) (owner e : ℕ) (v : V) (d : Deadline) (ticket : Ticket) → IsTracked m setup b p es k last
       → Needs m p.state (Issue p.state.next owner e v d) → NamesPublic setup.shape (Issue p.state.next owner e v d)
       → r ≡ record p { state = step m setup.max_queue p.state (Issue p.state.next owner e v d); places = r.places; tickets = r.tickets; keys = p.keys ++ ticket.key ∷ []; before = length p.state.ended }
@@ -158,7 +159,7 @@ module _ {S V : Type 0} (m : Meaning S V) (setup : Setup S) where
         spent = λ ran. absurd (cc);
       }
 
-  -- what an object keeps goes on by a call that is issued
+  -- what an object keeps after a call is issued
   pub tracked_issue : IsLawful m → (b : Base S V) (p r : StateView S V) (es : List (Event V)) (k : ℕ) (last : Option ℕ) (owner e : ℕ) (v : V) (d : Deadline) (ticket : Ticket) → IsTracked m setup b p es k last
       → Follows m setup b es p r (Issue p.state.next owner e v d) 0 (Some ticket)
       → AreAt (noted (arrived_by m setup b p.state es) k (Some p.state.next)) r.state.waiting r.places
@@ -168,14 +169,14 @@ module _ {S V : Type 0} (m : Meaning S V) (setup : Setup S) where
       let more : owed m r.state ≤ owed m p.state + (m.rank e v + 2) = rw f.is (owed_issue m law setup.max_queue p.state p.state.next owner e v d) in
       tracked_on b p r es k last (Issue p.state.next owner e v d) 0 (Some ticket) kept f at (omega (arith, more, kept.fits, f.next, low)) (omega (arith, few, f.next))
 
-  -- there is room for what an issued call may bring
+  -- there is room for what an issued call may cause
   pub more_room : IsLawful m → (p r : ObjectState S V) (owner e : ℕ) (v : V) (d : Deadline) (rank : ℕ) → r ≡ step m setup.max_queue p (Issue p.next owner e v d)
       → rank ≡ m.rank e v → owed m r ≤ owed m p + rank + 2
   more_room law p r owner e v d rank is ranked =
       let more : owed m r ≤ owed m p + (m.rank e v + 2) = rw is (owed_issue m law setup.max_queue p p.next owner e v d) in
       omega (arith, more, ranked)
 
-  -- of what is seen of the state only this is read
+  -- only these parts of what is seen of the state matter
   pub tracked_same : (b : Base S V) (p r : StateView S V) (es : List (Event V)) (k : ℕ) (last : Option ℕ) → r.state ≡ p.state → r.places ≡ p.places → r.serving ≡ p.serving → r.before ≤ length p.state.ended
       → IsTracked m setup b p es k last → IsTracked m setup b r es k last
   tracked_same b p r es k last state places serving shown kept = record {
@@ -189,7 +190,7 @@ module _ {S V : Type 0} (m : Meaning S V) (setup : Setup S) where
     idle = serving ∙ kept.idle;
   }
 
-  -- the calls that the history issues are numbered from that of the base on
+  -- the calls that the history issues are numbered from the base's next number on
   pub tracked_issued : (b : Base S V) (s : StateView S V) (es : List (Event V)) (k : ℕ) (last : Option ℕ) → IsTracked m setup b s es k last
       → s.state.next ≡ b.next + count_by is_issue es
   tracked_issued b s es k last kept = sym (ap (λ p. p.next) kept.history.leads) ∙ replay-next m setup.max_queue (state_at b s.state.ended) es
@@ -199,12 +200,12 @@ module _ {S V : Type 0} (m : Meaning S V) (setup : Setup S) where
       → Fits m p.state e → k + 1 < 340_282_366_920_938_463_463_374_607_431_768_211_456
   tracked_room law b p es k last e kept fits = omega (arith, owed_falls m law setup.max_queue p.state e fits, kept.fits, kept.numbers)
 
-  -- and for a command's own
+  -- and for a command's own event
   pub tracked_place : (b : Base S V) (p : StateView S V) (es : List (Event V)) (k : ℕ) (last : Option ℕ) → IsTracked m setup b p es k last
       → k + 1 < 340_282_366_920_938_463_463_374_607_431_768_211_456
   tracked_place b p es k last kept = omega (arith, kept.fits, kept.numbers)
 
-  -- each waiting call arrived before the present
+  -- each waiting call arrived before the present place
   pub tracked_later : (law : IsLawful m) (b : Base S V) (s : StateView S V) (es : List (Event V)) (place : ℕ) (last : Option ℕ) → IsTracked m setup b s es place last → All (λ k. k < place) s.places
   tracked_later law b s es place last kept =
       subst (λ i. All (λ k. k < i) s.places) (sym kept.place)

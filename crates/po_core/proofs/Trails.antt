@@ -1,4 +1,4 @@
--- What a command leads to is what the function says.
+-- What a command leads to is what the function of the definitions says.
 use Rattle.std.proofs.Common.{ℕ, zero, suc, ◌≡◌, ◌≤◌, ◌==◌, arith, List, [], ◌∷◌, ◌++◌, map, get_or, refl, ap, sym, subst, ◌∙◌, Bool, true, false, Ok, Option, Some, None, cond, length, ◌||◌, ◌&&◌, if◌then◌else◌, append-nil, MatchOption}
 use Rattle.std.specs.List.{find, All, list_any}
 use Rattle.std.proofs.lemmas.List.Elements.{All-head, All-tail}
@@ -17,9 +17,9 @@ use Rattle.po_core.specs.Setup.{Setup}
 use Rattle.po_core.specs.View.{View, last_served}
 use Rattle.po_core.specs.Base.{Base}
 use Rattle.po_core.specs.Progress.{Settles, IsSameCommand, Happens, Begins}
-use Rattle.po_core.specs.ProtectedAction.{settling, inner_events, begun, settled, after_action, after_abort, after_abort_of, without_event}
+use Rattle.po_core.specs.ProtectedAction.{settling, inner_events, begun, settled, after_action, after_attempt, after_attempt_of, without_event}
 use Rattle.po_engine.specs.Pick.{turn_of, next_turn, pick, ArePicks, served_last, last_from, weight}
-use Rattle.po_history.specs.declared.event.Event.TheVariants.{Abort}
+use Rattle.po_history.specs.declared.event.Event.TheVariants.{Cancel}
 
 module _ {X : Type 0} (p : X → Bool) where
   none_here : (b : Bool) (x : X) (xs : List X) → p x ≡ b → b ≡ false → find p xs ≡ None → cond b (Some x) (find p xs) ≡ None
@@ -34,7 +34,7 @@ module _ {X : Type 0} (p : X → Bool) where
   any_here Q true x xs e q h r = (x, e, q)
   any_here Q false x xs e q h r = r h
 
-  -- where one passes the test, one does that has what all have
+  -- if some element passes the test, one passes that has what all have
   pub any_has : (Q : X → Type 0) (xs : List X) → All Q xs → list_any p xs ≡ true → (y : X) × (p y ≡ true) × Q y
   any_has Q [] h k = cc
   any_has Q (x ∷ xs) h k = any_here Q (p x) x xs refl (All-head Q x xs h) k (any_has Q xs (All-tail Q x xs h))
@@ -66,7 +66,7 @@ module _ {S V : Type 0} (m : Meaning S V) where
   stops limit order last zero p h = refl
   stops limit order last (suc k) p h = rw h refl
 
-  -- whatever events are picked up to rest are those, and more steps change nothing
+  -- any events that are picked up to rest are the inner events, and more steps change nothing
   pub settling_is : (limit : Option ℕ) (order : Order) (last : Option ℕ) (k : ℕ) (p : ObjectState S V) (es : List (Event V)) → ArePicks m limit order last p es → length es ≤ k → pick m order (last_from last es) (replay m limit p es) ≡ None → settling m limit order last k p ≡ es
   settling_is limit order last k p [] h le n = stops limit order last k p n
   settling_is limit order last zero p (e ∷ es) h le n = absurd (omega arith)
@@ -87,7 +87,7 @@ module _ {S V : Type 0} (m : Meaning S V) where
       let is : inner_events m s ≡ h.inner = settling_is limit s.setup.order (last_served s) (weight m s.state) s.state h.inner h.picks (omega (arith, h.bounded)) none in
       same_view t (settled m s) same.setup same.base (h.events ∙ ap (λ l. s.events ++ l) (sym is)) (h.state ∙ ap (replay m limit s.state) (sym is)) same.ended_before
 
-  -- by what the last step says
+  -- the settled object, given what the last step says
   pub settled_at : (s t u : View S V) (o : Option (Event V)) → MatchOption o ((false ≡ false) × (u ≡ t)) (λ e. (false ≡ true) × Happens m t u e) → Settles m s t → IsAtRest m u.state → IsSameCommand s t → u ≡ settled m s
   settled_at s t u None k h r same = k.1 ∙ settled_by s t h (subst (λ w. IsAtRest m w.state) k.1 r) same
   settled_at s t u (Some e) k h r same = let bad = k.0 in cc
@@ -95,17 +95,17 @@ module _ {S V : Type 0} (m : Meaning S V) where
   pub begun_by : (s t : View S V) (own : Event V) → Begins m s t own → t ≡ begun m s own
   begun_by s t own h = same_view t (begun m s own) h.setup h.base h.happens.events h.happens.state h.ended_before
 
-  -- a command's own event, and what follows
+  -- a command's own event, and the inner events that follow it
   pub led_by : (s t u : View S V) (own : Event V) → Begins m s t own → u ≡ settled m t → u ≡ after_action m s own
   led_by s t u own h k = k ∙ ap (settled m) (begun_by s t own h)
 
-  -- where the own event leaves the object at rest, nothing follows
+  -- if the own event leaves the object at rest, nothing follows
   pub rest_settled : (s : View S V) → IsAtRest m s.state → s ≡ settled m s
   rest_settled s r =
       let limit = s.setup.max_queue in
       let none : inner_events m s ≡ [] = stops limit s.setup.order (last_served s) (weight m s.state) s.state (rest_picks_none s.setup.order (last_served s) s.state r) in
       same_view s (settled m s) refl refl (sym (append-nil s.events) ∙ ap (λ l. s.events ++ l) (sym none)) (ap (replay m limit s.state) (sym none)) refl
 
-  -- by the call that is found
-  pub aborted_as : (s : View S V) (n : ℕ) (x : Call V) → Some x ≡ find (has_number n) s.state.waiting → after_abort m s n ≡ (if x.without_abort && x.aborted then without_event s else after_action m s (Abort n))
-  aborted_as s n x h = ap (after_abort_of m s n) (sym h)
+  -- the object after an attempt to cancel the call that is found
+  pub attempted_as : (s : View S V) (n : ℕ) (x : Call V) → Some x ≡ find (has_number n) s.state.waiting → after_attempt m s n ≡ (if x.without_abort && x.aborted then without_event s else after_action m s (Cancel n))
+  attempted_as s n x h = ap (after_attempt_of m s n) (sym h)

@@ -1,4 +1,4 @@
--- The volumes before a base stay the history before it, whatever command follows.
+-- The volumes before a base remain the history before it, whatever command follows.
 use Rattle.std.proofs.Common.{◌≡◌, ℕ, ◌≤◌, List, [], ◌∷◌, take, length, refl, ap, sym, ◌∙◌, Option}
 use Rattle.po_unit.specs.Meaning.{Meaning}
 use Rattle.po_history.specs.declared.event.Event.{Event}
@@ -11,14 +11,14 @@ use Rattle.po_core.specs.Cutting.{KeepsVolumes}
 use Rattle.po_core.proofs.Ends.{ends_stay, ended_on}
 
 module _ {S V : Type 0} (m : Meaning S V) where
-  -- the first ends stay through some events
+  -- the first ends stay the same through any events
   ends_stay_all : (limit : Option ℕ) (p : ObjectState S V) (events : List (Event V)) (k : ℕ) → k ≤ length p.ended → take k p.ended ≡ take k (replay m limit p events).ended
   ends_stay_all limit p [] k h = refl
   ends_stay_all limit p (e ∷ events) k h =
       let q = step m limit p e in
       ends_stay m limit p q e k refl h ∙ ends_stay_all limit q events k (ended_on m limit p q e k refl h)
 
-  -- the state at the base, where the setup and the base stay and events lead on
+  -- the state at the base, if the setup and the base stay and events lead to the new state
   volumes_at : (old new : View S V) (events : List (Event V)) → new.setup ≡ old.setup → new.base ≡ old.base → old.base.ended ≤ length old.state.ended → new.state ≡ replay m old.setup.max_queue old.state events → KeepsVolumes m old new
   volumes_at old new events setup base based state = λ volumes are.
       let limit = old.setup.max_queue in

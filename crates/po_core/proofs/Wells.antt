@@ -1,4 +1,4 @@
--- What each legal history keeps: the entries are in range, and each call is in one place.
+-- What holds after each legal history: the entries are in range, and each call is in one place.
 use Rattle.std.proofs.Common.{◌≡◌, ℕ, ◌+◌, ◌==◌, ◌<◌, ◌≤◌, List, [], ◌∷◌, map, refl, subst, ap, sym, ◌∙◌, arith, Bool, true, false, cond, not, ◌&&◌, nat_le, nat_lt, Option, Some, None, Result, Ok, Err, if◌then◌else◌}
 use Rattle.std.specs.List.{find, count_by, All}
 use Rattle.std.proofs.lemmas.List.Elements.{All-push, All-nil, All-map, All-weaker}
@@ -10,10 +10,10 @@ use Rattle.po_calls.specs.declared.call.Call.{Call}
 use Rattle.po_calls.specs.declared.call.Deadline.{Deadline}
 use Rattle.po_calls.specs.declared.end.End.TheVariants.{Completed, Raised, Cancelled, ProgramError}
 use Rattle.po_history.specs.declared.event.Event.{Event}
-use Rattle.po_history.specs.declared.event.Event.TheVariants.{Issue, Ran, Abort, Tick, Final, Serve, Break, Expire}
+use Rattle.po_history.specs.declared.event.Event.TheVariants.{Issue, Ran, Cancel, Tick, Final, Serve, Break, Expire}
 use Rattle.po_engine.specs.ObjectState.{ObjectState, counts_in, barrier_in}
 use Rattle.po_engine.specs.WaitingCalls.{has_number, is_on, mark}
-use Rattle.po_engine.specs.Step.{is_full, enter, end_call, end_all, queue, conclude, run_body, arrive, take_out, cancel, abort, serve, step, Needs, IsLegal, replay}
+use Rattle.po_engine.specs.Step.{is_full, enter, end_call, end_all, queue, conclude, run_body, arrive, take_out, cancel, attempt_cancel, serve, step, Needs, IsLegal, replay}
 use Rattle.po_core.specs.Setup.{Setup}
 use Rattle.po_engine.specs.Pick.{Fits}
 use Rattle.po_core.specs.View.{IsInOnePlace}
@@ -21,13 +21,13 @@ use Rattle.po_core.specs.Base.{Base, state_at}
 use Rattle.po_engine.specs.declared.ended.Ended.{Ended}
 use Rattle.po_core.specs.History.{IsBase, IsHistory}
 use Rattle.po_unit.specs.Numbering.{entry_count}
-use Rattle.po_core.proofs.Counting.{next-arrive, next-serve, next-cancel, next-abort}
+use Rattle.po_core.proofs.Counting.{next-arrive, next-serve, next-cancel, next-attempt}
 use Rattle.po_engine.proofs.Places.{places_of, places-step}
 use Rattle.po_engine.proofs.Absent.{All-without}
 
 -- All of what is left, and of what is found
 module _ {S V : Type 0} (m : Meaning S V) (law : IsLawful m) (limit : Option ℕ) (total : ℕ) where
-  -- the unit has so many entries, and each queued call is on one of them
+  -- the unit has this many entries, and each queued call is on one of them
   pub record InRange (p : ObjectState S V) : Type 0 where
     pub entries : m.entries p.unit ≡ total
     pub calls : All (λ x. x.entry < total) p.waiting
@@ -88,14 +88,14 @@ module _ {S V : Type 0} (m : Meaning S V) (law : IsLawful m) (limit : Option ℕ
   range-aborted true p n x h = record { entries = h.entries; calls = All-map (λ y. y.entry < total) (mark n) p.waiting (All-weaker (λ y. y.entry < total) (λ y. (mark n y).entry < total) (λ y k. marked (has_number n y) y k) p.waiting h.calls) }
   range-aborted false p n x h = range-cancel p n (Some x) h
 
-  range-abort : (p : ObjectState S V) (n : ℕ) (o : Option (Call V)) → InRange p → InRange (abort p n o)
-  range-abort p n None h = h
-  range-abort p n (Some x) h = range-aborted x.without_abort p n x h
+  range-attempt : (p : ObjectState S V) (n : ℕ) (o : Option (Call V)) → InRange p → InRange (attempt_cancel p n o)
+  range-attempt p n None h = h
+  range-attempt p n (Some x) h = range-aborted x.without_abort p n x h
 
   pub range-step : (p : ObjectState S V) (e : Event V) → Needs m p e → InRange p → InRange (step m limit p e)
   range-step p (Issue n owner e v d) need h = range-arrive (record p { next = p.next + 1 }) (record { number = n; owner = owner; entry = e; value = v; without_abort = false; aborted = false; deadline = d }) (barrier_in m p e) (subst (λ k. e < k) h.entries need.1) (range-same p (record p { next = p.next + 1 }) refl refl h)
   range-step p (Ran owner op v reply) need h = record { entries = (law.procedure_numbers p.unit op v (counts_in m p)).entries ∙ h.entries; calls = h.calls }
-  range-step p (Abort n) need h = range-abort p n (find (has_number n) p.waiting) h
+  range-step p (Cancel n) need h = range-attempt p n (find (has_number n) p.waiting) h
   range-step p (Tick t) need h = record { entries = h.entries; calls = h.calls }
   range-step p Final need h = range-none p (step m limit p Final) refl refl h
   range-step p (Serve e) need h = range-serve p e (find (is_on e) p.waiting) h
@@ -107,8 +107,8 @@ module _ {S V : Type 0} (m : Meaning S V) (law : IsLawful m) (limit : Option ℕ
   next-issue p n owner e v d = next-arrive m limit (record p { next = p.next + 1 }) (record { number = n; owner = owner; entry = e; value = v; without_abort = false; aborted = false; deadline = d }) (barrier_in m p e)
 
   -- an attempt to cancel a call issues none
-  pub next_abort : (p : ObjectState S V) (n : ℕ) → (step m limit p (Abort n)).next ≡ p.next
-  next_abort p n = next-abort m limit p n (find (has_number n) p.waiting)
+  pub next_attempt : (p : ObjectState S V) (n : ℕ) → (step m limit p (Cancel n)).next ≡ p.next
+  next_attempt p n = next-attempt m limit p n (find (has_number n) p.waiting)
 
   -- an inner event issues no call
   pub next_inner : (p : ObjectState S V) (e : Event V) → Fits m p e → (step m limit p e).next ≡ p.next
@@ -117,7 +117,7 @@ module _ {S V : Type 0} (m : Meaning S V) (law : IsLawful m) (limit : Option ℕ
   next_inner p (Expire n) h = next-cancel m limit p n (find (has_number n) p.waiting)
   next_inner p (Issue n owner e v d) h = absurd h
   next_inner p (Ran owner op v reply) h = absurd h
-  next_inner p (Abort n) h = absurd h
+  next_inner p (Cancel n) h = absurd h
   next_inner p (Tick t) h = absurd h
   next_inner p Final h = absurd h
 
@@ -125,7 +125,7 @@ module _ {S V : Type 0} (m : Meaning S V) (law : IsLawful m) (limit : Option ℕ
   pub next_le : (p : ObjectState S V) (e : Event V) → p.next ≤ (step m limit p e).next
   next_le p (Issue n owner e v d) = omega (arith, next-issue p n owner e v d)
   next_le p (Ran owner op v reply) = omega arith
-  next_le p (Abort n) = omega (arith, next-abort m limit p n (find (has_number n) p.waiting))
+  next_le p (Cancel n) = omega (arith, next-attempt m limit p n (find (has_number n) p.waiting))
   next_le p (Tick t) = omega arith
   next_le p Final = omega arith
   next_le p (Serve e) = omega (arith, next-serve m limit p e (find (is_on e) p.waiting))
@@ -156,7 +156,7 @@ module _ {S V : Type 0} (m : Meaning S V) (law : IsLawful m) (limit : Option ℕ
       let x : Call V = record { number = n; owner = owner; entry = e; value = v; without_abort = false; aborted = false; deadline = d } in
       placed_next first n p (step m limit p (Issue n owner e v d)) (next-arrive m limit (record p { next = p.next + 1 }) x (barrier_in m p e)) need.2 (λ k. places-step k m limit p (Issue n owner e v d)) low h
   placed_after first p (Ran owner op v reply) need low h = placed_same first p (step m limit p (Ran owner op v reply)) refl (λ k. places-step k m limit p (Ran owner op v reply)) low h
-  placed_after first p (Abort n) need low h = placed_same first p (step m limit p (Abort n)) (next-abort m limit p n (find (has_number n) p.waiting)) (λ k. places-step k m limit p (Abort n)) low h
+  placed_after first p (Cancel n) need low h = placed_same first p (step m limit p (Cancel n)) (next-attempt m limit p n (find (has_number n) p.waiting)) (λ k. places-step k m limit p (Cancel n)) low h
   placed_after first p (Tick t) need low h = placed_same first p (step m limit p (Tick t)) refl (λ k. places-step k m limit p (Tick t)) low h
   placed_after first p Final need low h = placed_same first p (step m limit p Final) refl (λ k. places-step k m limit p Final) low h
   placed_after first p (Serve e) need low h = placed_same first p (step m limit p (Serve e)) (next-serve m limit p e (find (is_on e) p.waiting)) (λ k. places-step k m limit p (Serve e)) low h
@@ -180,6 +180,6 @@ module _ {S V : Type 0} (m : Meaning S V) (law : IsLawful m) (setup : Setup S) w
     range = record { entries = h.shaped; calls = subst (λ n. All (λ x. x.entry < n) b.waiting) h.shaped h.range };
   }
 
-  -- whatever a history leads to
+  -- what holds of any state that a history leads to
   pub well : (b : Base S V) (s : ObjectState S V) (events : List (Event V)) → IsHistory m setup b s events → IsWell m law setup.max_queue (entry_count setup.shape) setup.first_number s
   well b s events h = subst (λ q. IsWell m law setup.max_queue (entry_count setup.shape) setup.first_number q) h.leads (well_run m law setup.max_queue (entry_count setup.shape) setup.first_number (state_at b s.ended) events h.legal (well_base b s.ended h.base))

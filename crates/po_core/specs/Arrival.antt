@@ -1,3 +1,4 @@
+-- SPDX-License-Identifier: MIT
 -- The order in which calls arrived on their queues, read off the history (9.5.3, D.4).
 use Rattle.std.specs.Prelude.{ℕ}
 use Rattle.po_unit.specs.Meaning.{Meaning}
@@ -11,6 +12,6 @@ module _ {S V : Type 0} where
   arrival m view n =
       arrivals m view.setup.max_queue (base_state view) view.base.place (arrived view.base) view.events n
 
-  -- The waiting calls, and so those of each queue, stand in order of arrival.
+  -- The waiting calls, and so those of each queue, are in order of arrival.
   abbrev pub IsInOrderOfArrival : Meaning S V → View S V → Type 0
   IsInOrderOfArrival m view = Rises (arrival m view) view.state.waiting

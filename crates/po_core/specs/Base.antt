@@ -1,4 +1,5 @@
--- From where the present history replays: the state that all events before it led to, and what there is to know of those events.
+-- SPDX-License-Identifier: MIT
+-- What the present history replays from: the state that all events before it led to, and what has to be known about them.
 use Rattle.std.specs.Prelude.{ℕ, List, [], ◌∷◌, Bool, true, false, Option, None, take, if◌then◌else◌}
 use Rattle.po_calls.specs.declared.call.Call.{Call}
 use Rattle.po_history.specs.declared.event.Event.{Event}
@@ -12,7 +13,7 @@ pub record Base (S V : Type 0) : Type 0 where
   pub unit : S
   -- the calls that waited, in order of arrival
   pub waiting : List (Call V)
-  -- of each of them the place in the history at which it arrived
+  -- for each of them, the place in the history at which it arrived
   pub arrivals : List ℕ
   -- how many calls had ended
   pub ended : ℕ
@@ -43,15 +44,15 @@ arrived_among (x ∷ xs) [] n = 0
 arrived_among (x ∷ xs) (k ∷ places) n = if has_number n x then k else arrived_among xs places n
 
 module _ {S V : Type 0} where
-  -- the base of an object whose first call gets the number and whose first event has the place
+  -- the base of an object whose first call gets this number and whose first event has this place
   abbrev pub opening_base : S → ℕ → ℕ → Base S V
   opening_base u first place = record { unit = u; waiting = []; arrivals = []; ended = 0; next = first; clock = 0; finalized = false; place = place; ran = 0; last = None }
 
-  -- the state at the base, where these calls had ended
+  -- the state at the base, if these calls had ended
   abbrev pub state_with : Base S V → List (Ended V) → ObjectState S V
   state_with b ended = record { unit = b.unit; waiting = b.waiting; ended = ended; next = b.next; clock = b.clock; finalized = b.finalized }
 
-  -- the state at the base, by the calls that have ended until now: those that had ended there are the first of them
+  -- the state at the base, given the calls that have ended by now: the first of them are those that had ended at the base
   abbrev pub state_at : Base S V → List (Ended V) → ObjectState S V
   state_at b ended = state_with b (take b.ended ended)
 

@@ -1,9 +1,10 @@
+-- SPDX-License-Identifier: MIT
 -- The entry that a call names, the event of a command that issues a call, and what a procedure replies.
 use Rattle.std.specs.Prelude.{ℕ, List, Result, Ok, Err}
 use Rattle.po_unit.specs.Meaning.{Meaning}
 use Rattle.po_unit.specs.declared.decl.Decl.{Decl}
 use Rattle.po_unit.specs.declared.decl.EntryRef.{EntryRef}
-use Rattle.po_unit.specs.declared.fault.IndexFault.{IndexFault}
+use Rattle.po_unit.specs.declared.error.IndexError.{IndexError}
 use Rattle.po_unit.specs.Numbering.{flat_number}
 use Rattle.po_calls.specs.declared.call.Deadline.{Deadline}
 use Rattle.po_history.specs.declared.event.Event.{Event}
@@ -11,8 +12,8 @@ use Rattle.po_history.specs.declared.event.Event.TheVariants.{Issue}
 use Rattle.po_engine.specs.ObjectState.{counts_in}
 use Rattle.po_core.specs.View.{View}
 
--- the flat number, or what stands for it where there is none: such a call is refused
-abbrev pub number_or : Result ℕ IndexFault → ℕ
+-- the flat number, or zero if there is none: such a call is refused
+abbrev pub number_or : Result ℕ IndexError → ℕ
 number_or (Ok n) = n
 number_or (Err fault) = 0
 

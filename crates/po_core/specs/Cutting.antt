@@ -1,4 +1,5 @@
--- The history is cut: its events go off as a volume, and the present picture becomes the base (this project's own).
+-- SPDX-License-Identifier: MIT
+-- How the history is cut: its events are handed out as a volume, and the present picture becomes the base (this project's own).
 use Rattle.std.specs.Prelude.{ℕ, ◌≡◌, ◌+◌, List, [], map, length, count_by, All, None}
 use Rattle.po_unit.specs.Meaning.{Meaning}
 use Rattle.po_history.specs.declared.event.Event.{Event}
@@ -14,7 +15,7 @@ use Rattle.po_core.specs.Arrival.{arrival}
 use Rattle.po_core.specs.View.{View, base_state, last_served, next_place}
 
 module _ {S V : Type 0} where
-  -- the present picture as a base: each waiting call keeps the place at which it arrived, and places run on
+  -- the present picture as a base: each waiting call keeps the place at which it arrived, and places go on from there
   abbrev pub present_base : Meaning S V → View S V → Base S V
   present_base m view = record {
     unit = view.state.unit;
@@ -29,7 +30,7 @@ module _ {S V : Type 0} where
     last = last_served view;
   }
 
-  -- the object after a cut: nothing changes but where its history begins
+  -- the object after a cut: only the beginning of its history changes
   abbrev pub cut : Meaning S V → View S V → View S V
   cut m view = record view { base = present_base m view; events = [] }
 
@@ -44,21 +45,21 @@ module _ {S V : Type 0} where
     pub to_there : replay m setup.max_queue from events ≡ to
     pub public : AllPublic setup.shape events
 
-  -- the place at which the call with number n arrived on its queue, by these events from the opening of the object on
+  -- the place at which the call with number n arrived on its queue, if these are the events since the opening of the object
   abbrev pub arrival_in : Meaning S V → Setup S → List (Event V) → ℕ → ℕ
   arrival_in m setup events n =
       arrivals m setup.max_queue (opening_state setup.opening setup.first_number) setup.first_place (λ k. 0) events n
 
-  -- These volumes are the history before the base: they run on from the first place, and joined they replay from the
-  -- opening of the object to the base.
+  -- These volumes are the history before the base: they follow one another from the first place, and joined they replay from
+  -- the opening of the object to the base.
   pub record AreVolumes (m : Meaning S V) (view : View S V) (volumes : List (VolumeView V)) : Type 0 where
     pub run_on : RunOn view.setup.first_place volumes view.base.place
     pub leads : Leads m view.setup (joined volumes) (opening_state view.setup.opening view.setup.first_number) (base_state view)
-    -- each call that waited then stands at the place at which it arrived by them
+    -- each call that waited at the base has the place at which it arrived by them
     pub arrivals : view.base.arrivals ≡ map (λ x. arrival_in m view.setup (joined volumes) x.number) view.base.waiting
     -- the base has counted their procedures
     pub ran : view.base.ran ≡ count_by is_ran (joined volumes)
-    -- and knows the entry that they served last
+    -- and it knows the entry that they served last
     pub last : view.base.last ≡ last_from None (joined volumes)
 
   -- how many procedures have run, before the base and since
@@ -70,6 +71,6 @@ module _ {S V : Type 0} where
   KeepsArrivals m old new =
       All (λ x. arrival m new x.number ≡ arrival m old x.number) old.state.waiting
 
-  -- The volumes before the base stay what they are.
+  -- The volumes before the base stay the same.
   abbrev pub KeepsVolumes : Meaning S V → View S V → View S V → Type 0
   KeepsVolumes m old new = (volumes : List (VolumeView V)) → AreVolumes m old volumes → AreVolumes m new volumes

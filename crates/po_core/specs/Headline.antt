@@ -1,3 +1,4 @@
+-- SPDX-License-Identifier: MIT
 -- The headline: what holds of a protected object whenever no protected action is underway on it.
 use Rattle.std.specs.Prelude.{◌≡◌, ◌≤◌, ◌+◌, [], true, length}
 use Rattle.po_unit.specs.Meaning.{Meaning}
@@ -26,7 +27,7 @@ pub record IsSound {S V : Type 0} (m : Meaning S V) (view : View S V) : Type 0 w
   -- the unit has as many entries as its shape declares
   pub shaped : m.entries view.state.unit ≡ entry_count view.setup.shape
 
--- Beside that, no queued call has an open or a faulting barrier, and no call that could be cancelled is due.
+-- Besides that, no queued call has an open or a faulting barrier, and no call that could be cancelled is due.
 pub record Headline {S V : Type 0} (m : Meaning S V) (view : View S V) : Type 0 where
   pub sound : IsSound m view
   pub rest : IsAtRest m view.state

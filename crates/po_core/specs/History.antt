@@ -1,3 +1,4 @@
+-- SPDX-License-Identifier: MIT
 -- What every history keeps, for the invariants of objects.
 use Rattle.std.specs.Prelude.{◌≡◌, ◌<◌, ◌≤◌, List, [], length, true, All, ◌+◌}
 use Rattle.po_unit.specs.Meaning.{Meaning}
@@ -12,8 +13,8 @@ use Rattle.po_core.specs.Setup.{Setup}
 use Rattle.po_core.specs.View.{IsInOnePlace}
 use Rattle.po_engine.specs.Arrival.{Rises}
 
--- A base is what some history led to: the unit has the entries of the shape, each call is in exactly one place, and the
--- waiting ones are on entries of the unit and in order of arrival. One at the place of the first event is the opening.
+-- A base is what some history led to: the unit has the entries of the shape, each call is in exactly one place, and the waiting
+-- ones are on entries of the unit and in order of arrival. A base at the place of the first event is the opening.
 pub record IsBase {S V : Type 0} (m : Meaning S V) (setup : Setup S) (b : Base S V) (ends : List (Ended V)) : Type 0 where
   pub shaped : m.entries b.unit ≡ entry_count setup.shape
   pub low : setup.first_number ≤ b.next
@@ -26,7 +27,7 @@ pub record IsBase {S V : Type 0} (m : Meaning S V) (setup : Setup S) (b : Base S
   pub counted : setup.first_place + b.next + b.ran ≤ setup.first_number + b.place
   pub opened : b.place ≡ setup.first_place → b ≡ opening_base setup.opening setup.first_number setup.first_place
 
--- From the base legal events lead to the state, and they issue calls on public entries alone.
+-- Legal events lead from the base to the state, and they issue calls on public entries alone.
 pub record IsHistory {S V : Type 0} (m : Meaning S V) (setup : Setup S) (b : Base S V) (s : ObjectState S V) (events : List (Event V)) : Type 0 where
   pub base : IsBase m setup b s.ended
   pub legal : IsLegal m setup.max_queue (state_at b s.ended) events

@@ -1,3 +1,4 @@
+-- SPDX-License-Identifier: MIT
 pub mod Arrival
 pub mod Base
 pub mod Commands

@@ -1,4 +1,5 @@
--- An event is handed to a record (this project's own).
+-- SPDX-License-Identifier: MIT
+-- How an event is handed to a record (this project's own).
 use Rattle.std.specs.Prelude.{ℕ, Bool, ◌≡◌, ◌+◌, ◌≤◌, ◌<◌, List, [], true, ◌∷◌, ◌++◌, length, Option, Some, None}
 use Rattle.po_unit.specs.Meaning.{Meaning}
 use Rattle.po_calls.specs.declared.ticket.Ticket.{Ticket}
@@ -12,10 +13,10 @@ use Rattle.po_core.specs.Base.{Base, is_ran}
 use Rattle.po_core.specs.Public.{NamesPublic}
 use Rattle.po_core.specs.History.{IsHistory}
 
--- What a record has to know of a state.
+-- What a record has to know about a state.
 pub record Known (S V : Type 0) : Type 0 where
   pub state : ObjectState S V
-  -- the key of the ticket that each call got, by its number less the first one
+  -- the key of each call's ticket, by the call's number minus the first one
   pub keys : List ℕ
   -- the number of the first call
   pub first : ℕ
@@ -25,7 +26,7 @@ pub record Known (S V : Type 0) : Type 0 where
 abbrev pub known_of : {S V : Type 0} → StateView S V → Known S V
 known_of s = record { state = s.state; keys = s.keys; first = s.first; is_fixed = s.is_fixed }
 
--- how many calls were issued: one, where there is a ticket
+-- how many calls were issued: one if there is a ticket, else none
 abbrev pub calls_of : Option Ticket → ℕ
 calls_of None = 0
 calls_of (Some ticket) = 1
@@ -35,8 +36,8 @@ abbrev pub keys_on : List ℕ → Option Ticket → List ℕ
 keys_on keys None = keys
 keys_on keys (Some ticket) = keys ++ ticket.key ∷ []
 
--- The event leads from the state p to the state r, after this history; so many of the calls that the command ended had
--- ended before it.
+-- After this history, the event leads from the state p to the state r. Of the calls that the command ended, `noted` had ended
+-- before the event.
 pub record Follows {S V : Type 0} (m : Meaning S V) (setup : Setup S) (b : Base S V) (events : List (Event V)) (p r : StateView S V) (event : Event V) (noted : ℕ) (ticket : Option Ticket) : Type 0 where
   pub history : IsHistory m setup b p.state events
   pub need : Needs m p.state event
@@ -48,10 +49,10 @@ pub record Follows {S V : Type 0} (m : Meaning S V) (setup : Setup S) (b : Base 
   pub fixed : r.is_fixed ≡ p.is_fixed
   pub next : r.state.next ≡ p.state.next + calls_of ticket
   pub so_far : r.before + noted ≡ length p.state.ended
-  -- the event of a procedure has a place that 64 bits hold
+  -- the event of a procedure has a place that fits 64 bits
   pub spent : is_ran event ≡ true → b.place + length events < 18_446_744_073_709_551_615
 
--- An event that follows may be added to a record that has room for it, whatever the object and its state are.
+-- For some object and some states of it, the event is one that follows, and the record has room for it. Then it may be added.
 pub record MayPush {S V : Type 0} (m : Meaning S V) (IsOf : Setup S → Known S V → ℕ → ℕ → Type 0) (b : Setup S → Base S V) (events : List (Event V)) (event : Event V) : Type 0 where
   pub setup : Setup S
   pub from : StateView S V
@@ -73,7 +74,7 @@ pub record IsPushed {S V : Type 0} (IsOf : Known S V → ℕ → ℕ → Type 0)
   pub follows : Follows m setup b before from r event noted ticket
   pub fits : owed m r.state ≤ room
 
--- The event has led to the state r, and the record, which has room for it, is yet that of the state before it.
+-- The event has led to the state r. The record has room for it, and is still that of the state before it.
 pub record MayNote {S V : Type 0} (IsOf : Known S V → ℕ → ℕ → Type 0) (m : Meaning S V) (setup : Setup S) (b : Base S V) (events : List (Event V)) (r : StateView S V) (event : Event V) (noted : ℕ) (ticket : Option Ticket) : Type 0 where
   pub from : StateView S V
   pub room : ℕ

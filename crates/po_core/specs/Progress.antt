@@ -1,4 +1,5 @@
--- How far a protected action has come, for the contracts inside of this crate.
+-- SPDX-License-Identifier: MIT
+-- How far a protected action has come, for the contracts inside this crate.
 use Rattle.std.specs.Prelude.{◌≡◌, ◌+◌, ◌≤◌, List, [], ◌∷◌, ◌++◌, length}
 use Rattle.po_unit.specs.Meaning.{Meaning}
 use Rattle.po_history.specs.declared.event.Event.{Event}
@@ -25,7 +26,7 @@ module _ {S V : Type 0} where
     pub base : new.base ≡ old.base
     pub ended_before : new.ended_before ≡ length old.state.ended
 
-  -- Inner events alone happen, each the one that follows.
+  -- Only inner events happen, each the one that comes next.
   pub record Settles (m : Meaning S V) (old new : View S V) : Type 0 where
     pub inner : List (Event V)
     pub events : new.events ≡ old.events ++ inner

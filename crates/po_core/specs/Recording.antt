@@ -1,4 +1,5 @@
--- What a record in memory keeps beside the state of its object (this project's own).
+-- SPDX-License-Identifier: MIT
+-- What a record in memory keeps besides the state of its object (this project's own).
 use Rattle.std.specs.Prelude.{ℕ, ◌≡◌, ◌≤◌, ◌+◌, length, count_by, false, Vec, vec_len, vec_capacity}
 use Rattle.po_history.specs.Histories.{HistoryView}
 use Rattle.po_engine.specs.declared.ended.Ended.{Ended}
@@ -7,8 +8,8 @@ use Rattle.po_core.specs.Base.{Base, is_ran}
 use Rattle.po_core.specs.Outcomes.{AreOutcomes}
 use Rattle.po_core.specs.Noting.{Known}
 
--- The history has room for so many events, and there is room for so many calls; outcomes, keys and ends are those that the
--- state knows, and the procedures of the history are counted.
+-- The history has room for `room` events, and there is room for `calls` calls. Outcomes, keys and ends are those that the state
+-- knows, and the procedures of the history are counted.
 pub record IsRecording {S V A B : Type 0} (setup : Setup S) (s : Known S V) (room calls : ℕ) (b : Base S V) (h : HistoryView V) (by_number : Vec ℕ A) (ends : Vec (Ended V) B) (procedures : ℕ) : Type 0 where
   pub counted : room ≡ h.owed
   pub ran : procedures ≡ b.ran + count_by is_ran h.events

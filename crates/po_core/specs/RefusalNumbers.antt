@@ -1,7 +1,8 @@
+-- SPDX-License-Identifier: MIT
 -- The numbers of refusals (this project's own).
 use Rattle.std.specs.Prelude.{ℕ}
-use Rattle.po_unit.specs.declared.fault.IndexFault.{IndexFault}
-use Rattle.po_unit.specs.declared.fault.IndexFault.TheVariants.{NoSuchEntry as HasNoEntry, NotAFamily, IndexMissing, BadIndex as HasBadIndex}
+use Rattle.po_unit.specs.declared.error.IndexError.{IndexError}
+use Rattle.po_unit.specs.declared.error.IndexError.TheVariants.{NoSuchEntry as HasNoEntry, NotAFamily, IndexMissing, BadIndex as HasBadIndex}
 use Rattle.po_core.specs.declared.refusal.Refusal.{Refusal}
 use Rattle.po_core.specs.declared.refusal.Refusal.TheVariants.{NoSuchEntry, PrivateEntry, BadIndex, NoSuchOperation, UnknownCall, AlreadyEnded, Finalized, NumbersSpent, OutOfMemory, NoCall, TooManyCalls}
 
@@ -20,7 +21,7 @@ refusal_number NoCall = 10
 refusal_number TooManyCalls = 11
 
 -- the refusal of a reference that has no flat number
-abbrev pub refusal_of : IndexFault → Refusal
+abbrev pub refusal_of : IndexError → Refusal
 refusal_of HasNoEntry = NoSuchEntry
 refusal_of NotAFamily = BadIndex
 refusal_of IndexMissing = BadIndex

@@ -1,10 +1,11 @@
--- Which refusal a command meets: the first in their order that holds. Want of memory comes after them all.
+-- SPDX-License-Identifier: MIT
+-- Which refusal a command gets: the first in their order that applies. Running out of memory comes after all of them.
 use Rattle.std.specs.Prelude.{ℕ, ◌≡◌, ◌||◌, Option, Some, None, Result, Ok, Err, List, nat_lt, nat_le, if◌then◌else◌, find, is_some}
 use Rattle.std.specs.List.{slice_get}
 use Rattle.po_unit.specs.Meaning.{Meaning}
 use Rattle.po_unit.specs.declared.decl.Decl.{Decl}
 use Rattle.po_unit.specs.declared.decl.EntryRef.{EntryRef}
-use Rattle.po_unit.specs.declared.fault.IndexFault.{IndexFault}
+use Rattle.po_unit.specs.declared.error.IndexError.{IndexError}
 use Rattle.po_unit.specs.Numbering.{flat_number}
 use Rattle.po_calls.specs.declared.end.CallStatus.{CallStatus}
 use Rattle.po_calls.specs.declared.end.CallStatus.TheVariants.{Unknown, Waiting, Ended}
@@ -17,8 +18,8 @@ use Rattle.po_core.specs.declared.refusal.Refusal.TheVariants.{NoSuchEntry, Priv
 use Rattle.po_core.specs.RefusalNumbers.{refusal_of}
 use Rattle.po_core.specs.Tickets.{CoreView}
 
--- the refusal of a reference that has no flat number, and else the other refusal
-abbrev pub if_unindexed : Result ℕ IndexFault → Option Refusal → Option Refusal
+-- the refusal of a reference that has no flat number, or else the other refusal
+abbrev pub if_unindexed : Result ℕ IndexError → Option Refusal → Option Refusal
 if_unindexed (Ok n) other = other
 if_unindexed (Err fault) other = Some (refusal_of fault)
 
@@ -27,17 +28,17 @@ abbrev pub if_private : Option Decl → Option Refusal → Option Refusal
 if_private None other = Some NoSuchEntry
 if_private (Some d) other = if d.public then other else Some PrivateEntry
 
--- the refusal of a call from outside on the entry that a reference names, and else the other refusal
+-- the refusal of a call from outside on the entry that a reference names, or else the other refusal
 abbrev pub entry_refusal : List Decl → EntryRef → Option Refusal → Option Refusal
 entry_refusal shape reference other =
-    if_private (slice_get shape reference.entry) (if_unindexed (flat_number shape reference) other)
+    if_private (slice_get shape reference.declaration) (if_unindexed (flat_number shape reference) other)
 
--- the one refusal, and else the other
+-- the one refusal, or else the other
 abbrev pub or_else : Option Refusal → Option Refusal → Option Refusal
 or_else None other = other
 or_else (Some why) other = Some why
 
--- the refusal of a call where as many are uncollected as may be
+-- the refusal of a call if as many are uncollected as may be
 abbrev pub if_full : Option ℕ → List (Option ℕ) → Option Refusal
 if_full None tickets = None
 if_full (Some most) tickets = if nat_le most (uncollected tickets) then Some TooManyCalls else None
@@ -47,19 +48,19 @@ abbrev pub if_uncounted : Option ℕ → ℕ → Option Refusal
 if_uncounted None place = None
 if_uncounted (Some most) place = if nat_le 18_446_744_073_709_551_615 place then Some NumbersSpent else None
 
--- Where nothing else refuses a command, memory alone may be wanting, and that only where the number of calls isn't fixed.
+-- If nothing else refuses a command, only a lack of memory may, and only if the number of calls isn't fixed.
 abbrev pub MayRefuse : Option ℕ → Option Refusal → Refusal → Type 0
 MayRefuse capacity (Some why) refusal = refusal ≡ why
 MayRefuse capacity None refusal = (capacity ≡ None) × (refusal ≡ OutOfMemory)
 
--- the refusal of an attempt to cancel the call that is there
+-- the refusal of an attempt to cancel a call with this status
 abbrev pub cancel_refusal : {V : Type 0} → CallStatus V → Option Refusal
 cancel_refusal Unknown = Some UnknownCall
 cancel_refusal Waiting = None
 cancel_refusal (Ended end) = Some AlreadyEnded
 
 module _ {S V : Type 0} where
-  -- an operation on a finalized object is detected (9.4)
+  -- the refusal of an operation on a finalized object, or else the other refusal (9.4)
   abbrev pub if_finalized : ObjectState S V → Option Refusal → Option Refusal
   if_finalized s other = if s.finalized then Some Finalized else other
 
@@ -74,21 +75,21 @@ module _ {S V : Type 0} where
   abbrev pub call_refusal : CoreView S V → EntryRef → Option Refusal
   call_refusal core reference = or_else (issue_refusal core.object reference) (if_full core.capacity core.tickets)
 
-  -- there is no place for a further procedure's event, nor for a cut
+  -- the refusal of a procedure or a cut if no place is left for it
   abbrev pub if_spent : View S V → Option Refusal
   if_spent view = if nat_le 18_446_744_073_709_551_615 (next_place view) then Some NumbersSpent else None
 
-  abbrev pub run_refusal : Meaning S V → View S V → ℕ → Option Refusal
-  run_refusal m view op =
+  abbrev pub procedure_refusal : Meaning S V → View S V → ℕ → Option Refusal
+  procedure_refusal m view op =
       if nat_le (m.procedures view.state.unit) op then Some NoSuchOperation else if_finalized view.state (if_spent view)
 
-  abbrev pub read_refusal : Meaning S V → View S V → ℕ → Option Refusal
-  read_refusal m view op =
+  abbrev pub function_refusal : Meaning S V → View S V → ℕ → Option Refusal
+  function_refusal m view op =
       if nat_le (m.functions view.state.unit) op then Some NoSuchOperation else if_finalized view.state None
 
   -- the refusal of an attempt to cancel the call with number n
-  abbrev pub abort_refusal : View S V → ℕ → Option Refusal
-  abort_refusal view n =
+  abbrev pub cancel_number_refusal : View S V → ℕ → Option Refusal
+  cancel_number_refusal view n =
       if nat_lt n view.setup.first_number || nat_le view.state.next n
       then Some UnknownCall
       else (if is_some (find (has_number n) view.state.waiting) then None else Some AlreadyEnded)

@@ -1,3 +1,4 @@
+-- SPDX-License-Identifier: MIT
 -- What a protected object is made with.
 use Rattle.std.specs.Prelude.{ℕ, List, Option}
 use Rattle.po_unit.specs.declared.decl.Decl.{Decl}
@@ -8,7 +9,7 @@ pub record Setup (S : Type 0) : Type 0 where
   pub opening : S
   pub shape : List Decl
   pub order : Order
-  -- how many calls may be queued on an entry, where there is such a limit
+  -- how many calls may be queued on an entry, if there is a limit
   pub max_queue : Option ℕ
   -- the number of the first call
   pub first_number : ℕ

@@ -1,3 +1,4 @@
+-- SPDX-License-Identifier: MIT
 -- What contracts see of a core: its object, its tickets, and how many calls may be uncollected (this project's own).
 use Rattle.std.specs.Prelude.{ℕ, ◌≡◌, ◌<◌, ◌≤◌, List, Option, Some, None, if◌then◌else◌}
 use Rattle.po_calls.specs.declared.end.End.{End}
@@ -10,17 +11,17 @@ use Rattle.po_core.specs.View.{View}
 -- The object, and its tickets.
 pub record CoreView (S V : Type 0) : Type 0 where
   pub object : View S V
-  -- by key the number of the uncollected call whose ticket has that key, if there is one
+  -- by key, the number of the uncollected call whose ticket has that key, if there is one
   pub tickets : List (Option ℕ)
-  -- how many calls may be uncollected at once, where that number is fixed
+  -- how many calls may be uncollected at once, if that number is fixed
   pub capacity : Option ℕ
 
 module _ {S V : Type 0} where
-  -- how many calls of an object in this state may be uncollected at once, where that number is fixed
+  -- how many calls of an object in this state may be uncollected at once, if that number is fixed
   abbrev pub capacity_of : StateView S V → Option ℕ
   capacity_of s = if s.is_fixed then Some s.most else None
 
-  -- where the call of a ticket is
+  -- the status of a ticket's call
   abbrev pub status_of_ticket : CoreView S V → Ticket → CallStatus V
   status_of_ticket core ticket = status_among core.object.state.waiting core.object.state.ended core.tickets ticket
 

@@ -1,4 +1,5 @@
--- What an object keeps of its history, whether a record has it or proofs alone (this project's own).
+-- SPDX-License-Identifier: MIT
+-- What an object keeps of its history, whether in a record or for proofs alone (this project's own).
 use Rattle.std.specs.Prelude.{ℕ, ◌≡◌, ◌≤◌, ◌+◌, ◌*◌, List, length, Option, None}
 use Rattle.po_unit.specs.Meaning.{Meaning}
 use Rattle.po_history.specs.declared.event.Event.{Event}
@@ -13,14 +14,14 @@ use Rattle.po_engine.specs.StateView.{StateView}
 abbrev pub opening_of : {S V : Type 0} → Setup S → Base S V
 opening_of setup = opening_base setup.opening setup.first_number setup.first_place
 
--- The places of the events that may yet follow fit 128 bits, also where all calls are issued that may be: each brings 259
--- events at most.
+-- The places of the events that may still follow fit 128 bits, even if all calls are issued that may be: each causes at most
+-- 259 events.
 abbrev pub ArePlaces : ℕ → ℕ → ℕ → Type 0
 ArePlaces place owed next = place + owed + 4_777_706_715_090_773_868_544 ≤ 170_141_183_460_469_231_731_687_303_715_884_105_728 + 259 * next
 
--- What an object keeps in the middle of a protected action: its history from the base; the place of the next event, and
--- that the places of those that may follow fit; where each waiting call arrived; the entry that was served last; and how
--- many calls had ended before the command.
+-- What an object keeps in the middle of a protected action: its history from the base; the place of the next event, and the
+-- fact that the places of those that may follow fit; the place at which each waiting call arrived; the entry that was served
+-- last; and how many calls had ended before the command.
 pub record IsTracked {S V : Type 0} (m : Meaning S V) (setup : Setup S) (b : Base S V) (s : StateView S V) (events : List (Event V)) (next : ℕ) (served : Option ℕ) : Type 0 where
   pub history : IsHistory m setup b s.state events
   pub last : served ≡ last_from b.last events

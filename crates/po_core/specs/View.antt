@@ -1,3 +1,4 @@
+-- SPDX-License-Identifier: MIT
 -- What contracts see of a protected object: what it was made with, its history since the base, and its present state.
 use Rattle.std.specs.Prelude.{ℕ, ◌≡◌, ◌+◌, List, [], ◌&&◌, nat_lt, nat_le, count_by, length, drop, if◌then◌else◌, Option}
 use Rattle.po_unit.specs.Meaning.{Meaning}
@@ -14,7 +15,7 @@ use Rattle.po_engine.specs.Pick.{last_from}
 
 pub record View (S V : Type 0) : Type 0 where
   pub setup : Setup S
-  -- from where the history replays
+  -- what the history replays from
   pub base : Base S V
   -- the events since the base
   pub events : List (Event V)
@@ -33,7 +34,7 @@ module _ {S V : Type 0} where
     ended_before = 0;
   }
 
-  -- the state from which the history replays
+  -- the state that the history replays from
   abbrev pub base_state : View S V → ObjectState S V
   base_state view = state_at view.base view.state.ended
 
@@ -45,7 +46,7 @@ module _ {S V : Type 0} where
   abbrev pub next_place : View S V → ℕ
   next_place view = view.base.place + length view.events
 
-  -- the calls that the last command ended, in that order
+  -- the calls that the last command ended, in the order in which they ended
   abbrev pub ended_now : View S V → List (Ended V)
   ended_now view = drop view.ended_before view.state.ended
 

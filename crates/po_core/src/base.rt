@@ -1,4 +1,5 @@
-//! From where the present history of an object replays.
+// SPDX-License-Identifier: MIT
+//! The base that the present history of an object replays from.
 
 ghost use Rattle.std.specs.Prelude.{◌≡◌, map, IfOk};
 ghost use Rattle.po_core.specs.Base.{opening_base};
@@ -8,9 +9,9 @@ use po_unit::Unit;
 use std::alloc::{AllocError, Global};
 use std::marker::Model;
 
-/// The picture of an object that all events before the present ones led to: at first the opening of the object, then the
-/// picture at the last cut of its history. The ends of the calls that had ended by then stay with the object:
-/// `Core::ended_at_base` gives them.
+/// The picture of an object after all events before the present ones: at first the opening of the object, later the picture at
+/// the last cut of its history. The ends of the calls that had ended by then stay with the object: `Core::ended_at_base`
+/// returns them.
 #[derive(Drop)]
 pub struct Base<U: Unit> {
     pub(crate) unit: U,
@@ -46,7 +47,7 @@ impl<U: Unit> Model for Base<U> {
 }
 
 impl<U: Unit> Base<U> {
-    /// The base of an object that was just made: no call waits, and the first call and event have these numbers.
+    /// Makes the base of a new object: no call waits, and the first call and event have these numbers.
     pub(crate) fn new(alloc: Global, unit: U, first_number: u64, first_place: u64) -> Base<U>
         ensures { result ≡ opening_base unit first_number first_place }
     {
@@ -63,14 +64,14 @@ impl<U: Unit> Base<U> {
         }
     }
 
-    /// The data of the object.
+    /// Returns the data of the object.
     pub fn unit(&self) -> &U
         ensures { result.now ≡ self.now.unit }
     {
         &self.unit
     }
 
-    /// The calls that waited, with the places at which they arrived, in order of arrival.
+    /// Returns the calls that waited, with the places at which they arrived, in order of arrival.
     pub fn waiting(&self) -> &[Arrival<U::Value>]
         ensures calls { map (λ a. a.call) result.now ≡ self.now.waiting }
         ensures places { map (λ a. a.place) result.now ≡ self.now.arrivals }
@@ -78,49 +79,49 @@ impl<U: Unit> Base<U> {
         &self.waiting
     }
 
-    /// How many calls had ended.
+    /// Returns how many calls had ended.
     pub fn ended(&self) -> usize
         ensures { result ≡ self.now.ended }
     {
         self.ended
     }
 
-    /// The number that the next call was to get.
-    pub fn next(&self) -> u64
+    /// Returns the number that the next call was to get.
+    pub fn next_number(&self) -> u64
         ensures { result ≡ self.now.next }
     {
         self.next
     }
 
-    /// The clock.
+    /// Returns the clock.
     pub fn clock(&self) -> u64
         ensures { result ≡ self.now.clock }
     {
         self.clock
     }
 
-    /// Whether the object was finalized.
+    /// Returns whether the object was finalized.
     pub fn is_finalized(&self) -> bool
         ensures { result ≡ self.now.finalized }
     {
         self.finalized
     }
 
-    /// The place in the whole history of the first event since then.
+    /// Returns the place in the whole history of the first event since then.
     pub fn place(&self) -> u64
         ensures { result ≡ self.now.place }
     {
         self.place
     }
 
-    /// How many procedures had run.
+    /// Returns how many procedures had run.
     pub fn ran(&self) -> u64
         ensures { result ≡ self.now.ran }
     {
         self.ran
     }
 
-    /// The entry that servicing had served last, if it had served any.
+    /// Returns the entry that had been served last, if any had been.
     pub fn last(&self) -> Option<u16>
         ensures { result ≡ self.now.last }
     {

@@ -1,4 +1,5 @@
-//! A core that takes all its memory when it is made: how it is made, and how many calls it was given.
+// SPDX-License-Identifier: MIT
+//! A core that takes all its memory when it is made: how it is made, and how many calls were issued.
 
 ghost use Rattle.std.specs.Prelude.{◌≡◌, ◌≢◌, ◌+◌, [], ◌↔◌, count_by, Some, IfOk};
 ghost use Rattle.po_unit.specs.Numbering.{entry_count};
@@ -6,19 +7,19 @@ ghost use Rattle.po_core.specs.Base.{is_issue};
 ghost use Rattle.po_core.specs.View.{opening_view};
 ghost use Rattle.po_core.specs.Cutting.{AreVolumes};
 
+use crate::core_in_action::CoreInAction;
 use crate::object_core::Core;
-use crate::tracked_object::TrackedObject;
 use crate::unrecorded::Unrecorded;
-use crate::{MakeFault, Setup, Start};
+use crate::{MakeError, Setup, Start};
 use po_engine::State;
 use po_queues::Order;
 use po_unit::{Shape, Unit};
 use std::alloc::Global;
 
 impl<U: Unit + Drop> Core<U, Unrecorded<U>> {
-    /// An object with this unit, from given numbers, with all memory for `most` uncollected calls at once.
+    /// Makes an object with this unit, from the given numbers, with all memory for `most` uncollected calls at once.
     ///
-    /// It fails where the unit hasn't as many entries as the shape, or where memory is wanting.
+    /// Fails if the unit and the shape have different numbers of entries, or if memory runs out.
     pub fn with_capacity(
         alloc: Global,
         unit: U,
@@ -26,7 +27,7 @@ impl<U: Unit + Drop> Core<U, Unrecorded<U>> {
         order: Order,
         start: Start,
         most: usize,
-    ) -> Result<Core<U, Unrecorded<U>>, MakeFault>
+    ) -> Result<Core<U, Unrecorded<U>>, MakeError>
         ensures core { IfOk result (λ c. c ≡ record {
           object = opening_view (record {
             opening = unit;
@@ -39,40 +40,40 @@ impl<U: Unit + Drop> Core<U, Unrecorded<U>> {
           tickets = [];
           capacity = Some most;
         }) }
-        ensures mismatch { (result ≡ Err MakeFault.ShapeMismatch) ↔
+        ensures mismatch { (result ≡ Err MakeError.ShapeMismatch) ↔
             (U.meaning.entries unit ≢ entry_count shape) }
         // No event came before.
         ensures volumes { IfOk result (λ c. AreVolumes U.meaning c.object []) }
     {
         if unit.entries() != shape.total() {
-            return Err(MakeFault::ShapeMismatch);
+            return Err(MakeError::ShapeMismatch);
         }
         let setup = Setup::new(unit, shape, order, start);
         let now = setup.opening().copy()?;
         let state = State::with_capacity(alloc, now, setup.first_number(), most)?;
         Ok(Core {
-            tracked: TrackedObject::new(setup, state, Unrecorded::new()),
+            in_action: CoreInAction::new(setup, state, Unrecorded::new()),
         })
     }
 }
 
-impl<U: Unit> TrackedObject<U, Unrecorded<U>> {
-    /// How many calls were issued: the history, which proofs alone know, has as many.
+impl<U: Unit> CoreInAction<U, Unrecorded<U>> {
+    /// Returns how many calls were issued. The history, which only proofs know, has as many.
     fn issued(&self) -> u64
         ensures counted { result ≡ count_by is_issue self.now.object.events }
         ensures numbered { self.now.object.state.next ≡ self.now.object.setup.first_number + result }
     {
-        self.state.next() - self.setup.first_number()
+        self.state.next_number() - self.setup.first_number()
     }
 }
 
 impl<U: Unit> Core<U, Unrecorded<U>> {
-    /// How many calls were issued: the history, which proofs alone know, has as many.
+    /// Returns how many calls were issued. The history, which only proofs know, has as many.
     pub fn issued(&self) -> u64
         ensures counted { result ≡ count_by is_issue self.now.object.events }
         // They are numbered from the first number on.
         ensures numbered { self.now.object.state.next ≡ self.now.object.setup.first_number + result }
     {
-        self.tracked.issued()
+        self.in_action.issued()
     }
 }

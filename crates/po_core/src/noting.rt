@@ -1,4 +1,5 @@
-//! The calls that an event ended are noted in a record, once the event is.
+// SPDX-License-Identifier: MIT
+//! How a record notes the calls that an event ended, after it has noted the event.
 
 ghost use Rattle.std.specs.Prelude.{◌≡◌, ◌<◌, ◌≤◌, ◌+◌, ◌-◌, ◌∷◌, ◌++◌, ℕ, [], None, All, count_by, length, take, vec_len, vec_capacity};
 ghost use Rattle.po_engine.specs.Ending.{has_ended};
@@ -9,7 +10,7 @@ use po_engine::{Ended, State};
 use po_history::History;
 use po_unit::Unit;
 
-/// Notes further calls that have ended, and how.
+/// Notes further calls that have ended, and how they ended.
 fn note_ends<V: Copy>(history: &mut History<V>, ended: &mut Vec<Ended<V>>, now: &[Ended<V>])
     requires room { vec_len ended.old + length now.now ≤ vec_capacity ended.old }
     requires once { (n : ℕ) → count_by (has_ended n) (ended.old.items ++ now.now) ≤ 1 }
@@ -27,8 +28,8 @@ fn note_ends<V: Copy>(history: &mut History<V>, ended: &mut Vec<Ended<V>>, now: 
     }
 }
 
-/// Notes the calls that the last event ended, and gives back the room that the state after it doesn't need. So many of
-/// the calls that the command ended are noted already.
+/// Notes the calls that the last event ended, and gives back the room that the state after it doesn't need. Of the calls that
+/// the command ended, the first `noted` are noted already.
 pub(crate) fn note_calls<U: Unit>(
     history: &mut History<U::Value>,
     ended: &mut Vec<Ended<U::Value>>,

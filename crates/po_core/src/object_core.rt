@@ -1,3 +1,4 @@
+// SPDX-License-Identifier: MIT
 //! A protected object between two protected actions: its core, which carries out every operation on it.
 
 ghost use Rattle.std.specs.Prelude.{◌≡◌, ◌∷◌, ◌++◌, [], slice_index, find, option_map, None, Some, Option, true, IfOk, IfErr, IfNone, IfSome, is_some, OnSome, MatchResult, OnOk, OnErr};
@@ -6,19 +7,19 @@ ghost use Rattle.po_engine.specs.Tickets.{number_at, is_live, SetsTicket};
 ghost use Rattle.po_engine.specs.WaitingCalls.{has_number, is_of};
 ghost use Rattle.po_engine.specs.ObjectState.{counts_in};
 ghost use Rattle.po_core.specs.View.{ended_now, next_place};
-ghost use Rattle.po_core.specs.ProtectedAction.{IsProtectedAction, IsAbortOf, after_action, after_abort, abort_answer};
+ghost use Rattle.po_core.specs.ProtectedAction.{IsProtectedAction, IsAttemptOf, after_action, after_attempt, attempt_answer};
 ghost use Rattle.po_core.specs.Commands.{entry_of, issue_of, reply_of};
 ghost use Rattle.po_core.specs.Headline.{Headline};
 ghost use Rattle.po_core.specs.Cutting.{KeepsVolumes, AreVolumes};
 ghost use Rattle.po_core.specs.Tickets.{status_of_ticket, end_of_ticket, AreIssued};
-ghost use Rattle.po_core.specs.Refusals.{MayRefuse, entry_refusal, call_refusal, run_refusal, read_refusal, cancel_refusal, tick_refusal, finalized_refusal, count_refusal};
+ghost use Rattle.po_core.specs.Refusals.{MayRefuse, entry_refusal, call_refusal, procedure_refusal, function_refusal, cancel_refusal, tick_refusal, finalized_refusal, count_refusal};
 ghost use Rattle.po_core.specs.declared.refusal.Refusal.{Refusal};
 
-use crate::Aborted;
+use crate::Attempt;
+use crate::core_in_action::CoreInAction;
 use crate::record::Record;
 use crate::recorded::Recorded;
 use crate::refusal::Refusal;
-use crate::tracked_object::TrackedObject;
 use crate::unrecorded::Unrecorded;
 use po_calls::{Call, CallStatus, Deadline, End, Ticket};
 use po_engine::Ended;
@@ -29,15 +30,15 @@ use std::marker::Model;
 
 /// The core of a protected object (9.4), with a record of what has happened: in memory, or for proofs alone.
 ///
-/// Each command is one protected action of one thread: its own event, and the servicing of the entry queues that
-/// follows it (9.5.1, 9.5.3). Between two commands the headline holds, which `headline` states.
+/// Each command is one protected action of one thread: its own event, and then the servicing of the entry queues (9.5.1,
+/// 9.5.3). Between two commands the headline holds, which `headline` states.
 #[derive(Drop)]
 pub struct Core<U: Unit, R: Record<U> = Recorded<U>> {
-    pub(crate) tracked: TrackedObject<U, R>,
+    pub(crate) in_action: CoreInAction<U, R>,
 }
 
-/// A core that takes all its memory when it is made, and keeps no record: its history is known to proofs alone. So many
-/// calls at most may be uncollected at once.
+/// A core that takes all its memory when it is made, and keeps no record: only proofs know its history. The number of calls
+/// that may be uncollected at once is fixed.
 pub type BoundedCore<U> = Core<U, Unrecorded<U>>;
 
 impl<U: Unit, R: Record<U>> Model for Core<U, R> {
@@ -46,18 +47,19 @@ impl<U: Unit, R: Record<U>> Model for Core<U, R> {
 
     ghost Value = { CoreView U U.Value };
 
-    ghost view = { λ c. c.tracked };
+    ghost view = { λ c. c.in_action };
 
     ghost invariant = { λ c. record {
-      rest : IsAtRest U.meaning c.tracked.object.state;
-      issued : TicketsAreIssued c.tracked;
+      rest : IsAtRest U.meaning c.in_action.object.state;
+      issued : TicketsAreIssued c.in_action;
     } };
 }
 
 impl<U: Unit, R: Record<U>> Core<U, R> {
     /// Issues a call on an entry (9.5.3).
     ///
-    /// Refused as `NoSuchEntry`, `PrivateEntry`, `BadIndex`, `Finalized` and `NumbersSpent`; where the number of calls is fixed `TooManyCalls`, and else `OutOfMemory`.
+    /// Refused as `NoSuchEntry`, `PrivateEntry`, `BadIndex`, `Finalized` or `NumbersSpent`; also as `TooManyCalls` if the
+    /// number of calls is fixed, and as `OutOfMemory` if it isn't.
     pub fn issue(
         &mut self,
         owner: u16,
@@ -81,22 +83,22 @@ impl<U: Unit, R: Record<U>> Core<U, R> {
         ensures unchanged { OnErr result (self.new ≡ self.old) }
     {
         let e = self.entry_from_outside(entry)?;
-        if self.tracked.state().is_finalized() {
+        if self.in_action.state().is_finalized() {
             return Err(Refusal::Finalized);
         }
-        self.tracked.recall_invariant();
-        if self.tracked.state().next() == u64::MAX {
+        self.in_action.recall_invariant();
+        if self.in_action.state().next_number() == u64::MAX {
             return Err(Refusal::NumbersSpent);
         }
-        let ticket = self.tracked.issue(owner, e, value, deadline)?;
-        self.tracked.settle();
+        let ticket = self.in_action.issue(owner, e, value, deadline)?;
+        self.in_action.settle();
         Ok(ticket)
     }
 
-    /// Runs a protected procedure (9.5.1). The reply is a value, or the number of the exception that it propagates.
+    /// Runs a protected procedure (9.5.1). Its reply is a value, or the number of the exception that it propagates.
     ///
-    /// Refused as `NoSuchOperation`, `Finalized` and `NumbersSpent`; where the number of calls isn't fixed also `OutOfMemory`.
-    pub fn run(
+    /// Refused as `NoSuchOperation`, `Finalized` or `NumbersSpent`; also as `OutOfMemory` if the number of calls isn't fixed.
+    pub fn procedure(
         &mut self,
         owner: u16,
         op: u16,
@@ -109,92 +111,92 @@ impl<U: Unit, R: Record<U>> Core<U, R> {
         ensures volumes { OnOk result (KeepsVolumes U.meaning self.old.object self.new.object) }
         ensures action { IfOk result (λ reply.
             IsProtectedAction U.meaning self.old.object self.new.object (Event.Ran owner op value reply)) }
-        ensures allowed { OnOk result (run_refusal U.meaning self.old.object op ≡ None) }
-        ensures refused { IfErr result (MayRefuse self.old.capacity (run_refusal U.meaning self.old.object op)) }
+        ensures allowed { OnOk result (procedure_refusal U.meaning self.old.object op ≡ None) }
+        ensures refused { IfErr result (MayRefuse self.old.capacity (procedure_refusal U.meaning self.old.object op)) }
         ensures unchanged { OnErr result (self.new ≡ self.old) }
     {
-        if op >= self.tracked.state().procedures() {
+        if op >= self.in_action.state().procedures() {
             return Err(Refusal::NoSuchOperation);
         }
-        if self.tracked.state().is_finalized() {
+        if self.in_action.state().is_finalized() {
             return Err(Refusal::Finalized);
         }
-        if self.tracked.place() >= u128::from(u64::MAX) {
+        if self.in_action.place() >= u128::from(u64::MAX) {
             return Err(Refusal::NumbersSpent);
         }
-        self.tracked.recall_invariant();
-        let reply = self.tracked.run(owner, op, value)?;
-        self.tracked.settle();
+        self.in_action.recall_invariant();
+        let reply = self.in_action.procedure(owner, op, value)?;
+        self.in_action.settle();
         Ok(reply)
     }
 
-    /// What a protected function replies (9.5.1). Nothing changes, and no memory is taken.
+    /// Returns what a protected function replies (9.5.1). Nothing changes, and no memory is taken.
     ///
-    /// Refused as `NoSuchOperation` and `Finalized`.
-    pub fn read(&self, op: u16, value: U::Value) -> Result<Result<U::Value, u32>, Refusal>
+    /// Refused as `NoSuchOperation` or `Finalized`.
+    pub fn function(&self, op: u16, value: U::Value) -> Result<Result<U::Value, u32>, Refusal>
         ensures reply { IfOk result (λ reply. reply ≡
             U.meaning.function self.now.object.state.unit op value
             (counts_in U.meaning self.now.object.state)) }
         ensures refused { MatchResult result
-            (λ _. read_refusal U.meaning self.now.object op ≡ None)
-            (λ r. read_refusal U.meaning self.now.object op ≡ Some r) }
+            (λ _. function_refusal U.meaning self.now.object op ≡ None)
+            (λ r. function_refusal U.meaning self.now.object op ≡ Some r) }
     {
-        if op >= self.tracked.state().functions() {
+        if op >= self.in_action.state().functions() {
             return Err(Refusal::NoSuchOperation);
         }
-        if self.tracked.state().is_finalized() {
+        if self.in_action.state().is_finalized() {
             return Err(Refusal::Finalized);
         }
-        Ok(self.tracked.state().read(op, value))
+        Ok(self.in_action.state().function(op, value))
     }
 
     /// Attempts to cancel the call of a ticket (9.5.3, 9.5.4). No memory is taken.
     ///
-    /// Refused as `UnknownCall`, where the ticket is of no uncollected call, and `AlreadyEnded`.
-    pub fn cancel(&mut self, ticket: Ticket) -> Result<Aborted, Refusal>
+    /// Refused as `UnknownCall` if the ticket is of no uncollected call, and as `AlreadyEnded` if the call has ended.
+    pub fn cancel(&mut self, ticket: Ticket) -> Result<Attempt, Refusal>
         ensures after { OnOk result (self.new ≡ record self.old {
-          object = after_abort U.meaning self.old.object ticket.number;
+          object = after_attempt U.meaning self.old.object ticket.number;
         }) }
-        ensures answer { IfOk result (λ aborted. aborted ≡ abort_answer self.old.object ticket.number) }
+        ensures answer { IfOk result (λ aborted. aborted ≡ attempt_answer self.old.object ticket.number) }
         ensures volumes { OnOk result (KeepsVolumes U.meaning self.old.object self.new.object) }
-        ensures action { OnOk result (IsAbortOf U.meaning self.old.object self.new.object ticket.number) }
+        ensures action { OnOk result (IsAttemptOf U.meaning self.old.object self.new.object ticket.number) }
         ensures refused { MatchResult result
             (λ _. cancel_refusal (status_of_ticket self.old ticket) ≡ None)
             (λ r. cancel_refusal (status_of_ticket self.old ticket) ≡ Some r) }
         ensures unchanged { OnErr result (self.new ≡ self.old) }
     {
-        let call = self.tracked.cancellable(ticket)?;
+        let call = self.in_action.cancellable(ticket)?;
         Ok(self.cancel_waiting(ticket, call))
     }
 
-    /// Attempts to cancel this call, which waits.
-    pub(crate) fn cancel_waiting(&mut self, ticket: Ticket, call: Call<U::Value>) -> Aborted
+    /// Attempts to cancel this waiting call.
+    pub(crate) fn cancel_waiting(&mut self, ticket: Ticket, call: Call<U::Value>) -> Attempt
         requires live { is_live self.old.tickets ticket ≡ true }
         requires found { find (has_number ticket.number) self.old.object.state.waiting ≡ Some call }
         ensures after { self.new ≡ record self.old {
-          object = after_abort U.meaning self.old.object ticket.number;
+          object = after_attempt U.meaning self.old.object ticket.number;
         } }
-        ensures answer { result ≡ abort_answer self.old.object ticket.number }
+        ensures answer { result ≡ attempt_answer self.old.object ticket.number }
         ensures volumes { KeepsVolumes U.meaning self.old.object self.new.object }
-        ensures action { IsAbortOf U.meaning self.old.object self.new.object ticket.number }
+        ensures action { IsAttemptOf U.meaning self.old.object self.new.object ticket.number }
     {
-        self.tracked.recall_invariant();
+        self.in_action.recall_invariant();
         if !call.without_abort {
-            self.tracked.cancel(ticket);
-            self.tracked.settle();
-            return Aborted::Cancelled;
+            self.in_action.attempt_cancel(ticket);
+            self.in_action.settle();
+            return Attempt::Cancelled;
         }
         if call.aborted {
-            self.tracked.pass();
+            self.in_action.pass();
         } else {
-            self.tracked.cancel(ticket);
+            self.in_action.attempt_cancel(ticket);
         }
-        Aborted::Kept
+        Attempt::Kept
     }
 
-    /// Raises the clock to t, if it is lower, and answers the clock.
+    /// Raises the clock to t if it is lower, and returns the clock.
     ///
-    /// Refused as `Finalized`; where the number of calls is fixed `NumbersSpent`, and else `OutOfMemory`.
+    /// Refused as `Finalized`; also as `NumbersSpent` if the number of calls is fixed, and as `OutOfMemory` if it isn't.
     pub fn tick(&mut self, t: u64) -> Result<u64, Refusal>
         ensures after { OnOk result (self.new ≡ record self.old {
           object = after_action U.meaning self.old.object (Event.Tick t);
@@ -207,12 +209,12 @@ impl<U: Unit, R: Record<U>> Core<U, R> {
         ensures refused { IfErr result (MayRefuse self.old.capacity (tick_refusal self.old)) }
         ensures unchanged { OnErr result (self.new ≡ self.old) }
     {
-        if self.tracked.state().is_finalized() {
+        if self.in_action.state().is_finalized() {
             return Err(Refusal::Finalized);
         }
-        self.tracked.recall_invariant();
-        self.tracked.tick(t)?;
-        self.tracked.settle();
+        self.in_action.recall_invariant();
+        self.in_action.tick(t)?;
+        self.in_action.settle();
         Ok(self.clock())
     }
 
@@ -232,22 +234,22 @@ impl<U: Unit, R: Record<U>> Core<U, R> {
             (λ r. finalized_refusal self.old.object ≡ Some r) }
         ensures unchanged { OnErr result (self.new ≡ self.old) }
     {
-        if self.tracked.state().is_finalized() {
+        if self.in_action.state().is_finalized() {
             return Err(Refusal::Finalized);
         }
-        self.tracked.recall_invariant();
-        self.tracked.finalize();
+        self.in_action.recall_invariant();
+        self.in_action.finalize();
         Ok(())
     }
 
-    /// Where the call of a ticket is.
+    /// Returns whether the call of a ticket waits, has ended or is unknown.
     pub fn end_of(&self, ticket: Ticket) -> CallStatus<U::Value>
         ensures { result ≡ status_of_ticket self.now ticket }
     {
-        self.tracked.status_of(ticket)
+        self.in_action.status_of(ticket)
     }
 
-    /// Takes the end of the call of a ticket, if it has ended, and makes the ticket Unknown for good. Else nothing
+    /// Takes the end of the call of a ticket, if it has ended, and makes the ticket Unknown for good. Otherwise nothing
     /// changes.
     pub fn collect(&mut self, ticket: Ticket) -> Option<End<U::Value>>
         ensures end { result ≡ end_of_ticket self.old ticket }
@@ -256,12 +258,12 @@ impl<U: Unit, R: Record<U>> Core<U, R> {
         ensures capacity { self.new.capacity ≡ self.old.capacity }
         ensures left { IfNone result (self.new ≡ self.old) }
     {
-        self.tracked.collect(ticket)
+        self.in_action.collect(ticket)
     }
 
-    /// How many calls are queued on an entry: the attribute Count (9.9). Private entries are counted too.
+    /// Returns how many calls are queued on an entry: the attribute Count (9.9). Private entries have a count too.
     ///
-    /// Refused as `NoSuchEntry` and `BadIndex`.
+    /// Refused as `NoSuchEntry` or `BadIndex`.
     pub fn count(&self, entry: EntryRef) -> Result<u64, Refusal>
         ensures count { IfOk result (λ n. n ≡
             slice_index (counts_in U.meaning self.now.object.state)
@@ -270,125 +272,125 @@ impl<U: Unit, R: Record<U>> Core<U, R> {
             (λ _. count_refusal self.now.object entry ≡ None)
             (λ r. count_refusal self.now.object entry ≡ Some r) }
     {
-        let e = self.tracked.setup().shape().flat(entry)?;
-        self.tracked.recall_invariant();
-        Ok(self.tracked.state().count(e))
+        let e = self.in_action.setup().shape().flat(entry)?;
+        self.in_action.recall_invariant();
+        Ok(self.in_action.state().count(e))
     }
 
-    /// The calls that the last command that wasn't refused ended, in the order in which they ended.
+    /// Returns the calls that were ended by the last command that wasn't refused, in the order in which they ended.
     pub fn ended_now(&self) -> &[Ended<U::Value>]
         ensures { result.now ≡ ended_now self.now.object }
     {
-        self.tracked.ended_now()
+        self.in_action.ended_now()
     }
 
-    /// The number of the owner's earliest queued call.
-    pub fn waiting_of(&self, owner: u16) -> Option<u64>
+    /// Returns the number of the owner's earliest queued call.
+    pub fn waiting_number_of(&self, owner: u16) -> Option<u64>
         ensures { result ≡ option_map (λ x. x.number) (find (is_of owner) self.now.object.state.waiting) }
     {
-        Some(self.tracked.state().waiting_of(owner)?.number)
+        Some(self.in_action.state().waiting_ticket_of(owner)?.number)
     }
 
-    /// The ticket of the owner's earliest queued call.
-    pub fn ticket_of(&self, owner: u16) -> Option<Ticket>
+    /// Returns the ticket of the owner's earliest queued call.
+    pub fn waiting_ticket_of(&self, owner: u16) -> Option<Ticket>
         ensures number { option_map (λ t. t.number) result ≡
             option_map (λ x. x.number) (find (is_of owner) self.now.object.state.waiting) }
         ensures live { IfSome result (λ t. is_live self.now.tickets t ≡ true) }
     {
-        self.tracked.ticket_of(owner)
+        self.in_action.waiting_ticket_of(owner)
     }
 
-    /// The number that the next call gets.
-    pub fn next(&self) -> u64
+    /// Returns the number that the next call gets.
+    pub fn next_number(&self) -> u64
         ensures { result ≡ self.now.object.state.next }
     {
-        self.tracked.state().next()
+        self.in_action.state().next_number()
     }
 
-    /// The clock.
+    /// Returns the clock.
     pub fn clock(&self) -> u64
         ensures { result ≡ self.now.object.state.clock }
     {
-        self.tracked.state().clock()
+        self.in_action.state().clock()
     }
 
-    /// The unit as the object was made with it.
+    /// Returns the unit as the object was made with it.
     pub fn opening(&self) -> &U
         ensures { result.now ≡ self.now.object.setup.opening }
     {
-        self.tracked.setup().opening()
+        self.in_action.setup().opening()
     }
 
-    /// The unit as it is now.
+    /// Returns the unit as it is now.
     pub fn unit(&self) -> &U
         ensures { result.now ≡ self.now.object.state.unit }
     {
-        self.tracked.state().unit()
+        self.in_action.state().unit()
     }
 
-    /// The declarations of the object's entries.
+    /// Returns the declarations of the object's entries.
     pub fn shape(&self) -> &Shape
         ensures { result.now ≡ self.now.object.setup.shape }
     {
-        self.tracked.setup().shape()
+        self.in_action.setup().shape()
     }
 
-    /// The service order.
+    /// Returns the service order.
     pub fn order(&self) -> Order
         ensures { result ≡ self.now.object.setup.order }
     {
-        self.tracked.setup().order()
+        self.in_action.setup().order()
     }
 
-    /// The place of the next event in the whole history.
+    /// Returns the place of the next event in the whole history.
     pub fn place(&self) -> u128
         ensures { result ≡ next_place self.now.object }
     {
-        self.tracked.place()
+        self.in_action.place()
     }
 
-    /// The place of the first event.
+    /// Returns the place of the first event.
     pub fn first_place(&self) -> u64
         ensures { result ≡ self.now.object.setup.first_place }
     {
-        self.tracked.setup().first_place()
+        self.in_action.setup().first_place()
     }
 
-    /// The number of the first call.
+    /// Returns the number of the first call.
     pub fn first_number(&self) -> u64
         ensures { result ≡ self.now.object.setup.first_number }
     {
-        self.tracked.setup().first_number()
+        self.in_action.setup().first_number()
     }
 
-    /// How many calls may be queued on an entry, where there is such a limit.
+    /// Returns how many calls may be queued on an entry, if there is a limit.
     pub fn max_queue(&self) -> Option<u64>
         ensures { result ≡ self.now.object.setup.max_queue }
     {
-        self.tracked.setup().max_queue()
+        self.in_action.setup().max_queue()
     }
 
-    /// The headline, which holds of every core, whatever commands it has carried out or refused: no queued call has an
-    /// open barrier, each queue is in order of arrival, each accepted call is in exactly one place, and the history
-    /// replays, from its base, as serial protected actions of one thread and leads to the present state. And each ticket
-    /// is of an issued call.
+    /// States the headline, which holds of every core, whatever commands it has carried out or refused: no queued call has an
+    /// open barrier, each queue is in order of arrival, each accepted call is in exactly one place, and the history, replayed
+    /// from its base as serial protected actions of one thread, leads to the present state. And each ticket is of an issued
+    /// call.
     pub fn headline(&self)
         ensures headline { Headline U.meaning self.now.object }
         ensures tickets { AreIssued self.now }
-        // Where the base is at the place of the first event, no volume is before it.
+        // If the base is at the place of the first event, no volume is before it.
         ensures uncut { self.now.object.base.place ≡ self.now.object.setup.first_place → AreVolumes U.meaning self.now.object [] }
     {
-        self.tracked.recall_invariant();
+        self.in_action.recall_invariant();
     }
 
-    /// The number of uncollected calls is fixed exactly where the record is that of a bounded core.
+    /// Recalls for proofs that the number of uncollected calls is fixed exactly if the record is that of a bounded core.
     pub fn recall_kind(&self)
         ensures { is_some self.now.capacity ≡ R.is_bounded }
     {
-        self.tracked.recall_kind();
+        self.in_action.recall_kind();
     }
 
-    /// The flat number of a public entry, for a call from outside.
+    /// Returns the flat number of a public entry, for a call from outside.
     fn entry_from_outside(&self, entry: EntryRef) -> Result<u16, Refusal>
         ensures number { IfOk result (λ e. flat_number self.now.object.setup.shape entry ≡ Ok e) }
         ensures public { IfOk result (λ e. is_public self.now.object.setup.shape e ≡ true) }
@@ -397,8 +399,8 @@ impl<U: Unit, R: Record<U>> Core<U, R> {
         ensures refused { IfErr result (λ r. (other : Option Refusal) →
             entry_refusal self.now.object.setup.shape entry other ≡ Some r) }
     {
-        let shape = self.tracked.setup().shape();
-        let Some(decl) = shape.decl(entry.entry) else {
+        let shape = self.in_action.setup().shape();
+        let Some(decl) = shape.decl(entry.declaration) else {
             return Err(Refusal::NoSuchEntry);
         };
         if !decl.public {

@@ -1,4 +1,5 @@
-//! What an object keeps of what has happened, and how an event comes into it.
+// SPDX-License-Identifier: MIT
+//! What an object keeps of what has happened, and how an event is added to it.
 
 ghost use Rattle.std.specs.Prelude.{◌≡◌, ◌<◌, ◌+◌, ◌∷◌, ◌++◌, [], ℕ, Bool, List, None, length, OnOk, OnErr, IfErr};
 ghost use Rattle.po_engine.specs.Tickets.{uncollected};
@@ -19,24 +20,24 @@ use po_unit::Unit;
 
 /// What an object keeps of what has happened: in memory, or for proofs alone.
 pub trait Record<U: Unit> {
-    /// From where the history replays.
+    /// What the history replays from.
     ghost base: { WhatWasMade U → Self → BaseView U U.Value };
 
     /// The events since the base.
     ghost events: { Self → List (AnEvent U.Value) };
 
-    /// The record is that of an object in this state, and has room for so many events and calls.
+    /// The record is that of an object in this state, and has room for these numbers of events and of calls.
     ghost IsOf: { WhatWasMade U → Self → Known U U.Value → ℕ → ℕ → Type 0 };
 
-    /// Its objects take all their memory when they are made, so that the number of their uncollected calls is fixed.
+    /// Whether its objects take all their memory when they are made, so that the number of their uncollected calls is fixed.
     ghost is_bounded: { Bool };
 
-    /// All memory was taken when the object was made, or some is taken for each call.
+    /// Recalls for proofs whether all memory was taken when the object was made, or some is taken for each call.
     fn recall_kind(&self, setup: &Setup<U>, state: &State<U>)
         requires { IsOf setup.now self.now (known_of state.now) (owed U.meaning state.now.state) 0 }
         ensures { state.now.is_fixed ≡ is_bounded };
 
-    /// Makes room for a call on an entry of this rank, and for all events that it may bring.
+    /// Makes room for a call of this rank, and for all events that it may cause.
     fn reserve_call(
         &mut self,
         setup: &Setup<U>,
@@ -54,7 +55,7 @@ pub trait Record<U: Unit> {
         ensures allowed { OnOk result (if_full (capacity_of state.old) state.old.tickets ≡ None) }
         ensures refused { IfErr result (MayRefuse (capacity_of state.old) (if_full (capacity_of state.old) state.old.tickets)) };
 
-    /// Makes room for one event that is no call's, at this place.
+    /// Makes room for one event that belongs to no call, at this place.
     fn reserve_event(
         &mut self,
         setup: &Setup<U>,
@@ -79,7 +80,7 @@ pub trait Record<U: Unit> {
         ensures has { (setup : WhatWasMade U) (s : Known U U.Value) (room calls : ℕ) → IsOf setup self.old s (room + 1) calls → IsOf setup self.new s room calls };
 
     /// Notes the calls that the last event ended and the one that it issued, and gives back the room that the state after it
-    /// doesn't need. So many of the calls that the command ended are noted already.
+    /// doesn't need. Of the calls that the command ended, the first `noted` are noted already.
     fn note_calls(
         &mut self,
         setup: &Setup<U>,
@@ -93,7 +94,7 @@ pub trait Record<U: Unit> {
         ensures has { IsOf setup.now self.new (known_of state.now) (owed U.meaning state.now.state) 0 };
 }
 
-/// Notes the event that has led to this state. So many of the calls that the command ended are noted already.
+/// Notes the event that has led to this state. Of the calls that the command ended, the first `noted` are noted already.
 pub(crate) fn note<U: Unit, R: Record<U>>(
     kept: &mut R,
     setup: &Setup<U>,

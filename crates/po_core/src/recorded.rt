@@ -1,3 +1,4 @@
+// SPDX-License-Identifier: MIT
 //! A record in memory.
 
 ghost use Rattle.std.specs.Prelude.{ℕ, ◌≡◌, ◌+◌, ◌≤◌, ◌<◌, ◌∷◌, ◌++◌, [], None, Some, true, false, length, vec_len, vec_capacity, MatchOption, IfOk, OnOk, if◌then◌else◌};
@@ -23,18 +24,18 @@ use std::alloc::{AllocError, Global};
 /// A record in memory: the history since the base, a key for each number, and the calls that have ended.
 #[derive(Drop)]
 pub struct Recorded<U: Unit> {
-    /// From where the history replays.
+    /// What the history replays from.
     pub(crate) base: Base<U>,
     pub(crate) history: History<U::Value>,
-    /// The key of the ticket that each call got, by its number less the first one.
+    /// The key of each call's ticket, at the call's number minus the first one.
     pub(crate) keys: Vec<usize>,
-    /// The calls that have ended, in that order.
+    /// The calls that have ended, in the order in which they ended.
     pub(crate) ended: Vec<Ended<U::Value>>,
     /// How many procedures have run.
     pub(crate) ran: u64,
 }
 
-/// Makes room for the key of one more call, and for the ends of all calls that have a key then.
+/// Makes room for the key of one more call, and for the ends of all calls that then have a key.
 fn reserve_lists<V>(keys: &mut Vec<usize>, ended: &mut Vec<Ended<V>>) -> Result<(), AllocError>
     ensures key { OnOk result (vec_len keys.new + 1 ≤ vec_capacity keys.new) }
     ensures ends { OnOk result (vec_len keys.new + 1 ≤ vec_capacity ended.new) }
@@ -47,7 +48,7 @@ fn reserve_lists<V>(keys: &mut Vec<usize>, ended: &mut Vec<Ended<V>>) -> Result<
     ended.reserve(more)
 }
 
-/// Notes the key of the call that an event issued.
+/// Notes the key of the call that an event issued, if it issued one.
 fn push_key(keys: &mut Vec<usize>, ticket: Option<Ticket>)
     requires { vec_len keys.old + calls_of ticket ≤ vec_capacity keys.old }
     ensures items { keys.new.items ≡ keys_on keys.old.items ticket }
@@ -59,7 +60,7 @@ fn push_key(keys: &mut Vec<usize>, ticket: Option<Ticket>)
     }
 }
 
-/// How many procedures have run, after one more event.
+/// Returns how many procedures have run after one more event.
 fn counted<V: Copy>(ran: u64, event: Event<V>) -> u64
     requires { is_ran event ≡ true → ran < u64.MAX }
     ensures { result ≡ ran + (if is_ran event then 1 else 0) }
@@ -70,15 +71,16 @@ fn counted<V: Copy>(ran: u64, event: Event<V>) -> u64
     }
 }
 
-/// A place is a word, and so many events are in memory.
+/// Recalls for proofs that a place fits 64 bits, and so does the number of events in memory.
 fn recall_place<U: Unit>(base: &Base<U>, history: &History<U::Value>)
     ensures { base.now.place + length history.now.events < 36_893_488_147_419_103_232 }
 {
+    // Only for the prover: brings the bounds of both numbers into the proof.
     let (_place, _events) = (base.place(), history.events().len());
 }
 
 impl<U: Unit + Drop> Recorded<U> {
-    /// The record of an object without events.
+    /// Makes the record of an object without events.
     pub(crate) fn new(alloc: Global, setup: &Setup<U>) -> Result<Recorded<U>, AllocError>
         ensures base { IfOk result (λ r. r.base ≡ opening_of setup.now) }
         ensures events { IfOk result (λ r. r.history.events ≡ []) }
@@ -100,7 +102,7 @@ impl<U: Unit + Drop> Recorded<U> {
 }
 
 impl<U: Unit> Recorded<U> {
-    /// The ticket that the call with number n got, where the first call has this number.
+    /// Returns the ticket of the call with number n, given the number of the first call.
     pub(crate) fn ticket_of(&self, first: u64, n: u64) -> Option<Ticket>
         ensures { MatchOption result (key_of first self.now.keys.items n ≡ None)
             (λ t. (key_of first self.now.keys.items n ≡ Some t.key) × (t.number ≡ n)) }

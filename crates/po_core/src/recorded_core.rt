@@ -1,4 +1,6 @@
-//! A core with a record in memory: how it is made, what is read off its record, a call by its number, and the cut.
+// SPDX-License-Identifier: MIT
+//! A core with a record in memory: how it is made, what can be read off its record, how a call is cancelled by its number, and
+//! how the history is cut.
 
 ghost use Rattle.std.specs.Prelude.{◌≡◌, ◌≢◌, ◌∷◌, ◌++◌, [], ◌↔◌, unwrap_or, None, Some, find, option_map, is_some, List, IfOk, IfErr, MatchResult, OnOk, OnErr};
 ghost use Rattle.po_unit.specs.Numbering.{entry_count};
@@ -6,17 +8,17 @@ ghost use Rattle.po_engine.specs.WaitingCalls.{has_number};
 ghost use Rattle.po_engine.specs.Ending.{has_ended};
 ghost use Rattle.po_history.specs.Histories.{VolumeView};
 ghost use Rattle.po_core.specs.View.{opening_view, base_state};
-ghost use Rattle.po_core.specs.ProtectedAction.{IsAbortOf, after_abort, abort_answer};
+ghost use Rattle.po_core.specs.ProtectedAction.{IsAttemptOf, after_attempt, attempt_answer};
 ghost use Rattle.po_core.specs.Cutting.{cut, cut_off, Leads, KeepsArrivals, KeepsVolumes, procedures_run, AreVolumes};
-ghost use Rattle.po_core.specs.Refusals.{abort_refusal, cut_refusal};
+ghost use Rattle.po_core.specs.Refusals.{cancel_number_refusal, cut_refusal};
 ghost use Rattle.po_core.specs.declared.refusal.Refusal.{Refusal};
 
 use crate::base::Base;
+use crate::core_in_action::CoreInAction;
 use crate::object_core::Core;
 use crate::recorded::Recorded;
 use crate::refusal::Refusal;
-use crate::tracked_object::TrackedObject;
-use crate::{Aborted, MakeFault, Setup, Start};
+use crate::{Attempt, MakeError, Setup, Start};
 use po_calls::End;
 use po_engine::{Ended, State};
 use po_history::{Event, Volume};
@@ -25,16 +27,16 @@ use po_unit::{Shape, Unit};
 use std::alloc::Global;
 
 impl<U: Unit + Drop> Core<U, Recorded<U>> {
-    /// An object with this unit, whose calls are numbered from `first_number` and whose queues have no greatest length.
+    /// Makes an object with this unit, whose calls are numbered from `first_number` and whose queues have no greatest length.
     ///
-    /// The faults are those of `start`.
+    /// Fails as `start` does.
     pub fn new(
         alloc: Global,
         unit: U,
         shape: Shape,
         order: Order,
         first_number: u64,
-    ) -> Result<Core<U, Recorded<U>>, MakeFault>
+    ) -> Result<Core<U, Recorded<U>>, MakeError>
         ensures core { IfOk result (λ c. c ≡ record {
           object = opening_view (record {
             opening = unit;
@@ -47,7 +49,7 @@ impl<U: Unit + Drop> Core<U, Recorded<U>> {
           tickets = [];
           capacity = None;
         }) }
-        ensures mismatch { (result ≡ Err MakeFault.ShapeMismatch) ↔
+        ensures mismatch { (result ≡ Err MakeError.ShapeMismatch) ↔
             (U.meaning.entries unit ≢ entry_count shape) }
         // No event came before.
         ensures volumes { IfOk result (λ c. AreVolumes U.meaning c.object []) }
@@ -65,16 +67,16 @@ impl<U: Unit + Drop> Core<U, Recorded<U>> {
         )
     }
 
-    /// An object with this unit, from given numbers.
+    /// Makes an object with this unit, from the given numbers.
     ///
-    /// It fails where the unit hasn't as many entries as the shape, or where memory is wanting.
+    /// Fails if the unit and the shape have different numbers of entries, or if memory runs out.
     pub fn start(
         alloc: Global,
         unit: U,
         shape: Shape,
         order: Order,
         start: Start,
-    ) -> Result<Core<U, Recorded<U>>, MakeFault>
+    ) -> Result<Core<U, Recorded<U>>, MakeError>
         ensures core { IfOk result (λ c. c ≡ record {
           object = opening_view (record {
             opening = unit;
@@ -87,28 +89,28 @@ impl<U: Unit + Drop> Core<U, Recorded<U>> {
           tickets = [];
           capacity = None;
         }) }
-        ensures mismatch { (result ≡ Err MakeFault.ShapeMismatch) ↔
+        ensures mismatch { (result ≡ Err MakeError.ShapeMismatch) ↔
             (U.meaning.entries unit ≢ entry_count shape) }
         // No event came before.
         ensures volumes { IfOk result (λ c. AreVolumes U.meaning c.object []) }
     {
         if unit.entries() != shape.total() {
-            return Err(MakeFault::ShapeMismatch);
+            return Err(MakeError::ShapeMismatch);
         }
         let setup = Setup::new(unit, shape, order, start);
         let now = setup.opening().copy()?;
         let state = State::new(alloc, now, setup.first_number())?;
         let kept = Recorded::new(alloc, &setup)?;
         Ok(Core {
-            tracked: TrackedObject::new(setup, state, kept),
+            in_action: CoreInAction::new(setup, state, kept),
         })
     }
 
-    /// Cuts the history: hands out the events since the last cut, or since the making, as a volume. The present picture
-    /// becomes the base from where the history replays; the place of the next event, the outcomes, the tickets and the
-    /// calls that the last command ended stay.
+    /// Cuts the history: returns the events since the last cut, or since the object was made, as a volume. The present picture
+    /// becomes the base that the history replays from. The place of the next event, the outcomes, the tickets and the calls
+    /// that the last command ended stay.
     ///
-    /// Refused as `NumbersSpent` and `OutOfMemory`, also on a finalized object.
+    /// Refused as `NumbersSpent` or `OutOfMemory`. The history of a finalized object can be cut too.
     pub fn cut(&mut self) -> Result<Volume<U::Value>, Refusal>
         ensures volume { IfOk result (λ volume. volume ≡ cut_off self.old.object) }
         ensures after { OnOk result (self.new ≡ record self.old { object = cut U.meaning self.old.object }) }
@@ -117,7 +119,7 @@ impl<U: Unit + Drop> Core<U, Recorded<U>> {
             (base_state self.old.object) (base_state self.new.object)) }
         // A waiting call keeps the place at which it arrived.
         ensures arrivals { OnOk result (KeepsArrivals U.meaning self.old.object self.new.object) }
-        // How many procedures have run, before the base and since, is kept.
+        // The number of procedures that have run, before the base and since, stays.
         ensures procedures { OnOk result (procedures_run self.new.object ≡ procedures_run self.old.object) }
         // The volumes so far, with this one, are the history before the new base.
         ensures joins { IfOk result (λ volume. (volumes : List (VolumeView U.Value)) →
@@ -130,8 +132,8 @@ impl<U: Unit + Drop> Core<U, Recorded<U>> {
         if self.place() >= u128::from(u64::MAX) {
             return Err(Refusal::NumbersSpent);
         }
-        self.tracked.recall_invariant();
-        let volume = self.tracked.cut()?;
+        self.in_action.recall_invariant();
+        let volume = self.in_action.cut()?;
         Ok(volume)
     }
 }
@@ -139,74 +141,74 @@ impl<U: Unit + Drop> Core<U, Recorded<U>> {
 impl<U: Unit> Core<U, Recorded<U>> {
     /// Attempts to cancel the call with number n (9.5.3, 9.5.4). No memory is taken.
     ///
-    /// Refused as `UnknownCall` and `AlreadyEnded`.
-    pub fn abort(&mut self, n: u64) -> Result<Aborted, Refusal>
+    /// Refused as `UnknownCall` or `AlreadyEnded`.
+    pub fn cancel_number(&mut self, n: u64) -> Result<Attempt, Refusal>
         ensures after { OnOk result (self.new ≡ record self.old {
-          object = after_abort U.meaning self.old.object n;
+          object = after_attempt U.meaning self.old.object n;
         }) }
-        ensures answer { IfOk result (λ aborted. aborted ≡ abort_answer self.old.object n) }
+        ensures answer { IfOk result (λ aborted. aborted ≡ attempt_answer self.old.object n) }
         ensures volumes { OnOk result (KeepsVolumes U.meaning self.old.object self.new.object) }
-        ensures action { OnOk result (IsAbortOf U.meaning self.old.object self.new.object n) }
+        ensures action { OnOk result (IsAttemptOf U.meaning self.old.object self.new.object n) }
         ensures refused { MatchResult result
-            (λ _. abort_refusal self.old.object n ≡ None)
-            (λ r. abort_refusal self.old.object n ≡ Some r) }
+            (λ _. cancel_number_refusal self.old.object n ≡ None)
+            (λ r. cancel_number_refusal self.old.object n ≡ Some r) }
         ensures unchanged { OnErr result (self.new ≡ self.old) }
     {
-        if n < self.first_number() || n >= self.next() {
+        if n < self.first_number() || n >= self.next_number() {
             return Err(Refusal::UnknownCall);
         }
-        let Some((ticket, call)) = self.tracked.waiting_call(n) else {
+        let Some((ticket, call)) = self.in_action.waiting_call(n) else {
             return Err(Refusal::AlreadyEnded);
         };
         Ok(self.cancel_waiting(ticket, call))
     }
 
-    /// The base from where the history replays: the opening of the object, or the picture at the last cut.
+    /// Returns the base that the history replays from: the opening of the object, or the picture at the last cut.
     pub fn base(&self) -> &Base<U>
         ensures { result.now ≡ self.now.object.base }
     {
-        self.tracked.base()
+        self.in_action.base()
     }
 
-    /// The calls that had ended at the base, in the order in which they ended.
+    /// Returns the calls that had ended at the base, in the order in which they ended.
     pub fn ended_at_base(&self) -> &[Ended<U::Value>]
         ensures { result.now ≡ (base_state self.now.object).ended }
     {
-        self.tracked.ended_at_base()
+        self.in_action.ended_at_base()
     }
 
-    /// The events of the history since the base.
+    /// Returns the events of the history since the base.
     pub fn events(&self) -> &[Event<U::Value>]
         ensures { result.now ≡ self.now.object.events }
     {
-        self.tracked.events()
+        self.in_action.events()
     }
 
-    /// How the call with number n ended, if it has, also after it was collected.
+    /// Returns how the call with number n ended, if it has, even after it was collected.
     pub fn outcome(&self, n: u64) -> Option<End<U::Value>>
         ensures { result ≡ option_map (λ x. x.end) (find (has_ended n) self.now.object.state.ended) }
     {
-        self.tracked.outcome(n)
+        self.in_action.outcome(n)
     }
 
-    /// Whether the call with number n is queued.
+    /// Returns whether the call with number n is queued.
     pub fn is_waiting(&self, n: u64) -> bool
         ensures { result ≡ is_some (find (has_number n) self.now.object.state.waiting) }
     {
-        self.tracked.waiting_call(n).is_some()
+        self.in_action.waiting_call(n).is_some()
     }
 
-    /// How many procedures have run in the whole history, before the base and since.
+    /// Returns how many procedures have run in the whole history, before the base and since.
     pub fn procedures_run(&self) -> u64
         ensures { result ≡ procedures_run self.now.object }
     {
-        self.tracked.procedures_run()
+        self.in_action.procedures_run()
     }
 
-    /// Memory is taken for each call, so their number isn't fixed.
+    /// Recalls for proofs that memory is taken for each call, so the number of calls isn't fixed.
     pub fn recall_unbounded(&self)
         ensures { self.now.capacity ≡ None }
     {
-        self.tracked.recall_unbounded();
+        self.in_action.recall_unbounded();
     }
 }

@@ -1,23 +1,24 @@
+// SPDX-License-Identifier: MIT
 //! Why commands are refused.
 
 ghost use Rattle.std.specs.Prelude.{◌≡◌};
 ghost use Rattle.po_core.specs.RefusalNumbers.{refusal_number};
 ghost use Rattle.po_core.specs.declared.refusal.Refusal.TheVariants.{OutOfMemory};
 
-use po_unit::IndexFault;
+use po_unit::IndexError;
 use std::alloc::AllocError;
 use thiserror::Error;
 
-/// Why a command is refused, in the order in which a call checks. A refused command changes nothing.
+/// Why a command is refused, in the order in which a call is checked. A refused command changes nothing.
 #[derive(Clone, Copy, Debug, PartialEq, Eq, Error)]
 pub enum Refusal {
     /// 1: the object has no such entry.
     #[error("the object has no such entry")]
     NoSuchEntry,
-    /// 2: the entry is private, and can be named by a requeue alone (9.4, 9.5.4).
+    /// 2: the entry is private, so only a requeue can name it (9.4, 9.5.4).
     #[error("the entry is private: a requeue alone can name it")]
     PrivateEntry,
-    /// 3: a single entry with an index, a family without one, or an index outside of the family's range (9.5.2).
+    /// 3: a single entry with an index, a family without one, or an index outside the family's range (9.5.2).
     #[error("the index is missing, not wanted, or out of range")]
     BadIndex,
     /// 4: the object has no such procedure or function.
@@ -35,19 +36,19 @@ pub enum Refusal {
     /// 8: there is no further number for a call, or no further place for an event.
     #[error("no number is left for a call, or no place for an event")]
     NumbersSpent,
-    /// 9: memory was wanting. An object that took all its memory when it was made never answers it.
+    /// 9: memory ran out. An object that took all its memory when it was made never returns this.
     #[error("out of memory")]
     OutOfMemory,
-    /// 10: no call of that seat waits. An object behind a lock alone answers it.
+    /// 10: no call of that seat waits. Only an object behind a lock returns this.
     #[error("no call of that seat is queued")]
     NoCall,
-    /// 11: as many calls are uncollected as may be. An object that took all its memory when it was made alone answers it.
+    /// 11: as many calls are uncollected as may be. Only an object that took all its memory when it was made returns this.
     #[error("too many calls")]
     TooManyCalls,
 }
 
 impl Refusal {
-    /// The number of the refusal, from 1 to 11.
+    /// Returns the number of the refusal, from 1 to 11.
     pub fn number(self) -> u8
         ensures { result ≡ refusal_number self }
     {
@@ -77,15 +78,15 @@ impl From<AllocError> for Refusal {
     }
 }
 
-impl From<IndexFault> for Refusal {
+impl From<IndexError> for Refusal {
     ghost use Rattle.std.specs.Prelude.{◌≡◌};
     ghost use Rattle.po_core.specs.RefusalNumbers.{refusal_of};
 
     ghost from_gives = { λ fault refusal. refusal ≡ refusal_of fault };
 
-    fn from(fault: IndexFault) -> Refusal {
+    fn from(fault: IndexError) -> Refusal {
         match fault {
-            IndexFault::NoSuchEntry => Refusal::NoSuchEntry,
+            IndexError::NoSuchEntry => Refusal::NoSuchEntry,
             _ => Refusal::BadIndex,
         }
     }

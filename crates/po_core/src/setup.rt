@@ -1,4 +1,5 @@
-//! With what an object was made.
+// SPDX-License-Identifier: MIT
+//! What an object was made with.
 
 ghost use Rattle.std.specs.Prelude.{◌≡◌};
 
@@ -33,7 +34,7 @@ impl<U: Unit> Model for Setup<U> {
 }
 
 impl<U: Unit> Setup<U> {
-    /// What an object is made with: its data, its entries, the order of service, and from where it starts.
+    /// Makes the setup of an object: its data, its entries, the order of service, and the numbers from which it starts.
     pub fn new(opening: U, shape: Shape, order: Order, start: Start) -> Setup<U>
         ensures { result ≡ record {
           opening = opening;
@@ -52,35 +53,35 @@ impl<U: Unit> Setup<U> {
         }
     }
 
-    /// The data.
+    /// Returns the data.
     pub fn opening(&self) -> &U
         ensures { result.now ≡ self.now.opening }
     {
         &self.opening
     }
 
-    /// The entries.
+    /// Returns the entries.
     pub fn shape(&self) -> &Shape
         ensures { result.now ≡ self.now.shape }
     {
         &self.shape
     }
 
-    /// The order in which entries are served.
+    /// Returns the order in which entries are served.
     pub fn order(&self) -> Order
         ensures { result ≡ self.now.order }
     {
         self.order
     }
 
-    /// How many calls may be queued on an entry, where there is such a limit (D.7).
+    /// Returns how many calls may be queued on an entry, if there is a limit (D.7).
     pub fn max_queue(&self) -> Option<u64>
         ensures { result ≡ self.now.max_queue }
     {
         self.start.max_queue
     }
 
-    /// What a call meets that the event at this place queues.
+    /// Returns what applies to a call that the event at this place queues.
     pub fn queueing(&self, place: u128) -> Queueing
         ensures { result ≡ record { max_length = self.now.max_queue; place = place } }
     {
@@ -90,14 +91,14 @@ impl<U: Unit> Setup<U> {
         }
     }
 
-    /// The number of the first call.
+    /// Returns the number of the first call.
     pub fn first_number(&self) -> u64
         ensures { result ≡ self.now.first_number }
     {
         self.start.first_number
     }
 
-    /// The place of the first event.
+    /// Returns the place of the first event.
     pub fn first_place(&self) -> u64
         ensures { result ≡ self.now.first_place }
     {

@@ -1,3 +1,4 @@
+// SPDX-License-Identifier: MIT
 //! No record: what has happened is known to proofs alone.
 
 ghost use Rattle.std.specs.Prelude.{◌≡◌, ◌∷◌, ◌++◌, [], true};
@@ -12,14 +13,14 @@ use po_engine::State;
 use po_history::{Event, Trace};
 use po_unit::Unit;
 
-/// No record. The object takes all its memory when it is made, and what happens is known to proofs alone.
+/// A record that keeps nothing: the object takes all its memory when it is made, and only proofs know what happens.
 #[derive(Drop)]
 pub struct Unrecorded<U: Unit> {
     events: Trace<Event<U::Value>>,
 }
 
 impl<U: Unit> Unrecorded<U> {
-    /// The record of an object without events.
+    /// Makes the record of an object without events.
     pub(crate) fn new() -> Unrecorded<U>
         ensures { result.events.items ≡ [] }
     {

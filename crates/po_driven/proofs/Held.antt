@@ -31,7 +31,7 @@ module _ (test : Call ℕ → Bool) where
   found_len [] y h = cc
   found_len (x ∷ xs) y h = taken_len (test x) x y xs h (found_len xs y)
 
-  -- the call that is taken, if one is, is one less in the queues
+  -- if a call is taken, one less is queued
   pub length_taken : (xs : List (Call ℕ)) (o : Option (Call ℕ)) → find test xs ≡ o → length (without_first test xs) + calls_in_service o ≡ length xs
   length_taken xs None h = omega (arith, ap (λ (l : List (Call ℕ)). length l) (without_none test xs h))
   length_taken xs (Some y) h = found_len xs y h
@@ -48,7 +48,7 @@ some_end : (r : Option (End ℕ)) (old new : List (Option ℕ)) (key n : ℕ) �
 some_end None old new key n some sets there = absurd (cc)
 some_end (Some e) old new key n some sets there = one-less old new key n there sets
 
--- a collected call has no ticket any more
+-- a collected call no longer has a ticket
 pub collected : (waiting : List (Call ℕ)) (ended : List (Ended ℕ)) (old new : List (Option ℕ)) (ticket : Ticket) (r : Option (End ℕ)) → is_live old ticket ≡ true → IsSome (find (has_ended ticket.number) ended)
     → r ≡ end_at (status_among waiting ended old ticket) → OnSome r (SetsTicket old new ticket.key None) → uncollected new + 1 ≡ uncollected old
 collected waiting ended old new ticket r live over is sets =
@@ -68,7 +68,7 @@ pub cancelled_len : (s : ObjectState ℕ ℕ) (n : ℕ) (o : Option (Call ℕ)) 
 cancelled_len s n None found some = absurd (cc)
 cancelled_len s n (Some x) found some = found_len (has_number n) s.waiting x found
 
--- a call that arrives is queued, or among the ended ones where the queue is full
+-- a call that arrives is queued, or is among the ended ones if the queue is full
 pub entered_len : (limit : Option ℕ) (s : ObjectState ℕ ℕ) (x : Call ℕ) → is_full limit (count_by (is_on x.entry) s.waiting) ≡ false → length (enter limit s x).waiting ≡ length s.waiting + 1
 entered_len limit s x room = rw room (length-append s.waiting (x ∷ []))
 

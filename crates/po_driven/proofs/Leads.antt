@@ -1,4 +1,4 @@
--- What happens leads to the calls that are there: each word of a step does the same, whatever calls have left.
+-- What happens leads to the engine's calls: each part of a step does the same, whatever calls have left.
 use Rattle.std.proofs.Common.{ℕ, ◌≡◌, ◌∙◌, List, [], ◌∷◌, ◌++◌, map, Bool, true, false, not, ◌&&◌, cond, if◌then◌else◌, Option, Some, None, ap, refl, sym, subst, arith}
 use Rattle.std.specs.List.{find, slice_get}
 use Rattle.std.specs.Option.{option_map}
@@ -14,7 +14,7 @@ use Rattle.std.specs.List.{count_by}
 use Rattle.po_engine.specs.Driving.{admitted, counted, new_call}
 use Rattle.po_engine.specs.ObjectState.{ObjectState}
 use Rattle.po_engine.specs.StateView.{StateView}
-use Rattle.po_engine.specs.Step.{abort, cancel, end_call, enter, is_full, conclude, queue, take_out}
+use Rattle.po_engine.specs.Step.{attempt_cancel, cancel, end_call, enter, is_full, conclude, queue, take_out}
 use Rattle.po_engine.specs.declared.arriving.Arriving.{Arriving}
 use Rattle.po_engine.proofs.Sums.{sum_by-push}
 use Rattle.po_driven.specs.Happening.{Driving, after_end, after_leaving, after_requeue, end_oldest, happen, make_due}
@@ -27,7 +27,7 @@ S = ObjectState ℕ ℕ
 abbrev Calls : Type 0
 Calls = List (Call ℕ)
 
--- The engine's state is this one, but for the calls that have left it.
+-- The engine's state is this one, except for the calls that have left it.
 record Follows (t s : S) (elsewhere : Calls) : Type 0 where
   state : t ≡ record s { ended = t.ended }
   left : HaveLeft t.ended s.ended elsewhere
@@ -71,21 +71,21 @@ module _ (elsewhere : Calls) (left : List (Ended ℕ)) where
   cancel_left s n None h = same_left s h
   cancel_left s n (Some x) h = end_left (take_out s (has_number n)) x IsCancelled h
 
-  abort_if : (b : Bool) (s : S) (n : ℕ) (x : Call ℕ) → HaveLeft left s.ended elsewhere
+  attempt_if : (b : Bool) (s : S) (n : ℕ) (x : Call ℕ) → HaveLeft left s.ended elsewhere
       → Follows (if b then record (with_left s) { waiting = map (mark n) s.waiting } else cancel (with_left s) n (Some x)) (if b then record s { waiting = map (mark n) s.waiting } else cancel s n (Some x)) elsewhere
-  abort_if true s n x h = record { state = refl; left = h }
-  abort_if false s n x h = cancel_left s n (Some x) h
+  attempt_if true s n x h = record { state = refl; left = h }
+  attempt_if false s n x h = cancel_left s n (Some x) h
 
-  abort_left : (s : S) (n : ℕ) (o : Option (Call ℕ)) → HaveLeft left s.ended elsewhere → Follows (abort (with_left s) n o) (abort s n o) elsewhere
-  abort_left s n None h = same_left s h
-  abort_left s n (Some x) h = abort_if x.without_abort s n x h
+  attempt_left : (s : S) (n : ℕ) (o : Option (Call ℕ)) → HaveLeft left s.ended elsewhere → Follows (attempt_cancel (with_left s) n o) (attempt_cancel s n o) elsewhere
+  attempt_left s n None h = same_left s h
+  attempt_left s n (Some x) h = attempt_if x.without_abort s n x h
 
   oldest_left : (s : S) (o : Option (Call ℕ)) → HaveLeft left s.ended elsewhere → Follows (end_oldest (with_left s) o) (end_oldest s o) elsewhere
   oldest_left s None h = same_left s h
   oldest_left s (Some x) h = record { state = refl; left = left_ended left s.ended elsewhere (ended_as ProgramError x) h }
 
 module _ (o n : StateView ℕ ℕ) where
-  -- where a word of a step leads from calls to calls, it leads from what has happened to what has then happened
+  -- if a part of a step leads from these calls to those, it leads from what had happened to what has happened then
   led : (d : Driving) (word : S → S) (serving : Option (Call ℕ)) → IsLedTo d o → n.state ≡ word o.state → n.serving ≡ serving
       → ((left : List (Ended ℕ)) → HaveLeft left d.state.ended d.elsewhere → Follows (word (record d.state { ended = left })) (word d.state) d.elsewhere)
       → IsLedTo (record d { state = word d.state; serving = serving }) n
@@ -135,9 +135,9 @@ module _ (o n : StateView ℕ ℕ) where
   cancelled k is held d l =
       led d (λ s. cancel s k (find (has_number k) s.waiting)) None l is held (λ left h. cancel_left d.elsewhere left d.state k (find (has_number k) d.state.waiting) h)
 
-  pub marked : (k : ℕ) → n.state ≡ abort o.state k (find (has_number k) o.state.waiting) → n.serving ≡ None → (d : Driving) → IsLedTo d o → IsLedTo (happen (Marked k) d) n
+  pub marked : (k : ℕ) → n.state ≡ attempt_cancel o.state k (find (has_number k) o.state.waiting) → n.serving ≡ None → (d : Driving) → IsLedTo d o → IsLedTo (happen (Marked k) d) n
   marked k is held d l =
-      led d (λ s. abort s k (find (has_number k) s.waiting)) None l is held (λ left h. abort_left d.elsewhere left d.state k (find (has_number k) d.state.waiting) h)
+      led d (λ s. attempt_cancel s k (find (has_number k) s.waiting)) None l is held (λ left h. attempt_left d.elsewhere left d.state k (find (has_number k) d.state.waiting) h)
 
   pub finalized : n.state ≡ record o.state { finalized = true } → n.serving ≡ o.serving → (d : Driving) → IsLedTo d o → IsLedTo (happen Finalized d) n
   finalized is held d l =

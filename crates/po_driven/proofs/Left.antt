@@ -1,4 +1,4 @@
--- What is left where the call that was queued first of all is taken.
+-- What is left after the call that was queued first of all is taken.
 use Rattle.std.proofs.Common.{ℕ, ◌≡◌, ◌∙◌, List, [], ◌∷◌, drop, Option, Some, None, ap, refl, sym}
 use Rattle.std.specs.Prelude.{IfNone}
 use Rattle.std.specs.List.{All, slice_get}
@@ -26,7 +26,7 @@ none_taken s xs is none =
     let left : drop 1 s.waiting ≡ [] = ap (λ l. drop 1 l) empty in
     (ap (λ l. record s { waiting = l }) (left ∙ sym empty), left)
 
--- where there is none, nothing is taken
+-- if there is no call, nothing is taken
 pub left_same : (s after : ObjectState ℕ ℕ) (r : Option (Call ℕ)) → slice_get s.waiting 0 ≡ r → after ≡ take_oldest s → IfNone r ((after ≡ s) × (after.waiting ≡ []))
 left_same s after (Some x) first is = tt
 left_same s after None first is = let t = none_taken s s.waiting refl (none_first s.waiting first) in (is ∙ t.0, ap (λ v. v.waiting) is ∙ t.1)

@@ -9,7 +9,7 @@ use Rattle.po_driven.specs.Noted.{full_at}
 pub full_some : (limit count : ℕ) → (limit ≡ 0 → ⊥) → Some (max limit count) ≡ full_at limit count
 full_some limit count some = rw (ne_eqb limit 0 some) refl
 
--- where one more call is queued, one is first
+-- if one more call is queued, there is a first one
 pub one_waits : (xs : List (Call ℕ)) (x : Call ℕ) → IsSome (slice_get (xs ++ x ∷ []) 0)
 one_waits [] x = refl
 one_waits (y ∷ xs) x = refl

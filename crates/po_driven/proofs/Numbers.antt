@@ -42,6 +42,6 @@ due_call o ticket t is placed found live =
 pub found_number : (n : ℕ) (xs : List (Call ℕ)) (x : Call ℕ) → find (has_number n) xs ≡ Some x → x.number ≡ n
 found_number n xs x found = eqb-true x.number n (found_passes (has_number n) xs x found)
 
--- the queued call of a live ticket is that with its number
+-- the queued call of a live ticket is the one with its number
 pub live_found : (xs : List (Call ℕ)) (tickets : List (Option ℕ)) (ticket : Ticket) → is_live tickets ticket ≡ true → waiting_among xs tickets ticket ≡ find (has_number ticket.number) xs
 live_found xs tickets ticket live = rw live refl

@@ -1,4 +1,4 @@
--- Each call stays in one place: what each word of a step does to the numbers that wait, are in service or have ended.
+-- Each call stays in one place: what each part of a step does to the numbers that wait, are in service or have ended.
 use Rattle.std.proofs.Common.{◌≡◌, ℕ, ◌+◌, ◌≤◌, map, refl, ap, ap₂, sym, subst, ◌∙◌, arith, Bool, true, false, cond, ◌&&◌, Option, Some, None, nat_le, nat_lt, if◌then◌else◌}
 use Rattle.std.specs.List.{count_by, find}
 use Rattle.po_calls.specs.declared.call.Call.{Call}
@@ -9,7 +9,7 @@ use Rattle.po_engine.specs.StateView.{StateView}
 use Rattle.po_engine.specs.WaitingCalls.{has_number, mark}
 use Rattle.po_engine.specs.Ending.{ended_as, has_ended}
 use Rattle.po_engine.proofs.Lists.{without_none}
-use Rattle.po_engine.specs.Step.{end_call, take_out, cancel, abort}
+use Rattle.po_engine.specs.Step.{end_call, take_out, cancel, attempt_cancel}
 use Rattle.po_engine.proofs.Sums.{sum_by-push, sum_by-without, sum_by-mapped}
 use Rattle.po_driven.specs.OnePlace.{times_in_service, times_in, IsThereOnce}
 
@@ -41,9 +41,9 @@ module _ (n : ℕ) where
   places-aborted p k true x h = omega (arith, sum_by-mapped (λ y. cond (has_number n y) 1 0) (mark k) (λ y. cond (has_number n y) 1 0) (λ y. ap (λ b. cond b 1 0) (marked n (has_number k y) y)) p.waiting)
   places-aborted p k false x h = places-cancel p k (Some x) h
 
-  places-abort : (p : S) (k : ℕ) (o : Option (Call ℕ)) → find (has_number k) p.waiting ≡ o → places_of (abort p k o) ≡ places_of p
-  places-abort p k None h = refl
-  places-abort p k (Some x) h = places-aborted p k x.without_abort x h
+  places-attempt : (p : S) (k : ℕ) (o : Option (Call ℕ)) → find (has_number k) p.waiting ≡ o → places_of (attempt_cancel p k o) ≡ places_of p
+  places-attempt p k None h = refl
+  places-attempt p k (Some x) h = places-aborted p k x.without_abort x h
 
   spots-take : (p : S) (serving : Option (Call ℕ)) (test : Call ℕ → Bool) (o : Option (Call ℕ)) → serving ≡ None → find test p.waiting ≡ o → times_in n (take_out p test) o ≡ times_in n p serving
   spots-take p serving test None h f = omega (arith, ap (λ xs. count_by (has_number n) xs) (without_none test p.waiting f), ap (times_in_service n) h)
@@ -52,8 +52,8 @@ module _ (n : ℕ) where
   spots-cancel : (p : S) (serving : Option (Call ℕ)) (k : ℕ) → serving ≡ None → times_in n (cancel p k (find (has_number k) p.waiting)) None ≡ times_in n p serving
   spots-cancel p serving k h = omega (arith, places-cancel p k (find (has_number k) p.waiting) refl, ap (times_in_service n) h)
 
-  spots-abort : (p : S) (serving : Option (Call ℕ)) (k : ℕ) → serving ≡ None → times_in n (abort p k (find (has_number k) p.waiting)) None ≡ times_in n p serving
-  spots-abort p serving k h = omega (arith, places-abort p k (find (has_number k) p.waiting) refl, ap (times_in_service n) h)
+  spots-attempt : (p : S) (serving : Option (Call ℕ)) (k : ℕ) → serving ≡ None → times_in n (attempt_cancel p k (find (has_number k) p.waiting)) None ≡ times_in n p serving
+  spots-attempt p serving k h = omega (arith, places-attempt p k (find (has_number k) p.waiting) refl, ap (times_in_service n) h)
 
 next-cancel : (p : S) (k : ℕ) (o : Option (Call ℕ)) → (cancel p k o).next ≡ p.next
 next-cancel p k None = refl
@@ -63,11 +63,11 @@ next-aborted : (p : S) (k : ℕ) (b : Bool) (x : Call ℕ) → (if b then record
 next-aborted p k true x = refl
 next-aborted p k false x = refl
 
-next-abort : (p : S) (k : ℕ) (o : Option (Call ℕ)) → (abort p k o).next ≡ p.next
-next-abort p k None = refl
-next-abort p k (Some x) = next-aborted p k x.without_abort x
+next-attempt : (p : S) (k : ℕ) (o : Option (Call ℕ)) → (attempt_cancel p k o).next ≡ p.next
+next-attempt p k None = refl
+next-attempt p k (Some x) = next-aborted p k x.without_abort x
 
--- where the state and the call in service are so, and the numbers are in as many places as before, each call is in one place
+-- if the state and the call in service are these, and each number is in as many places as before, each call is in one place
 moved : (a b : StateView ℕ ℕ) (s : S) (serving : Option (Call ℕ)) → b.state ≡ s → b.serving ≡ serving → s.next ≡ a.state.next → ((n : ℕ) → times_in n s serving ≡ times_in n a.state a.serving) → IsThereOnce a → IsThereOnce b
 moved a b s serving st ha nx k p =
     let next : b.state.next ≡ a.state.next = ap (λ t. t.next) st ∙ nx in record {
@@ -81,5 +81,5 @@ took a b test o h f st ha p = moved a b (take_out a.state test) o st ha refl (λ
 pub cancelled : (a b : StateView ℕ ℕ) (k : ℕ) → a.serving ≡ None → b.state ≡ cancel a.state k (find (has_number k) a.state.waiting) → b.serving ≡ None → IsThereOnce a → IsThereOnce b
 cancelled a b k h st ha p = moved a b (cancel a.state k (find (has_number k) a.state.waiting)) None st ha (next-cancel a.state k (find (has_number k) a.state.waiting)) (λ n. spots-cancel n a.state a.serving k h) p
 
-pub attempted : (a b : StateView ℕ ℕ) (k : ℕ) → a.serving ≡ None → b.state ≡ abort a.state k (find (has_number k) a.state.waiting) → b.serving ≡ None → IsThereOnce a → IsThereOnce b
-attempted a b k h st ha p = moved a b (abort a.state k (find (has_number k) a.state.waiting)) None st ha (next-abort a.state k (find (has_number k) a.state.waiting)) (λ n. spots-abort n a.state a.serving k h) p
+pub attempted : (a b : StateView ℕ ℕ) (k : ℕ) → a.serving ≡ None → b.state ≡ attempt_cancel a.state k (find (has_number k) a.state.waiting) → b.serving ≡ None → IsThereOnce a → IsThereOnce b
+attempted a b k h st ha p = moved a b (attempt_cancel a.state k (find (has_number k) a.state.waiting)) None st ha (next-attempt a.state k (find (has_number k) a.state.waiting)) (λ n. spots-attempt n a.state a.serving k h) p

@@ -1,4 +1,4 @@
--- What happens leads on from what has happened.
+-- What happens is added to what has happened.
 use Rattle.std.proofs.Common.{ℕ, ◌+◌, ◌<◌, ◌≤◌, ◌≡◌, ◌∙◌, List, [], ◌∷◌, ◌++◌, ◌==◌, Bool, true, false, not, ◌&&◌, if◌then◌else◌, Option, None, Some, IsSome, count_by, nat_eq, nat_le, nat_lt, inl, inr, ap, ap₂, refl, sym, subst, arith}
 use Rattle.std.specs.List.{All, find}
 use Rattle.std.specs.Option.{option_eq}
@@ -16,14 +16,14 @@ use Rattle.po_engine.specs.StateView.{StateView}
 use Rattle.po_engine.specs.Step.{enter, end_call, is_full, conclude}
 use Rattle.po_driven.specs.Happening.{Driving, happen, opening, replay}
 use Rattle.po_driven.specs.OnePlace.{HasTickets, IsInOnePlace, IsLedTo, IsThereOnce, times_in_service, places_with, times_in}
-use Rattle.po_driven.specs.TracedView.{TracedView, IsTraced, led_by}
+use Rattle.po_driven.specs.DrivenCallsView.{DrivenCallsView, IsTraced, led_by}
 use Rattle.po_driven.specs.declared.happening.Happening.{Happening}
 
 replay_on : (d : Driving) (hs : List Happening) (h : Happening) → replay d (hs ++ h ∷ []) ≡ happen h (replay d hs)
 replay_on d [] h = refl
 replay_on d (g ∷ hs) h = replay_on (happen g d) hs h
 
--- each call is there once where each is in one place of those to which what has happened leads, and the other way round
+-- each call is there once if it is in one place by what has happened, and the other way round
 pub there : (d : Driving) (o : StateView ℕ ℕ) → IsLedTo d o → IsInOnePlace d → IsThereOnce o
 there d o l p =
     let waiting = ap (λ s. s.waiting) l.state in let next = ap (λ s. s.next) l.state in record {
@@ -40,11 +40,11 @@ in_place d o l p =
           (omega (arith, ap (λ (xs : List (Call ℕ)). count_by (has_number n) xs) waiting, ap (times_in_service n) l.serving, l.left (has_ended n), p.each n));
     }
 
-leads_on : (old new : TracedView) (h : Happening) → new.object.state.unit ≡ old.object.state.unit → new.happened ≡ old.happened ++ h ∷ [] → led_by new ≡ happen h (led_by old)
+leads_on : (old new : DrivenCallsView) (h : Happening) → new.object.state.unit ≡ old.object.state.unit → new.happened ≡ old.happened ++ h ∷ [] → led_by new ≡ happen h (led_by old)
 leads_on old new h unit noted = ap₂ (λ n hs. replay (opening n) hs) unit noted ∙ replay_on (opening old.object.state.unit) old.happened h
 
--- one more thing has happened
-pub traced_on : (old new : TracedView) (h : Happening) → IsTraced old → new.object.state.unit ≡ old.object.state.unit → new.happened ≡ old.happened ++ h ∷ []
+-- what holds after one more thing has happened
+pub traced_on : (old new : DrivenCallsView) (h : Happening) → IsTraced old → new.object.state.unit ≡ old.object.state.unit → new.happened ≡ old.happened ++ h ∷ []
     → ((d : Driving) → IsLedTo d old.object → IsLedTo (happen h d) new.object) → (IsThereOnce old.object → IsThereOnce new.object)
     → HasTickets new.object → (Increases old.object.places → Increases new.object.places) → All (λ k. k < new.place) new.object.places → IsTraced new
 traced_on old new h t unit noted goes once tickets rises later =
@@ -56,7 +56,7 @@ traced_on old new h t unit noted goes once tickets rises later =
       later = later;
     }
 
--- those that aren't above a place are below the next one
+-- places that are at most this one are below the next one
 pub below_next : (k : ℕ) (places : List ℕ) → All (λ j. j ≤ k) places → All (λ j. j < k + 1) places
 below_next k places h = All-weaker (λ j. j ≤ k) (λ j. j < k + 1) (λ j le. omega (arith, le)) places h
 
@@ -71,15 +71,15 @@ found_last : (p : Call ℕ → Bool) (xs : List (Call ℕ)) (x : Call ℕ) → p
 found_last p [] x is = rw is refl
 found_last p (y ∷ xs) x is = elim (cases_Bool (p y)) [ inl here ↦ rw here refl | inr there ↦ rw there (found_last p xs x is) ]
 
--- a queue that is as long as this is full
+-- a queue of exactly this length is full
 pub full_when : (limit : Option ℕ) (n count : ℕ) (b : Bool) → b ≡ option_eq nat_eq limit (Some n) → n ≡ count → b ≡ true → is_full limit count ≡ true
 full_when limit n count b test is on = sym (ap (is_full limit) is) ∙ sym (full_is limit n) ∙ sym test ∙ on
 
--- and one that isn't as long isn't
+-- and one of another length isn't
 pub room_when : (limit : Option ℕ) (n count : ℕ) (b : Bool) → b ≡ option_eq nat_eq limit (Some n) → n ≡ count → b ≡ false → is_full limit count ≡ false
 room_when limit n count b test is off = sym (ap (is_full limit) is) ∙ sym (full_is limit n) ∙ sym test ∙ off
 
--- a call that finds a queue which isn't full is found there, by what is so of it
+-- a call that finds a queue which isn't full is found there, by any test that it passes
 pub queued_on : (p : Call ℕ → Bool) (limit : Option ℕ) (s : ObjectState ℕ ℕ) (x : Call ℕ) (n : ℕ) (b : Bool) → p x ≡ true → b ≡ option_eq nat_eq limit (Some n) → n ≡ count_by (is_on x.entry) s.waiting → b ≡ false
     → IsSome (find p (enter limit s x).waiting)
 queued_on p limit s x n b is test count off =

@@ -1,9 +1,10 @@
--- What contracts see of an object that its client drives, and what it keeps (9.5.1 to 9.5.4).
+-- SPDX-License-Identifier: MIT
+-- What contracts see of an object that its client drives, and what always holds of it (9.5.1 to 9.5.4).
 use Rattle.std.specs.Prelude.{ℕ, replicate, ◌≡◌, ◌≢◌, ◌<◌, List, [], ◌∷◌, ◌++◌, length, false, None, find, IsSome}
 use Rattle.po_engine.specs.WaitingCalls.{is_on}
 use Rattle.po_engine.specs.StateView.{StateView}
 use Rattle.po_driven.specs.AtRest.{AskedBelow, IsAtRest, ToldBelow}
-use Rattle.po_driven.specs.TracedView.{KeepsRoom, TracedView, IsTraced}
+use Rattle.po_driven.specs.DrivenCallsView.{KeepsRoom, DrivenCallsView, IsTraced}
 use Rattle.po_driven.specs.declared.phase.Phase.{Phase}
 use Rattle.po_driven.specs.declared.phase.Phase.TheVariants.{Resting, Asked, Running, Settling, Breaking}
 use Rattle.po_driven.specs.declared.action.Action.{Action}
@@ -13,22 +14,21 @@ use Rattle.po_driven.specs.declared.words.Barrier.TheVariants.{Closed, Open, Rai
 
 pub record DrivenView : Type 0 where
   -- the calls, and what has happened to them
-  pub calls : TracedView
-  -- of each entry, how many calls may be queued on it; 0: any number (D.7)
+  pub calls : DrivenCallsView
+  -- for each entry, how many calls may be queued on it; 0 means any number (D.7)
   pub limits : List ℕ
   -- what the object waits for
   pub phase : Phase
-  -- the entries that the client has answered to be closed since a body or a procedure ran, or a count changed: known to
-  -- proofs alone
+  -- the entries that the client has reported closed since a body or a procedure ran, or a count changed: known to proofs alone
   pub closed : List ℕ
 
--- an object at rest that was just made, with these calls and so many entries
-abbrev pub at_opening : TracedView → ℕ → DrivenView
+-- a newly made object at rest, with these calls and this number of entries
+abbrev pub at_opening : DrivenCallsView → ℕ → DrivenView
 at_opening calls entries = record { calls = calls; limits = replicate entries 0; phase = Resting; closed = [] }
 
--- What is so while an object waits for this: where it rests, it is at rest; where the client is asked for the barrier of an
--- entry, a call is queued on it, and the client has answered for the entries below, and for no other, so that none is asked for
--- twice; and a call is in service while its body runs.
+-- What holds while an object waits for this. If it waits for a command, it is at rest. If it waits for a barrier, a call is
+-- queued on that entry, and the client has answered for the entries below it and for no others, so that none is asked for
+-- twice. And a call is in service while its body runs.
 abbrev pub Awaits : Phase → StateView ℕ ℕ → List ℕ → Type 0
 Awaits Resting o closed = IsAtRest o closed
 Awaits (Asked e) o closed = (o.serving ≡ None) × (e < o.state.unit) × IsSome (find (is_on e) o.state.waiting) × ToldBelow closed e o.state.waiting × AskedBelow closed e
@@ -36,17 +36,18 @@ Awaits Running o closed = IsSome o.serving
 Awaits Settling o closed = o.serving ≡ None
 Awaits Breaking o closed = o.serving ≡ None
 
--- What a driven object keeps beside its calls: a limit for each entry, and what is so while it waits.
+-- What holds of a driven object besides its calls: it has a limit for each entry, and what its phase says holds.
 pub record IsWaiting (d : DrivenView) : Type 0 where
   pub limits : length d.limits ≡ d.calls.object.state.unit
   pub awaits : Awaits d.phase d.calls.object d.closed
 
--- What a driven object keeps.
+-- What always holds of a driven object.
 pub record IsDriven (d : DrivenView) : Type 0 where
   pub traced : IsTraced d.calls
   pub waits : IsWaiting d
 
--- The object waits for a command, is not finalized, and numbers and places are left: a call of this entry is accepted.
+-- A call on this entry is accepted: the object waits for a command and isn't finalized, the entry exists, and numbers and
+-- places are left.
 pub record MayIssue (d : DrivenView) (e : ℕ) : Type 0 where
   pub resting : d.phase ≡ Resting
   pub alive : d.calls.object.state.finalized ≡ false
@@ -54,7 +55,7 @@ pub record MayIssue (d : DrivenView) (e : ℕ) : Type 0 where
   pub number : d.calls.object.state.next < 18_446_744_073_709_551_615
   pub place : d.calls.place < 340_282_366_920_938_463_463_374_607_431_768_211_455
 
--- What the client is told is so: what it is to do next is what the object waits for.
+-- What the client is told is right: what it is to do next is what the object waits for.
 abbrev pub Tells : Action → DrivenView → Type 0
 Tells Rest d = d.phase ≡ Resting
 Tells (Evaluate e) d = d.phase ≡ Asked e
@@ -65,7 +66,7 @@ Tells ProgramError d = d.phase ≢ Running
 Tells NoMemory d = d.phase ≡ Resting
 Tells Refused d = Unit {0}
 
--- After a step that may have changed what a barrier says, no entry counts as answered to be closed.
+-- After a step that may have changed what a barrier says, no entry counts as reported closed.
 abbrev pub Fresh : Action → DrivenView → Type 0
 Fresh NoMemory d = Unit {0}
 Fresh Refused d = Unit {0}
@@ -77,14 +78,14 @@ KeepsAll NoMemory old new = new ≡ old
 KeepsAll Refused old new = new ≡ old
 KeepsAll other old new = Unit {0}
 
--- What an object was made with stays: how many entries it has, the limits of their queues, whether its memory is fixed, and then
--- for how many calls it is.
+-- The setup of an object stays: how many entries it has, the limits of their queues, whether its memory is fixed, and if so,
+-- for how many calls.
 pub record KeepsSetup (old new : DrivenView) : Type 0 where
   pub entries : new.calls.object.state.unit ≡ old.calls.object.state.unit
   pub limits : new.limits ≡ old.limits
   pub room : KeepsRoom old.calls.object new.calls.object
 
--- which entries count as answered to be closed once the client has answered for this one
+-- which entries count as reported closed once the client has answered for this one
 abbrev pub closed_after : List ℕ → ℕ → Barrier → List ℕ
 closed_after closed e Closed = closed ++ e ∷ []
 closed_after closed e Open = []

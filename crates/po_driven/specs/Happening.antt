@@ -1,4 +1,5 @@
--- What happens to the calls of a driven object, in the words of a step (9.5.2 to 9.5.4).
+-- SPDX-License-Identifier: MIT
+-- What happens to the calls of a driven object, in the terms of a step (9.5.2 to 9.5.4).
 use Rattle.std.specs.Prelude.{ℕ, List, [], ◌∷◌, ◌++◌, true, false, Option, Some, None, find, option_map}
 use Rattle.std.specs.List.{slice_get}
 use Rattle.po_unit.specs.declared.outcome.Outcome.{Outcome}
@@ -8,19 +9,19 @@ use Rattle.po_calls.specs.declared.end.End.{End}
 use Rattle.po_calls.specs.declared.end.End.TheVariants.{ProgramError}
 use Rattle.po_engine.specs.WaitingCalls.{has_number, is_on}
 use Rattle.po_engine.specs.ObjectState.{ObjectState, opening_state}
-use Rattle.po_engine.specs.Step.{end_call, conclude, take_out, cancel, abort}
+use Rattle.po_engine.specs.Step.{end_call, conclude, take_out, cancel, attempt_cancel}
 use Rattle.po_engine.specs.Driving.{admitted, counted, in_service, new_call, take_oldest}
 use Rattle.po_driven.specs.declared.happening.Happening.{Happening}
 use Rattle.po_driven.specs.declared.happening.Happening.TheVariants.{Served, Arrived, Selected, Ended, RequeuedElsewhere, Due, Requeued, Broken, Cancelled, Marked, Finalized}
 
--- The calls of an object: those that are queued or have ended, the one in service, whose body runs, and those that a body requeued
--- to another object or a task (9.5.4).
+-- The calls of an object: those that are queued or have ended, the one in service, whose body runs, and those that a body
+-- requeued to another object or a task (9.5.4).
 pub record Driving : Type 0 where
   pub state : ObjectState ℕ ℕ
   pub serving : Option (Call ℕ)
   pub elsewhere : List (Call ℕ)
 
--- an object with so many entries that was just made
+-- a newly made object with this number of entries
 abbrev pub opening : ℕ → Driving
 opening entries = record { state = opening_state entries 1; serving = None; elsewhere = [] }
 
@@ -48,7 +49,7 @@ abbrev pub after_requeue : Driving → Option (Call ℕ) → Outcome ℕ → Opt
 after_requeue d None o limit = record d { serving = None }
 after_requeue d (Some x) o limit = record d { state = conclude limit d.state x o; serving = None }
 
--- what comes of one thing that happens
+-- the calls after one thing has happened
 abbrev pub happen : Happening → Driving → Driving
 happen (Served a) d = record d { state = admitted None (counted d.state) (new_call d.state.next a) true; serving = in_service (new_call d.state.next a) true }
 happen (Arrived a limit) d = record d { state = admitted limit (counted d.state) (new_call d.state.next a) false; serving = in_service (new_call d.state.next a) false }
@@ -59,10 +60,10 @@ happen Due d = record d { serving = option_map make_due d.serving }
 happen (Requeued o limit) d = after_requeue d d.serving o limit
 happen Broken d = record d { state = end_oldest d.state (slice_get d.state.waiting 0); serving = None }
 happen (Cancelled n) d = record d { state = cancel d.state n (find (has_number n) d.state.waiting); serving = None }
-happen (Marked n) d = record d { state = abort d.state n (find (has_number n) d.state.waiting); serving = None }
+happen (Marked n) d = record d { state = attempt_cancel d.state n (find (has_number n) d.state.waiting); serving = None }
 happen Finalized d = record d { state = record d.state { finalized = true } }
 
--- what comes of all that has happened, one after the other
+-- the calls after these things have happened, one after the other
 abbrev pub replay : Driving → List Happening → Driving
 replay d [] = d
 replay d (h ∷ hs) = replay (happen h d) hs

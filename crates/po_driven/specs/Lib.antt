@@ -1,3 +1,4 @@
+-- SPDX-License-Identifier: MIT
 pub mod Answering
 pub mod AtRest
 pub mod DrivenView
@@ -5,5 +6,5 @@ pub mod Happening
 pub mod Noted
 pub mod OnePlace
 pub mod Steps
-pub mod TracedView
+pub mod DrivenCallsView
 pub mod Unknown

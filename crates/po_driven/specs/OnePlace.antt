@@ -1,4 +1,5 @@
--- Where each call of a driven object is (this project's own).
+-- SPDX-License-Identifier: MIT
+-- In which place each call of a driven object is (this project's own).
 use Rattle.std.specs.Prelude.{ℕ, ◌≡◌, ◌≤◌, ◌+◌, List, Bool, Option, Some, None, count_by, length, nat_le, nat_lt, ◌&&◌, if◌then◌else◌}
 use Rattle.po_calls.specs.declared.call.Call.{Call}
 use Rattle.po_calls.specs.declared.end.End.TheVariants.{Completed}
@@ -19,17 +20,17 @@ times_in_service n (Some x) = if has_number n x then 1 else 0
 abbrev pub places_with : ℕ → Driving → ℕ
 places_with n d = count_by (has_number n) d.state.waiting + times_in_service n d.serving + count_by (has_ended n) d.state.ended + count_by (has_number n) d.elsewhere
 
--- Each call that was accepted is in exactly one place: it is queued, its body runs, it has ended, or a body requeued it to another
--- object or a task. No other number is anywhere.
+-- Each call that was accepted is in exactly one place: it is queued, its body runs, it has ended, or a body requeued it to
+-- another object or a task. No other number is anywhere.
 pub record IsInOnePlace (d : Driving) : Type 0 where
   pub low : 1 ≤ d.state.next
   pub each : (n : ℕ) → places_with n d ≡ (if nat_le 1 n && nat_lt n d.state.next then 1 else 0)
 
--- The calls that have left the engine are the ended ones and those that were requeued elsewhere, which it takes for completed.
+-- The calls that have left the engine are the ended ones and those that were requeued elsewhere, which it counts as completed.
 abbrev pub HaveLeft : List (Ended ℕ) → List (Ended ℕ) → List (Call ℕ) → Type 0
 HaveLeft left ended elsewhere = (p : Ended ℕ → Bool) → count_by p left ≡ count_by p ended + count_by (λ x. p (ended_as (Completed x.value) x)) elsewhere
 
--- These are the calls that are there: the same are queued and in service, with the same numbers, and as many have left.
+-- These calls are those of the engine: the same are queued and in service, with the same numbers, and as many have left.
 pub record IsLedTo (d : Driving) (o : StateView ℕ ℕ) : Type 0 where
   pub state : o.state ≡ record d.state { ended = o.state.ended }
   pub serving : o.serving ≡ d.serving

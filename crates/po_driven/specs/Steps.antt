@@ -1,4 +1,6 @@
--- All that the contract of a step says of the object before and after it, by what the step answers (9.4, 9.5.1 to 9.5.4, 9.7.2, D.7).
+-- SPDX-License-Identifier: MIT
+-- All that the contract of a step says about the object before and after it, given the step's answer (9.4, 9.5.1 to 9.5.4,
+-- 9.7.2, D.7).
 use Rattle.std.specs.Prelude.{ℕ, Bool, ◌≡◌, ◌≢◌, ◌<◌, None, Some, IsSome}
 use Rattle.po_calls.specs.declared.call.Call.{Call}
 use Rattle.po_calls.specs.declared.ticket.Ticket.{Ticket}
@@ -17,10 +19,10 @@ use Rattle.po_driven.specs.declared.words.BodyEnd.TheVariants.{Completed, Failed
 use Rattle.po_driven.specs.declared.words.Cancellation.{Cancellation}
 use Rattle.po_driven.specs.declared.words.Cancellation.TheVariants.{Made, Refused as IsRefused}
 use Rattle.po_driven.specs.declared.words.Requeue.{Requeue}
-use Rattle.po_driven.specs.declared.words.Step.{Step}
+use Rattle.po_driven.specs.declared.words.NamedCall.{NamedCall}
 
--- A call is issued, whose barrier says so (9.5.3).
-pub record Issues (a : Arriving ℕ) (barrier : Barrier) (step : Step) (old new : DrivenView) (action : Action) : Type 0 where
+-- A call is issued, and the client gives this answer about its barrier (9.5.3).
+pub record Issues (a : Arriving ℕ) (barrier : Barrier) (step : NamedCall) (old new : DrivenView) (action : Action) : Type 0 where
   pub tells : Tells action new
   pub kept : KeepsAll action old new
   pub setup : KeepsSetup old new
@@ -34,8 +36,8 @@ pub record Issues (a : Arriving ℕ) (barrier : Barrier) (step : Step) (old new 
   pub follows : AnswersCall action a barrier new
   pub full : (barrier ≡ Raised → ⊥) → EndsWhereFull action a.entry old
 
--- The barrier that the client was asked for says so (9.5.2, 9.5.3).
-pub record Evaluates (barrier : Barrier) (step : Step) (old new : DrivenView) (action : Action) : Type 0 where
+-- The client gives this answer about the barrier that it was asked for (9.5.2, 9.5.3).
+pub record Evaluates (barrier : Barrier) (step : NamedCall) (old new : DrivenView) (action : Action) : Type 0 where
   pub tells : Tells action new
   pub kept : KeepsAll action old new
   pub setup : KeepsSetup old new
@@ -48,8 +50,8 @@ pub record Evaluates (barrier : Barrier) (step : Step) (old new : DrivenView) (a
   pub looks_on : (e : ℕ) → old.phase ≡ Asked e → barrier ≡ Closed → LooksOn action old.calls.object.state.waiting new.closed
   pub breaks : (e : ℕ) → old.phase ≡ Asked e → barrier ≡ Raised → Breaks action old new
 
--- The body of the call in service has ended so (9.5.2, 9.5.4).
-pub record EndsBody (end : BodyEnd) (step : Step) (old new : DrivenView) (action : Action) : Type 0 where
+-- The body of the call in service has ended in this way (9.5.2, 9.5.4).
+pub record EndsBody (end : BodyEnd) (step : NamedCall) (old new : DrivenView) (action : Action) : Type 0 where
   pub tells : Tells action new
   pub kept : KeepsAll action old new
   pub setup : KeepsSetup old new
@@ -67,7 +69,7 @@ pub record EndsBody (end : BodyEnd) (step : Step) (old new : DrivenView) (action
   pub breaks : IsSome old.calls.object.serving → end ≡ Failed → Breaks action old new
 
 -- The client asks for what is next (9.5.1, 9.5.3).
-pub record GoesOn (step : Step) (old new : DrivenView) (action : Action) : Type 0 where
+pub record GoesOn (step : NamedCall) (old new : DrivenView) (action : Action) : Type 0 where
   pub tells : Tells action new
   pub kept : KeepsAll action old new
   pub setup : KeepsSetup old new
@@ -80,7 +82,7 @@ pub record GoesOn (step : Step) (old new : DrivenView) (action : Action) : Type 
   pub breaks : old.phase ≡ Breaking → Breaks action old new
 
 -- The object is finalized (9.4).
-pub record Finalizes (step : Step) (old new : DrivenView) (action : Action) : Type 0 where
+pub record Finalizes (step : NamedCall) (old new : DrivenView) (action : Action) : Type 0 where
   pub tells : Tells action new
   pub kept : KeepsAll action old new
   pub setup : KeepsSetup old new
@@ -91,8 +93,8 @@ pub record Finalizes (step : Step) (old new : DrivenView) (action : Action) : Ty
   pub names : Names action step old new
   pub breaks : old.phase ≡ Resting → Breaks action old new
 
--- An attempt is made to cancel the queued call of the ticket, since its time has come or since its caller was aborted (9.5.3, 9.5.4,
--- 9.7.2).
+-- An attempt is made to cancel the queued call of the ticket, because its time has come or its caller was aborted (9.5.3,
+-- 9.5.4, 9.7.2).
 pub record Attempts (ticket : Ticket) (expired : Bool) (old new : DrivenView) (what : Cancellation) : Type 0 where
   pub accepted : old.phase ≡ Resting → what ≢ IsRefused
   pub refused : old.phase ≢ Resting → what ≡ IsRefused

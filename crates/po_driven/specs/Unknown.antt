@@ -1,4 +1,5 @@
--- An object whose bodies and barriers nobody knows here: they are the client's.
+-- SPDX-License-Identifier: MIT
+-- An object whose bodies and barriers aren't known here: they are the client's.
 use Rattle.std.specs.Prelude.{ℕ, false, Ok, refl}
 use Rattle.po_unit.specs.Meaning.{Meaning, IsLawful}
 use Rattle.po_unit.specs.declared.outcome.Outcome.TheVariants.{Complete}

@@ -1,3 +1,4 @@
+// SPDX-License-Identifier: MIT
 //! What a client is to do next.
 
 /// What a client is to do next.
@@ -18,6 +19,6 @@ pub enum Action {
     ProgramError,
     /// Memory for one more call was refused, and nothing has changed.
     NoMemory,
-    /// The object doesn't wait for that, and nothing has changed.
+    /// The object doesn't accept this now, and nothing has changed.
     Refused,
 }

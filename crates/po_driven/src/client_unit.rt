@@ -1,4 +1,5 @@
-//! The unit of an object whose client has its data, barriers and bodies: of them only the number of entries is known.
+// SPDX-License-Identifier: MIT
+//! The unit of an object whose client has its data, barriers and bodies: only the number of entries is known here.
 
 use po_unit::{Outcome, Unit};
 use std::alloc::AllocError;
@@ -19,7 +20,7 @@ impl Model for ClientUnit {
 }
 
 impl ClientUnit {
-    /// So many entries.
+    /// Makes the unit of an object with `total` entries.
     pub fn new(total: u16) -> ClientUnit
         ensures { result ≡ total }
     {

@@ -1,3 +1,4 @@
+// SPDX-License-Identifier: MIT
 //! A protected object that its client drives.
 
 ghost use Rattle.std.specs.Prelude.{◌≡◌, ◌≢◌, ◌<◌, ◌≤◌, ◌+◌, ◌++◌, ◌∷◌, [], ℕ, None, Some, true, false, length, All, IfOk, IsOk, IfErr, OnOk, OnErr, Option, IsSome, IfSome, find, count_by, slice_set};
@@ -10,7 +11,7 @@ ghost use Rattle.po_engine.specs.Step.{end_call};
 ghost use Rattle.po_engine.specs.declared.arriving.Arriving.{Arriving};
 ghost use Rattle.po_driven.specs.AtRest.{AskedBelow, ToldBelow, told};
 ghost use Rattle.po_driven.specs.DrivenView.{DrivenView, IsDriven, KeepsSetup, Tells, Fresh, KeepsAll, MayIssue, at_opening, closed_after};
-ghost use Rattle.po_driven.specs.TracedView.{IsReady, opening_calls};
+ghost use Rattle.po_driven.specs.DrivenCallsView.{IsReady, opening_calls};
 ghost use Rattle.po_driven.specs.Answering.{AnswersCall, FollowsBarrier, LooksOn, Breaks, MayRequeue, Moves, WaitsForNext};
 ghost use Rattle.po_driven.specs.Noted.{Notes, serviced, issued, concluded, attempted, Names, NamesCaller, NamesTicket, HasTicket, EndsWhereFull, IsNoRequeue, Cancels, KeepsCalls, longest_on};
 ghost use Rattle.po_driven.specs.declared.action.Action.TheVariants.{Run, ProgramError, NoMemory, Refused};
@@ -19,27 +20,28 @@ ghost use Rattle.po_driven.specs.declared.words.BodyEnd.TheVariants.{Completed, 
 ghost use Rattle.po_driven.specs.declared.phase.Phase.TheVariants.{Resting, Asked, Settling, Breaking};
 ghost use Rattle.po_driven.specs.declared.words.Barrier.TheVariants.{Closed, Open, Raised};
 ghost use Rattle.po_driven.specs.declared.words.Requeue.{Requeue};
-ghost use Rattle.po_driven.specs.declared.words.Step.{Step};
+ghost use Rattle.po_driven.specs.declared.words.NamedCall.{NamedCall};
 ghost use Rattle.po_driven.specs.declared.words.Cancellation.TheVariants.{Made, Refused as IsRefused};
 
 use crate::action::Action;
+use crate::driven_calls::DrivenCalls;
 use crate::phase::Phase;
-use crate::traced_state::TracedState;
-use crate::words::{Barrier, BodyEnd, Cancellation, Requeue, Step};
+use crate::words::{Barrier, BodyEnd, Cancellation, NamedCall, Requeue};
 use po_calls::{Call, End, Ticket};
 use po_engine::Arriving;
 use po_history::Trace;
+use po_unit::Unit;
 use std::alloc::{AllocError, Global};
 use std::marker::Model;
 
 /// The entry calls of a protected object whose client evaluates the barriers and runs the bodies.
 #[derive(Drop)]
 pub struct DrivenObject {
-    calls: TracedState,
-    /// Of each entry, how many calls may be queued on it; 0: any number (D.7).
+    calls: DrivenCalls,
+    /// For each entry, how many calls may be queued on it; 0 means any number (D.7).
     limits: Vec<u64>,
     phase: Phase,
-    /// The entries answered to be closed since anything changed: known to proofs alone.
+    /// The entries that the client has reported closed since anything changed. Known to proofs alone.
     closed: Trace<u16>,
 }
 
@@ -63,8 +65,8 @@ impl Model for DrivenObject {
     }) };
 }
 
-/// A driven object at rest, with these calls and so many entries.
-fn at_rest(alloc: Global, calls: TracedState, entries: u16) -> Result<DrivenObject, AllocError>
+/// Makes a driven object at rest, with these calls and this number of entries.
+fn at_rest(alloc: Global, calls: DrivenCalls, entries: u16) -> Result<DrivenObject, AllocError>
     requires unit { calls.object.state.unit ≡ entries }
     requires idle { calls.object.serving ≡ None }
     requires none { calls.object.state.waiting ≡ [] }
@@ -79,15 +81,15 @@ fn at_rest(alloc: Global, calls: TracedState, entries: u16) -> Result<DrivenObje
 }
 
 impl DrivenObject {
-    /// An object with so many entries, which takes memory as its calls need it.
+    /// Makes an object with this number of entries, which takes memory as its calls need it.
     pub fn new(alloc: Global, entries: u16) -> Result<DrivenObject, AllocError>
         ensures { IfOk result (λ d. d ≡ at_opening (opening_calls entries 0 false) entries) }
     {
-        let calls = TracedState::new(alloc, entries)?;
+        let calls = DrivenCalls::new(alloc, entries)?;
         at_rest(alloc, calls, entries)
     }
 
-    /// The same with all its memory, for so many calls at once that are queued or in service.
+    /// Like `new`, but takes all its memory at once, for up to `most` calls that are queued or in service.
     pub fn with_capacity(
         alloc: Global,
         entries: u16,
@@ -95,25 +97,26 @@ impl DrivenObject {
     ) -> Result<DrivenObject, AllocError>
         ensures { IfOk result (λ d. d ≡ at_opening (opening_calls entries most true) entries) }
     {
-        let calls = TracedState::with_capacity(alloc, entries, most)?;
+        let calls = DrivenCalls::with_capacity(alloc, entries, most)?;
         at_rest(alloc, calls, entries)
     }
 
-    /// What all such objects keep.
+    /// Recalls for proofs what holds of every driven object.
     pub fn recall_invariant(&self)
         ensures { IsDriven self.now }
     {
         self.calls.recall_invariant();
     }
 
-    /// How many entries there are.
+    /// Returns how many entries there are.
     pub fn entries(&self) -> u16
         ensures { result ≡ self.now.calls.object.state.unit }
     {
-        self.calls.state().procedures()
+        self.calls.state().unit().entries()
     }
 
-    /// From now on at most so many calls may be queued on the entry (D.7); 0: any number. False: there is no such entry.
+    /// Sets how many calls may be queued on the entry from now on (D.7); 0 means any number. Returns false if there is no such
+    /// entry.
     pub fn limit(&mut self, e: u16, longest: u64) -> bool
         ensures set { e < self.old.calls.object.state.unit → (result ≡ true) × (self.new ≡ record self.old { limits = slice_set self.old.limits e longest }) }
         ensures none { self.old.calls.object.state.unit ≤ e → (result ≡ false) × (self.new ≡ self.old) }
@@ -125,8 +128,8 @@ impl DrivenObject {
         true
     }
 
-    /// At which length the queue of the entry is full, if at any. Where more calls are queued than a lowered limit allows, it
-    /// is full.
+    /// Returns the length at which the queue of the entry is full, if there is one. A queue with more calls than a lowered
+    /// limit allows is full.
     fn longest(&self, e: u16) -> Option<u64>
         requires { e < self.now.calls.object.state.unit }
         ensures { result ≡ longest_on self.now e }
@@ -139,7 +142,7 @@ impl DrivenObject {
         }
     }
 
-    /// Whether a call of the entry is accepted now.
+    /// Returns whether a call on the entry is accepted now.
     fn may_issue(&self, e: u16) -> bool
         ensures yes { result ≡ true → MayIssue self.now e }
         ensures no { MayIssue self.now e → result ≡ true }
@@ -150,9 +153,14 @@ impl DrivenObject {
             && self.calls.has_numbers()
     }
 
-    /// A call arrives, and its client says what the barrier of its entry says (9.5.3).
+    /// Issues a call. The client reports what the barrier of its entry says (9.5.3).
     #[inline(always)]
-    pub fn issue(&mut self, arriving: Arriving<u64>, barrier: Barrier, step: &mut Step) -> Action
+    pub fn issue(
+        &mut self,
+        arriving: Arriving<u64>,
+        barrier: Barrier,
+        step: &mut NamedCall,
+    ) -> Action
         ensures tells { Tells result self.new }
         ensures fresh { Fresh result self.new }
         ensures kept { KeepsAll result self.old self.new }
@@ -181,13 +189,13 @@ impl DrivenObject {
         }
     }
 
-    /// A call is accepted, where there is memory for it.
+    /// Accepts a call, if there is memory for it.
     #[inline(always)]
     fn accept(
         &mut self,
         arriving: Arriving<u64>,
         barrier: Barrier,
-        step: &mut Step,
+        step: &mut NamedCall,
     ) -> Result<Action, AllocError>
         requires may { MayIssue self.old arriving.entry }
         ensures tells { IfOk result (λ action. Tells action self.new) }
@@ -212,9 +220,9 @@ impl DrivenObject {
         Ok(action)
     }
 
-    /// A call whose barrier is open is accepted: its body is to be run.
+    /// Accepts a call whose barrier is open: its body is to be run.
     #[inline(always)]
-    fn accept_open(&mut self, arriving: Arriving<u64>, step: &mut Step) -> Action
+    fn accept_open(&mut self, arriving: Arriving<u64>, step: &mut NamedCall) -> Action
         requires { IsReady self.old.calls arriving.entry }
         ensures tells { Tells result self.new }
         ensures fresh { self.new.closed ≡ [] }
@@ -235,9 +243,9 @@ impl DrivenObject {
         Action::Run(arriving.entry)
     }
 
-    /// A call whose barrier is closed is accepted: it is queued, or ends where the queue is full.
+    /// Accepts a call whose barrier is closed: it is queued, or ends if the queue is full.
     #[inline(always)]
-    fn accept_closed(&mut self, arriving: Arriving<u64>, step: &mut Step) -> Action
+    fn accept_closed(&mut self, arriving: Arriving<u64>, step: &mut NamedCall) -> Action
         requires { IsReady self.old.calls arriving.entry }
         ensures tells { Tells result self.new }
         ensures fresh { self.new.closed ≡ [] }
@@ -258,8 +266,8 @@ impl DrivenObject {
         self.arrived(queued, arriving.entry, step)
     }
 
-    /// A call whose barrier propagated an exception is accepted: it ends by Program_Error, behind all queued calls (9.5.3).
-    fn accept_raised(&mut self, arriving: Arriving<u64>, step: &mut Step) -> Action
+    /// Accepts a call whose barrier propagated an exception: it ends by Program_Error, after all queued calls (9.5.3).
+    fn accept_raised(&mut self, arriving: Arriving<u64>, step: &mut NamedCall) -> Action
         requires { IsReady self.old.calls arriving.entry }
         ensures tells { Tells result self.new }
         ensures fresh { self.new.closed ≡ [] }
@@ -277,8 +285,8 @@ impl DrivenObject {
         self.break_one(step)
     }
 
-    /// What the client is told of a call that has arrived on the queue of the entry, or has ended since that was full.
-    fn arrived(&mut self, queued: Option<Ticket>, e: u16, step: &mut Step) -> Action
+    /// Returns what the client is to do after a call has arrived on the queue of the entry, or has ended because that was full.
+    fn arrived(&mut self, queued: Option<Ticket>, e: u16, step: &mut NamedCall) -> Action
         requires idle { self.old.calls.object.serving ≡ None }
         requires phase { self.old.phase ≡ Settling }
         requires fresh { self.old.closed ≡ [] }
@@ -306,8 +314,8 @@ impl DrivenObject {
         Action::Queued(first)
     }
 
-    /// What the barrier that the client was asked for says.
-    pub fn answer(&mut self, barrier: Barrier, step: &mut Step) -> Action
+    /// Takes what the client says about the barrier that it was asked for, and returns what is next.
+    pub fn answer(&mut self, barrier: Barrier, step: &mut NamedCall) -> Action
         ensures tells { Tells result self.new }
         ensures kept { KeepsAll result self.old self.new }
         ensures closed { (e : ℕ) → self.old.phase ≡ Asked e → self.new.closed ≡ closed_after self.old.closed e barrier }
@@ -333,7 +341,7 @@ impl DrivenObject {
         }
     }
 
-    /// The entry was answered to be closed: gives the next one.
+    /// Notes that the client reported the entry closed, and returns the next entry.
     #[tactic(auto, using(crate::proofs::Rests::asked_through))]
     fn note_closed(&mut self, e: u16) -> u16
         requires { self.old.phase ≡ Asked e }
@@ -342,16 +350,16 @@ impl DrivenObject {
         ensures once { AskedBelow self.new.closed result }
         ensures idle { self.new.calls.object.serving ≡ None }
     {
-        // An entry's number is below theirs, so there is a next one.
+        // Only for the prover: an entry's number is below the number of entries, so there is a next one.
         let _ = self.entries();
         self.phase = Phase::Settling;
         self.closed = self.closed.then(&e);
         e.saturating_add(1)
     }
 
-    /// The first call on the entry is taken in service.
+    /// Takes the first call on the entry into service.
     #[tactic(auto, using(po_engine::proofs::Lists::found_on))]
-    fn serve(&mut self, e: u16, step: &mut Step) -> Action
+    fn serve(&mut self, e: u16, step: &mut NamedCall) -> Action
         requires { self.old.phase ≡ Asked e }
         ensures tells { Tells result self.new }
         ensures fresh { self.new.closed ≡ [] }
@@ -372,9 +380,9 @@ impl DrivenObject {
         Action::Run(e)
     }
 
-    /// How the body of the call in service ended.
+    /// Takes how the body of the call in service ended, and returns what is next.
     #[inline(always)]
-    pub fn body_ended(&mut self, end: BodyEnd, step: &mut Step) -> Action
+    pub fn body_ended(&mut self, end: BodyEnd, step: &mut NamedCall) -> Action
         ensures tells { Tells result self.new }
         ensures fresh { Fresh result self.new }
         ensures kept { KeepsAll result self.old self.new }
@@ -411,7 +419,7 @@ impl DrivenObject {
         }
     }
 
-    /// The call in service ends.
+    /// Ends the call in service.
     #[inline(always)]
     fn end(&mut self, call: Call<u64>, end: End<u64>)
         requires { self.old.calls.object.serving ≡ Some call }
@@ -427,7 +435,7 @@ impl DrivenObject {
         self.closed = Trace::new();
     }
 
-    /// The call in service leaves the object: its body requeued it to another one or a task.
+    /// Removes the call in service from the object: its body requeued it to another object or a task.
     #[inline(always)]
     fn requeue_elsewhere(&mut self, call: Call<u64>)
         requires { self.old.calls.object.serving ≡ Some call }
@@ -443,8 +451,9 @@ impl DrivenObject {
         self.closed = Trace::new();
     }
 
-    /// The call in service goes to the end of the queue of an entry, or is cancelled where its caller was aborted (9.5.4).
-    fn requeue(&mut self, call: Call<u64>, requeue: Requeue, step: &mut Step) -> Action
+    /// Puts the call in service at the end of an entry's queue, or cancels it if the requeue is with abort and its caller was
+    /// aborted (9.5.4).
+    fn requeue(&mut self, call: Call<u64>, requeue: Requeue, step: &mut NamedCall) -> Action
         requires { self.old.calls.object.serving ≡ Some call }
         ensures tells { Tells result self.new }
         ensures fresh { Fresh result self.new }
@@ -472,8 +481,9 @@ impl DrivenObject {
         self.arrived(queued, requeue.target, step)
     }
 
-    /// What is next. Where a procedure ran, the barriers may have changed.
-    pub fn next(&mut self, step: &mut Step) -> Action
+    /// Returns what is next. Unless all queued calls are ending, it asks for the barriers anew: a procedure may have changed
+    /// them.
+    pub fn next(&mut self, step: &mut NamedCall) -> Action
         ensures tells { Tells result self.new }
         ensures fresh { Fresh result self.new }
         ensures kept { KeepsAll result self.old self.new }
@@ -496,10 +506,10 @@ impl DrivenObject {
         }
     }
 
-    /// Asks for the barrier of the first entry from here on that has a queued call. Else the first call that is due is
-    /// cancelled, and where none is the object is at rest.
+    /// Asks for the barrier of the first entry, from `from` on, that has a queued call. If there is none, the first call that
+    /// is due is cancelled. If none is due, the object is at rest.
     #[inline(always)]
-    fn ask(&mut self, from: u16, step: &mut Step) -> Action
+    fn ask(&mut self, from: u16, step: &mut NamedCall) -> Action
         requires idle { self.old.calls.object.serving ≡ None }
         requires below { ToldBelow self.old.closed from self.old.calls.object.state.waiting }
         requires once { AskedBelow self.old.closed from }
@@ -509,7 +519,7 @@ impl DrivenObject {
         ensures proceeds { (old new : DrivenView) → KeepsAll result old new }
         ensures noted { Notes (serviced result self.old) self.old self.new }
         ensures names { Names result step.new self.old self.new }
-        ensures unqueued { (told : Step) (d : DrivenView) → NamesTicket result told d }
+        ensures unqueued { (told : NamedCall) (d : DrivenView) → NamesTicket result told d }
         ensures looks_on { LooksOn result self.old.calls.object.state.waiting self.old.closed }
         ensures setup { KeepsSetup self.old self.new }
     {
@@ -520,8 +530,8 @@ impl DrivenObject {
         self.ask_busy(from, step)
     }
 
-    /// The same, where a call is queued.
-    fn ask_busy(&mut self, from: u16, step: &mut Step) -> Action
+    /// Does what `ask` does if a call is queued.
+    fn ask_busy(&mut self, from: u16, step: &mut NamedCall) -> Action
         requires idle { self.old.calls.object.serving ≡ None }
         requires below { ToldBelow self.old.closed from self.old.calls.object.state.waiting }
         requires once { AskedBelow self.old.closed from }
@@ -531,7 +541,7 @@ impl DrivenObject {
         ensures proceeds { (old new : DrivenView) → KeepsAll result old new }
         ensures noted { Notes (serviced result self.old) self.old self.new }
         ensures names { Names result step.new self.old self.new }
-        ensures unqueued { (told : Step) (d : DrivenView) → NamesTicket result told d }
+        ensures unqueued { (told : NamedCall) (d : DrivenView) → NamesTicket result told d }
         ensures looks_on { LooksOn result self.old.calls.object.state.waiting self.old.closed }
         ensures setup { KeepsSetup self.old self.new }
     {
@@ -542,8 +552,8 @@ impl DrivenObject {
         self.cancel_due(step)
     }
 
-    /// The first call that is due is cancelled; where none is, the object is at rest (9.7.2, 9.7.3).
-    fn cancel_due(&mut self, step: &mut Step) -> Action
+    /// Cancels the first call that is due. If none is due, the object is at rest (9.7.2, 9.7.3).
+    fn cancel_due(&mut self, step: &mut NamedCall) -> Action
         requires idle { self.old.calls.object.serving ≡ None }
         requires closed { All (λ x. told self.old.closed x.entry ≡ true) self.old.calls.object.state.waiting }
         ensures tells { Tells result self.new }
@@ -552,7 +562,7 @@ impl DrivenObject {
         ensures proceeds { (old new : DrivenView) → KeepsAll result old new }
         ensures noted { Notes (serviced result self.old) self.old self.new }
         ensures names { Names result step.new self.old self.new }
-        ensures unqueued { (told : Step) (d : DrivenView) → NamesTicket result told d }
+        ensures unqueued { (told : NamedCall) (d : DrivenView) → NamesTicket result told d }
         ensures looks_on { LooksOn result self.old.calls.object.state.waiting self.old.closed }
         ensures setup { KeepsSetup self.old self.new }
     {
@@ -565,8 +575,8 @@ impl DrivenObject {
         Action::Cancelled
     }
 
-    /// The call that was queued first of all ends by Program_Error. Where none is queued, the object is at rest.
-    fn break_one(&mut self, step: &mut Step) -> Action
+    /// Ends the call that was queued first of all by Program_Error. If none is queued, the object is at rest.
+    fn break_one(&mut self, step: &mut NamedCall) -> Action
         requires { self.old.calls.object.serving ≡ None }
         ensures tells { Tells result self.new }
         ensures fresh { self.new.closed ≡ [] }
@@ -574,7 +584,7 @@ impl DrivenObject {
         ensures proceeds { (old new : DrivenView) → KeepsAll result old new }
         ensures noted { Notes (serviced result self.old) self.old self.new }
         ensures names { Names result step.new self.old self.new }
-        ensures unqueued { (told : Step) (d : DrivenView) → NamesTicket result told d }
+        ensures unqueued { (told : NamedCall) (d : DrivenView) → NamesTicket result told d }
         ensures breaks { Breaks result self.old self.new }
         ensures first { IsSome (slice_get self.old.calls.object.state.waiting 0) → result ≡ ProgramError }
         ensures setup { KeepsSetup self.old self.new }
@@ -589,8 +599,8 @@ impl DrivenObject {
         Action::ProgramError
     }
 
-    /// An attempt to cancel the queued call of the ticket, since its time has come, or since its caller was aborted. Where it
-    /// is made, the client asks for what is next (9.5.3, 9.7.2, 9.8).
+    /// Attempts to cancel the queued call of the ticket, because its time has come or its caller was aborted. If the call is
+    /// cancelled, the client asks for what is next (9.5.3, 9.7.2, 9.8).
     pub fn cancel(&mut self, ticket: Ticket, expired: bool) -> Cancellation
         ensures made { result ≡ Made → self.new.phase ≡ Settling }
         ensures other { result ≢ Made → self.new.phase ≡ self.old.phase }
@@ -619,8 +629,8 @@ impl DrivenObject {
         Cancellation::Kept
     }
 
-    /// The object is finalized: all queued calls end by Program_Error (9.4).
-    pub fn finalize(&mut self, step: &mut Step) -> Action
+    /// Finalizes the object: all queued calls end by Program_Error (9.4).
+    pub fn finalize(&mut self, step: &mut NamedCall) -> Action
         ensures tells { Tells result self.new }
         ensures fresh { Fresh result self.new }
         ensures kept { KeepsAll result self.old self.new }
@@ -638,7 +648,7 @@ impl DrivenObject {
         self.break_one(step)
     }
 
-    /// How many calls are queued on the entry (9.9); 0 where there is no such entry.
+    /// Returns how many calls are queued on the entry (9.9), or 0 if there is no such entry.
     pub fn count(&self, e: u16) -> u64
         ensures exact { e < self.now.calls.object.state.unit → result ≡ count_by (is_on e) self.now.calls.object.state.waiting }
         ensures none { self.now.calls.object.state.unit ≤ e → result ≡ 0 }

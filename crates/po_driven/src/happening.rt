@@ -1,15 +1,16 @@
+// SPDX-License-Identifier: MIT
 //! What happens to the calls of a driven object.
 
 use po_calls::End;
 use po_engine::Arriving;
 use po_unit::Outcome;
 
-/// What happens to the calls of a driven object. Each is a word of a step of a protected action (specs/Happening.antt).
+/// What happens to the calls of a driven object. Each is one part of a step of a protected action (specs/Happening.antt).
 #[derive(Clone, Copy)]
 pub enum Happening {
     /// A call with an open barrier is accepted, and its body runs.
     Served(Arriving<u64>),
-    /// A call with a closed barrier is accepted: it is queued, or ends where this length of the queue is reached.
+    /// A call with a closed barrier is accepted: it is queued, or ends if its queue already has this length.
     Arrived(Arriving<u64>, Option<u64>),
     /// The first call on the entry is selected, and its body runs.
     Selected(u16),
@@ -19,7 +20,7 @@ pub enum Happening {
     RequeuedElsewhere,
     /// The call whose body has run is due from now on.
     Due,
-    /// The call whose body has run is requeued, or ends where this length of the queue is reached.
+    /// The call whose body has run is requeued, or ends if its new queue already has this length.
     Requeued(Outcome<u64>, Option<u64>),
     /// The call that was queued first of all ends by Program_Error.
     Broken,

@@ -1,4 +1,5 @@
-//! The steps of an engine whose client runs the bodies: each leaves every call in one place, and the queues in order of arrival.
+// SPDX-License-Identifier: MIT
+//! The steps of an engine whose client runs the bodies: each keeps every call in one place, and the queues in order of arrival.
 
 ghost use Rattle.std.specs.Prelude.{◌≡◌, ◌<◌, ◌≤◌, ◌++◌, ◌∷◌, [], ℕ, None, Some, IsSome, IfNone, true, All, find, length, List, ◌+◌};
 ghost use Rattle.std.specs.List.{slice_get};
@@ -8,11 +9,11 @@ ghost use Rattle.po_engine.specs.WaitingCalls.{is_on, has_number};
 ghost use Rattle.po_engine.specs.Arrival.{Increases};
 ghost use Rattle.po_engine.specs.Driving.{in_service, admitted, counted, new_call, take_oldest as take_first};
 ghost use Rattle.po_engine.specs.StateView.{NamesEntry};
-ghost use Rattle.po_engine.specs.Step.{end_call, take_out, conclude as concluded, cancel as cancelled, abort};
+ghost use Rattle.po_engine.specs.Step.{end_call, take_out, conclude as concluded, cancel as cancelled, attempt_cancel};
 ghost use Rattle.po_driven.specs.AtRest.{IsAtRest};
 ghost use Rattle.po_driven.specs.Happening.{end_oldest, make_due as due};
 ghost use Rattle.po_driven.specs.OnePlace.{HasTickets, IsThereOnce};
-ghost use Rattle.po_driven.specs.TracedView.{KeepsRoom};
+ghost use Rattle.po_driven.specs.DrivenCallsView.{KeepsRoom};
 
 use crate::client_unit::ClientUnit;
 use po_calls::{Call, Deadline, End, Ticket};
@@ -33,7 +34,7 @@ pub(crate) fn forget(state: &mut State<ClientUnit>, ticket: Ticket)
     state.collect(ticket);
 }
 
-/// The call in service ends in this way, and its ticket is given up.
+/// Ends the call in service in this way, and gives up its ticket.
 #[inline(always)]
 pub(crate) fn finish(state: &mut State<ClientUnit>, call: Call<u64>, end: End<u64>)
     requires { state.old.serving ≡ Some call }
@@ -52,7 +53,7 @@ pub(crate) fn finish(state: &mut State<ClientUnit>, call: Call<u64>, end: End<u6
     forget(state, ticket);
 }
 
-/// The call in service is due from now on.
+/// Makes the call in service due from now on.
 pub(crate) fn make_due(state: &mut State<ClientUnit>, call: Call<u64>) -> Call<u64>
     requires { state.old.serving ≡ Some call }
     ensures call { result ≡ due call }
@@ -63,7 +64,7 @@ pub(crate) fn make_due(state: &mut State<ClientUnit>, call: Call<u64>) -> Call<u
     state.set_deadline(call, Deadline::At(0))
 }
 
-/// A call arrives: it is in service where it is served, and else queued or ended.
+/// Admits a call: it is in service if it is served, and otherwise queued or ended.
 #[inline(always)]
 pub(crate) fn admit(
     state: &mut State<ClientUnit>,
@@ -95,7 +96,7 @@ pub(crate) fn admit(
     state.admit(queueing, arriving, served)
 }
 
-/// The call in service, whose body has ended so, is concluded.
+/// Concludes the call in service, whose body ended with this outcome.
 pub(crate) fn conclude(
     state: &mut State<ClientUnit>,
     queueing: Queueing,
@@ -118,7 +119,7 @@ pub(crate) fn conclude(
     state.conclude(queueing, call, outcome);
 }
 
-/// The first call on the entry is taken in service.
+/// Takes the first call on the entry into service.
 pub(crate) fn take(state: &mut State<ClientUnit>, e: u16) -> Option<Call<u64>>
     requires serving { state.old.serving ≡ None }
     requires entry { e < state.old.state.unit }
@@ -136,7 +137,7 @@ pub(crate) fn take(state: &mut State<ClientUnit>, e: u16) -> Option<Call<u64>>
     state.take_on(e)
 }
 
-/// The call that was queued first of all ends by Program_Error, and its ticket is given up.
+/// Ends the call that was queued first of all by Program_Error, and gives up its ticket.
 pub(crate) fn break_oldest(state: &mut State<ClientUnit>) -> Option<Call<u64>>
     requires serving { state.old.serving ≡ None }
     ensures found { result ≡ slice_get state.old.state.waiting 0 }
@@ -159,7 +160,7 @@ pub(crate) fn break_oldest(state: &mut State<ClientUnit>) -> Option<Call<u64>>
     Some(call)
 }
 
-/// The call that was queued first of all is taken in service.
+/// Takes the call that was queued first of all into service.
 fn take_oldest(state: &mut State<ClientUnit>) -> Option<Call<u64>>
     requires serving { state.old.serving ≡ None }
     ensures found { result ≡ slice_get state.old.state.waiting 0 }
@@ -177,7 +178,7 @@ fn take_oldest(state: &mut State<ClientUnit>) -> Option<Call<u64>>
     state.take_oldest()
 }
 
-/// A queued call is cancelled.
+/// Cancels a queued call.
 fn cancel(state: &mut State<ClientUnit>, ticket: Ticket)
     requires serving { state.old.serving ≡ None }
     requires live { is_live state.old.tickets ticket ≡ true }
@@ -193,7 +194,7 @@ fn cancel(state: &mut State<ClientUnit>, ticket: Ticket)
     state.cancel(ticket);
 }
 
-/// A queued call is cancelled, and its ticket is given up.
+/// Cancels a queued call, and gives up its ticket.
 pub(crate) fn withdraw(state: &mut State<ClientUnit>, ticket: Ticket)
     requires serving { state.old.serving ≡ None }
     requires live { is_live state.old.tickets ticket ≡ true }
@@ -215,14 +216,14 @@ pub(crate) fn withdraw(state: &mut State<ClientUnit>, ticket: Ticket)
     forget(state, ticket);
 }
 
-/// An attempt to abort a queued call that can't be cancelled is remembered.
+/// Remembers an attempt to abort a queued call that can't be cancelled.
 pub(crate) fn mark(state: &mut State<ClientUnit>, ticket: Ticket, call: Call<u64>)
     requires serving { state.old.serving ≡ None }
     requires live { is_live state.old.tickets ticket ≡ true }
     requires found { find (has_number ticket.number) state.old.state.waiting ≡ Some call }
     requires without_abort { call.without_abort ≡ true }
     ensures state { state.new ≡ record state.old {
-      state = abort state.old.state ticket.number (find (has_number ticket.number) state.old.state.waiting);
+      state = attempt_cancel state.old.state ticket.number (find (has_number ticket.number) state.old.state.waiting);
       places = state.new.places;
     } }
     ensures unit { state.new.state.unit ≡ state.old.state.unit }
@@ -232,5 +233,5 @@ pub(crate) fn mark(state: &mut State<ClientUnit>, ticket: Ticket, call: Call<u64
     ensures rests { (closed : List ℕ) → IsAtRest state.old closed → IsAtRest state.new closed }
     ensures tickets { HasTickets state.old → HasTickets state.new }
 {
-    state.abort(ticket);
+    state.attempt_cancel(ticket);
 }

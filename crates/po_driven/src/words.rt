@@ -1,15 +1,16 @@
-//! What an object and its client say to each other beside the action.
+// SPDX-License-Identifier: MIT
+//! What an object and its client say to each other besides the action.
 
-/// The call that an action is of: who issued it, and of a queued call its ticket.
+/// The call that an action is about: who issued it, and its ticket if it is queued.
 #[repr(C)]
 #[derive(Clone, Copy)]
-pub struct Step {
+pub struct NamedCall {
     pub caller: u64,
     pub key: usize,
     pub number: u64,
 }
 
-/// What the client says of a barrier (9.5.2, 9.5.3).
+/// What the client says about a barrier (9.5.2, 9.5.3).
 #[derive(Clone, Copy, Debug, PartialEq, Eq)]
 pub enum Barrier {
     /// The entry is closed.
@@ -29,16 +30,16 @@ pub struct Requeue {
     pub with_abort: bool,
     /// Whether its caller was aborted while the body ran.
     pub aborted: bool,
-    /// Whether its time has come.
+    /// Whether the call's time has come.
     pub due: bool,
 }
 
 /// How the body of the call in service ended (9.5.2, 9.5.4).
 #[derive(Clone, Copy, Debug, PartialEq, Eq)]
 pub enum BodyEnd {
-    /// It completed, by an exception or not: the client sees to the caller.
+    /// It completed, or an exception ended it: the client sees to the caller.
     Completed,
-    /// The same, and all queued calls end by Program_Error.
+    /// Like `Completed`, but all queued calls end by Program_Error too.
     Failed,
     /// It requeued its call to an entry of this object.
     Requeued(Requeue),
@@ -51,7 +52,7 @@ pub enum BodyEnd {
 pub enum Cancellation {
     /// The call is cancelled.
     Made,
-    /// A requeue without abort queued the call, and it stays. An abort is remembered.
+    /// The call is queued by a requeue without abort, so it stays. An abort is remembered.
     Kept,
     /// No call is queued with that ticket.
     Unknown,

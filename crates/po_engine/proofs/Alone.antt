@@ -1,4 +1,4 @@
--- What is found is counted, and where one element at most passes a test, each test that it passes finds it.
+-- What is found is counted. If at most one element passes a test, each test that a found element passes finds it.
 use Rattle.std.proofs.Common.{◌≡◌, ◌∙◌, ◌+◌, ◌≤◌, List, [], ◌∷◌, Bool, true, false, cond, Some, ap, refl, sym, arith}
 use Rattle.std.specs.List.{count_by, find}
 use Rattle.po_engine.proofs.Sums.{sum_by-cons}
@@ -13,7 +13,7 @@ module _ {X : Type 0} (p : X → Bool) where
   found_counted [] y h q t = cc
   found_counted (x ∷ xs) y h q t = counted (p x) x y xs refl h (found_counted xs y) q t
 
-  -- where one element at most passes another test, that test finds it too
+  -- if at most one element passes another test, that test finds it too
   alone : (q : X → Bool) (b c : Bool) (x y : X) (xs : List X) → p x ≡ b → q x ≡ c → cond b (Some x) (find p xs) ≡ Some y → q y ≡ true → count_by q (x ∷ xs) ≤ 1 → (find p xs ≡ Some y → count_by q xs ≤ 1 → find q xs ≡ Some y) → cond c (Some x) (find q xs) ≡ Some y
   alone q true true x y xs e t h u le k = h
   alone q true false x y xs e t h u le k = let same : x ≡ y = cc in let bad : false ≡ true = sym t ∙ (ap q same ∙ u) in cc

@@ -1,4 +1,4 @@
--- On which entries calls wait, by the queues of their keys.
+-- Which entries have waiting calls, by the queues of their keys.
 use Rattle.std.proofs.Common.{◌≡◌, ℕ, ◌<◌, ◌≤◌, ◌==◌, List, [], ◌∷◌, map, Bool, true, false, cond, Option, Some, None, sym, subst, ap, ◌∙◌, refl, arith, inl, inr, length}
 use Rattle.std.specs.Prelude.{IfSome, IfNone, IsNone, IsSome}
 use Rattle.po_engine.proofs.Absent.{eq_self}
@@ -21,7 +21,7 @@ some_left false i q t h = absurd (false≢true t)
 is_itself : (n : ℕ) → (n == n) ≡ true
 is_itself n = eq_self n
 
--- where the queues of such entries are empty, no key is on such an entry
+-- if the queues of such entries are empty, no key is on such an entry
 none_on : (P : ℕ → Type 0) (items : List QueuedKey) → ((k : ℕ) → P k → queue_of k items ≡ []) → All (λ i. P i.entry → ⊥) items
 none_on P [] h = All-nil (λ i. P i.entry → ⊥)
 none_on P (i ∷ items) h =
@@ -36,14 +36,14 @@ none_mapped : {X Y : Type 0} (f : X → Y) (xs : List X) → [] ≡ map f xs →
 none_mapped f [] h = refl
 none_mapped f (x ∷ xs) h = absurd (cc)
 
--- where no key is on the entry, its queue is empty
+-- if no key is on the entry, its queue is empty
 queue_none : (e : ℕ) (items : List QueuedKey) → All (λ n. n ≡ e → ⊥) (map (λ i. i.entry) items) → queue_of e items ≡ []
 queue_none e [] h = refl
 queue_none e (i ∷ items) h =
     let off = ne_eqb i.entry e (All-head (λ n. n ≡ e → ⊥) i.entry (map (λ j. j.entry) items) h) in
     rw off (queue_none e items (All-tail (λ n. n ≡ e → ⊥) i.entry (map (λ j. j.entry) items) h))
 
--- where calls aren't all off the entry, one is found on it
+-- unless all calls are off the entry, one is found on it
 found_on_entry : {V : Type 0} (e : ℕ) (xs : List (Call V)) → (All (λ x. x.entry ≡ e → ⊥) xs → ⊥) → IsSome (find (is_on e) xs)
 found_on_entry e [] h = absurd (h (All-nil (λ x. x.entry ≡ e → ⊥)))
 found_on_entry e (x ∷ xs) h = elim (cases_Bool (x.entry == e)) [

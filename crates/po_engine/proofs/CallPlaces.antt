@@ -1,4 +1,4 @@
--- Where a call is, by what the table keeps of it, and what stays once it is collected.
+-- In which state a call is, by what the table keeps of it, and what stays once it is collected.
 use Rattle.std.proofs.Common.{◌≡◌, ℕ, true, eqb, List, Option, Some, None, refl, sym, ap, ◌∙◌, subst, inl, inr, if◌then◌else◌}
 use Rattle.std.specs.List.{find}
 use Rattle.std.specs.Prelude.{option_map}
@@ -49,7 +49,7 @@ module _ {V : Type 0} where
     | inr differ ↦ simp differ refl
   ]
 
-  -- the call of a ticket is where the table says, where no call is in service
+  -- if no call is in service, the status of a ticket's call is the one that the table returns
   pub place_is : (table : CallTable V) (index : ℕ → Option ℕ) (queues : EntryQueuesView) (serving : Option ℕ) (ended : List (Ended V)) (ticket : Ticket)
       → IsQueued (call_at table.calls) index queues serving → of_key (call_at table.calls) serving ≡ None
       → IsKeptWell table.calls index ended
@@ -62,7 +62,7 @@ module _ {V : Type 0} where
   end_with None = refl
   end_with (Some end) = refl
 
-  -- the end that the table gives is the one of that place
+  -- the end that the table returns is the one of that status
   pub end_is : (o : Option (Kept V)) → end_of o ≡ end_at (status_of o)
   end_is None = refl
   end_is (Some c) = end_with c.end
@@ -82,7 +82,7 @@ module _ {V : Type 0} where
     | inr other ↦ ap waiting_call (u.others k other)
   ]
 
-  -- what is kept well stays so with less of it
+  -- what is kept well stays so if one call less is kept
   kept_less : (old new : Slab (Kept V)) (index : ℕ → Option ℕ) (ended : List (Ended V)) (key : ℕ) → Updates old new key None
       → IsKeptWell old index ended → IsKeptWell new index ended
   kept_less old new index ended key u w = record {
@@ -106,7 +106,7 @@ module _ {V : Type 0} where
   serving_same call after None same = refl
   serving_same call after (Some k) same = same k
 
-  -- What stays once an ended call leaves the table.
+  -- What stays after an ended call leaves the table.
   pub record Leaves (old new : Slab (Kept V)) (index : ℕ → Option ℕ) (queues : EntryQueuesView) (serving : Option ℕ) (ended : List (Ended V)) : Type 0 where
     pub queued : IsQueued (call_at new) index queues serving
     pub kept : IsKeptWell new index ended

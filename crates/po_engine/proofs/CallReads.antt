@@ -1,4 +1,4 @@
--- What is read off the waiting calls, by what is queued of them.
+-- What is read off the waiting calls, given what is queued of them.
 use Rattle.std.proofs.Common.{◌≡◌, ◌==◌, ℕ, suc, ◌+◌, ◌<◌, ◌≤◌, Bool, true, false, not, cond, eqb, List, [], ◌∷◌, length, map, Option, Some, None, refl, sym, ap, ap₂, ◌∙◌, subst, inl, inr, arith, ◌&&◌, if◌then◌else◌}
 use Rattle.std.specs.List.{filter, find, cons_option, count_by, All}
 use Rattle.std.specs.Prelude.{option_map}
@@ -16,7 +16,7 @@ use Rattle.po_engine.proofs.Held.{tail_free, some_same, found_more, key_in, Agre
 use Rattle.po_engine.proofs.ServiceSteps.{agree_number}
 use Rattle.po_engine.specs.Calls.{time_of, waiting_in, of_key, IsQueuedAs, AllQueued}
 
--- whether the time of a call has come is whether it is due
+-- the time of a call has come exactly if it is due
 pub come : (clock : ℕ) (without_abort : Bool) (deadline : Deadline)
     → has_come clock (if without_abort then None else time_of deadline) ≡ (not without_abort && is_past clock deadline)
 come clock true deadline = refl
@@ -45,7 +45,7 @@ module _ {V : Type 0} (call : ℕ → Option (Call V)) (index : ℕ → Option �
       → option_map (λ x. x.number) (of_key call o) ≡ option_map (λ x. x.number) (find (is_due clock) (waiting_in call items))
   due_number clock items o all is = ap (option_map (λ x. x.number)) (ap (of_key call) (is ∙ key_is (find (λ j. has_come clock j.expires) items)) ∙ sym (find_all (is_due clock) call (λ j. has_come clock j.expires) items (agree_due clock items all)))
 
-  -- the entries of what is queued are those of the calls
+  -- the entries of the queued items are those of the calls
   entries_step : (i : Arrived) (is : List Arrived) (o : Option (Call V)) → call i.key ≡ o → IsFound (IsQueuedAs index i) o
       → map (λ j. j.entry) (all_queued is) ≡ map (λ x. x.entry) (waiting_in call is)
       → map (λ j. j.entry) (all_queued (i ∷ is)) ≡ map (λ x. x.entry) (waiting_in call (i ∷ is))
@@ -100,7 +100,7 @@ module _ {V : Type 0} (call : ℕ → Option (Call V)) (index : ℕ → Option �
   all_below n [] low all = All-nil (λ x. x.number < n)
   all_below n (i ∷ is) low all = below_step n i is (call i.key) low refl all.0 (all_below n is low all.1)
 
-  -- no other call has the number that leads to a key
+  -- no other call has a number that leads to a key
   none_step : (n k : ℕ) (i : Arrived) (is : List Arrived) (o : Option (Call V)) → index n ≡ Some k → eqb i.key k ≡ false
       → call i.key ≡ o → IsFound (IsQueuedAs index i) o → count_by (has_number n) (waiting_in call is) ≡ 0
       → count_by (has_number n) (waiting_in call (i ∷ is)) ≡ 0
@@ -127,13 +127,13 @@ module _ {V : Type 0} (call : ℕ → Option (Call V)) (index : ℕ → Option �
     | inr differ ↦ rw e (omega (arith, rest, count_no (has_number n) x (waiting_in call is) differ))
   ]
 
-  -- no number is twice among the waiting calls
+  -- no two waiting calls have the same number
   pub once_each : (n : ℕ) (items : List Arrived) → AreDistinct (arrived_keys items) → AllQueued call index items
       → count_by (has_number n) (waiting_in call items) ≤ 1
   once_each n [] d all = omega arith
   once_each n (i ∷ is) d all = once_step n i is (call i.key) d.0 refl all.0 all.1 (once_each n is d.1 all.1)
 
-  -- the waiting call of a number
+  -- the waiting call with a number
   pub number_call : (n k : ℕ) (x : Call V) (items : List Arrived) → AllQueued call index items → call k ≡ Some x → x.number ≡ n
       → index n ≡ Some k → occurs k (arrived_keys items) ≡ true → find (has_number n) (waiting_in call items) ≡ Some x
   number_call n k x items all its num led has =
@@ -142,7 +142,7 @@ module _ {V : Type 0} (call : ℕ → Option (Call V)) (index : ℕ → Option �
       find_all (has_number n) call (λ j. j.key == k) items (agree_number call index n k items led its_number all) ∙ ap (λ o. of_key call (key_in o)) at.1 ∙ ap call at.2 ∙ its
 
 module _ {V : Type 0} (call after : ℕ → Option (Call V)) (same : (k : ℕ) → after k ≡ call k) where
-  -- a table that keeps its waiting calls
+  -- the waiting calls are the same in a table that keeps them
   pub waiting_kept : (items : List Arrived) → waiting_in after items ≡ waiting_in call items
   waiting_kept [] = refl
   waiting_kept (i ∷ is) = ap₂ cons_option (same i.key) (waiting_kept is)

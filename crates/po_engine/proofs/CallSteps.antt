@@ -1,4 +1,4 @@
--- The changes that leave all but a few parts of the kept calls as they are.
+-- The changes that leave most parts of the kept calls as they are.
 use Rattle.std.proofs.Common.{◌≡◌, ℕ, ◌+◌, ◌<◌, ◌≤◌, Bool, true, false, List, [], ◌++◌, length, Option, Some, None, sym, ap, ap₂, ◌∙◌, subst, arith, Vec, vec_len, vec_capacity}
 use Rattle.std.specs.Prelude.{OnSome}
 use Rattle.std.specs.List.{All}
@@ -19,37 +19,37 @@ use Rattle.po_engine.proofs.KeptSteps.{ticket_set}
 use Rattle.po_engine.proofs.Held.{length_removed}
 use Rattle.po_engine.proofs.ServiceSteps.{removed, widened}
 
--- What is left of the room once one call less is kept.
+-- How many calls there is room for after one is collected.
 left_between : (fixed : Bool) (most len key reserved left : ℕ) → len + 1 ≤ most → IsLeft fixed most len key reserved left → (len ≤ left) × (left ≤ most)
 left_between true most len key reserved left few is = (omega (arith, few, is), omega (arith, is))
 left_between false most len key reserved left few is = (is.0, omega (arith, few, is.1))
 
 module _ {V : Type 0} where
-  -- The key of a call for which there is room can be queued.
+  -- The key of a call that there is room for can be queued.
   pub key_reserved : (fixed : Bool) (calls : Slab (Kept V)) (reserved most key : ℕ) → key ≡ calls.vacant_key → key < calls.capacity
       → slab_len calls < most → AreReserved fixed calls reserved most → key < reserved
   key_reserved true calls reserved most key is low few h = omega (arith, low, h)
   key_reserved false calls reserved most key is low few h = omega (arith, is, h.1 few)
 
-  -- Once a call has taken the room that there was.
+  -- After a call has taken the room that there was.
   pub reserved_taken : (fixed : Bool) (old new : Slab (Kept V)) (reserved most : ℕ) → slab_len new ≡ slab_len old + 1 → new.capacity ≡ old.capacity
       → slab_len old < most → AreReserved fixed old reserved most → AreReserved fixed new reserved most
   reserved_taken true old new reserved most len capacity few h = omega (arith, capacity, h)
   reserved_taken false old new reserved most len capacity few h = (omega (arith, h.0, len), λ lt. absurd (omega (arith, h.0, len, lt)))
 
-  -- Where as many calls are kept as before.
+  -- If as many calls are kept as before.
   pub reserved_kept : (fixed : Bool) (old new : Slab (Kept V)) (reserved most : ℕ) → slab_len new ≡ slab_len old → new.capacity ≡ old.capacity
       → new.vacant_key ≡ old.vacant_key → AreReserved fixed old reserved most → AreReserved fixed new reserved most
   reserved_kept true old new reserved most len capacity vacant h = omega (arith, capacity, h)
   reserved_kept false old new reserved most len capacity vacant h = (omega (arith, h.0, len), λ lt. omega (arith, vacant, h.1 (omega (arith, len, lt))))
 
-  -- Where one call is collected: it leaves its room, where that is fixed or its key can be queued.
+  -- After one call is collected: its room stays, if the room is fixed or its key can be queued.
   pub reserved_given : (fixed : Bool) (old new : Slab (Kept V)) (reserved most key left : ℕ) → new.capacity ≡ old.capacity → new.vacant_key ≡ key
       → IsLeft fixed most (slab_len new) key reserved left → AreReserved fixed old reserved most → AreReserved fixed new reserved left
   reserved_given true old new reserved most key left capacity vacant is h = omega (arith, capacity, h)
   reserved_given false old new reserved most key left capacity vacant is h = (is.1, λ lt. subst (λ k. k < reserved) (sym vacant) (is.2 lt))
 
-  -- A queued key is taken in service.
+  -- A queued key is taken into service.
   pub taken_in_service : {B : Type 0} (table : CallTable V) (queues : EntryQueuesView) (keys : List ℕ) (ended before : List (Ended V)) (now : Vec (Ended V) B)
       (first next : ℕ) (serving : Option ℕ) (most : ℕ) (fixed : Bool) (k : ℕ) → AreInOrder queues → occurs k (arrived_keys queues.items) ≡ true → serving ≡ None
       → KeepsCalls table queues keys ended before now first next serving most fixed
@@ -105,7 +105,7 @@ module _ {V : Type 0} where
         in_service = l.in_service;
       }
 
-  -- Where an end is taken, only its ticket changes.
+  -- If an end is taken, only its ticket changes.
   pub ticket_taken : (table new : CallTable V) (key : ℕ) (result : Option (End V)) → OnSome result (Updates table.calls new.calls key None)
       → OnSome result (SetsTicket (numbers_of table) (numbers_of new) key None)
   ticket_taken table new key None u = tt
@@ -117,7 +117,7 @@ module _ {V : Type 0} where
   none_kept : (calls : Slab (Kept V)) → ((k : ℕ) → get calls k ≡ None) → (k : ℕ) (x : Kept V) → get calls k ≡ Some x → ⊥
   none_kept calls vacant k x at = let bad : None ≡ Some x = sym (vacant k) ∙ at in absurd (cc)
 
-  -- No calls, with memory for so many.
+  -- No calls, with memory for some.
   pub begun : {B : Type 0} (table : CallTable V) (queues : EntryQueuesView) (keys : List ℕ) (ended before : List (Ended V)) (now : Vec (Ended V) B) (first most : ℕ) (fixed : Bool)
       → ((k : ℕ) → get table.calls k ≡ None) → slab_len table.calls ≡ 0 → most ≤ table.calls.capacity → table.last ≡ None
       → queues.items ≡ [] → AreReserved fixed table.calls queues.reserved most
@@ -164,7 +164,7 @@ module _ {V : Type 0} where
     for_all = for_all;
   }
 
-  -- Where there is no room for a further call, a larger table and more reserved keys make none.
+  -- If there is no room for a further call, a larger table and more reserved keys make none.
   pub none_reserved : (calls : Slab (Kept V)) (fixed : Bool) (capacity reserved more most : ℕ) → fixed ≡ false → most ≤ slab_len calls → AreReserved fixed calls reserved most
       → AreReserved false (record calls { capacity = capacity }) more most
   none_reserved calls fixed capacity reserved more most not_fixed full h =

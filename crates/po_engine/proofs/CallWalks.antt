@@ -1,4 +1,4 @@
--- Walks over what is queued, from key to key.
+-- Walks over the queued items, from key to key.
 use Rattle.std.proofs.Common.{◌≡◌, ℕ, ◌<◌, ◌==◌, Bool, true, false, cond, eqb, List, [], ◌∷◌, ◌++◌, length, map, Option, Some, None, refl, sym, ap, ◌∙◌, subst, inl, inr, arith, if◌then◌else◌}
 use Rattle.std.specs.List.{find, cons_option}
 use Rattle.std.proofs.lemmas.Bool.{cases_Bool, eqb-true, eq-eqb, false≢true}
@@ -9,7 +9,7 @@ use Rattle.po_queues.specs.Arrived.{Arrived, all_queued, arrived_keys}
 use Rattle.po_engine.specs.Finding.{IsFound}
 use Rattle.po_engine.specs.Calls.{waiting_in, IsQueuedAs, AllQueued}
 
--- what is queued from this key on
+-- the queued items from this key on
 abbrev pub left_from : Option ℕ → List Arrived → List Arrived
 left_from None items = []
 left_from (Some k) [] = []
@@ -19,7 +19,7 @@ left_none : (items : List Arrived) → left_from None items ≡ []
 left_none [] = refl
 left_none (i ∷ is) = refl
 
--- all is queued from the first key on
+-- from the first key on, these are all queued items
 pub left_first : (items : List Arrived) → left_from (first_key (arrived_keys items)) items ≡ items
 left_first [] = refl
 left_first (i ∷ is) = simp (eq-eqb i.key i.key refl) refl
@@ -44,7 +44,7 @@ after_among k (x ∷ xs) = elim (cases_Bool (eqb x k)) [
   | inr differ ↦ simp differ (among_later (key_after k xs) x xs (after_among k xs))
 ]
 
--- a key of the others isn't the first
+-- a key of the later items isn't the first
 left_later : (o : Option ℕ) (i : Arrived) (is : List Arrived) → occurs i.key (arrived_keys is) ≡ false
     → IsAmong o (arrived_keys is) → left_from o (i ∷ is) ≡ left_from o is
 left_later None i is free h = sym (left_none is)
@@ -53,7 +53,7 @@ left_later (Some k) i is free h = elim (cases_Bool (eqb i.key k)) [
   | inr differ ↦ simp differ refl
 ]
 
--- What stands at a key of a walk, and after it.
+-- The item at a key of a walk, and what comes after it.
 pub record Stands (k : ℕ) (items : List Arrived) : Type 0 where
   pub item : Arrived
   pub rest : List Arrived
@@ -89,7 +89,7 @@ stands k (i ∷ is) d h = elim (cases_Bool (eqb i.key k)) [
       }
 ]
 
--- there is a key where something is left
+-- if there is no key, nothing is left
 pub none_left : (items : List Arrived) → left_from None items ≡ []
 none_left items = left_none items
 
@@ -137,7 +137,7 @@ module _ {V : Type 0} (call : ℕ → Option (Call V)) (index : ℕ → Option �
   same_call : (x y : Call V) → Some x ≡ Some y → x ≡ y
   same_call x y e = cc
 
-  -- the walk finds the call that it meets, where that passes the test
+  -- the walk finds the call that it meets, if that passes the test
   pub found_at : (p : Call V → Bool) (k : ℕ) (items : List Arrived) (x : Call V) → Meets k items → Some x ≡ call k → p x ≡ true
       → find p (waiting_in call (left_from (Some k) items)) ≡ Some x
   found_at p k items x m is passes =
@@ -159,7 +159,7 @@ module _ {V : Type 0} (call : ℕ → Option (Call V)) (index : ℕ → Option �
   pub no_gap : (k : ℕ) (items : List Arrived) → Meets k items → None ≡ call k → ⊥
   no_gap k items m none = let bad : None ≡ Some m.met = none ∙ m.is_met in absurd (cc)
 
-  -- a call that the walk meets is put to those before it
+  -- a call that the walk meets is appended to those before it
   pub calls_at : (k : ℕ) (items : List Arrived) (x : Call V) (before : List (Call V)) → Meets k items → Some x ≡ call k
       → (before ++ x ∷ []) ++ waiting_in call (left_from (key_after k (arrived_keys items)) items) ≡ before ++ waiting_in call (left_from (Some k) items)
   calls_at k items x before m is =
@@ -169,7 +169,7 @@ module _ {V : Type 0} (call : ℕ → Option (Call V)) (index : ℕ → Option �
   same_stamp : (a b : ℕ) → Some a ≡ Some b → a ≡ b
   same_stamp a b e = cc
 
-  -- and its place to those before it
+  -- and its place is appended to those before it
   pub places_at : (k : ℕ) (items : List Arrived) (place : ℕ) (before : List ℕ) → Meets k items
       → Some place ≡ stamp_of k (all_queued items)
       → (before ++ place ∷ []) ++ map (λ i. i.stamp) (left_from (key_after k (arrived_keys items)) items) ≡ before ++ map (λ i. i.stamp) (left_from (Some k) items)

@@ -1,4 +1,4 @@
--- What is queued, item by item, and the waiting calls that it stands for.
+-- What is queued, item by item, and the waiting calls that the items belong to.
 use Rattle.std.proofs.Common.{◌≡◌, ℕ, ◌+◌, ◌==◌, Bool, true, false, eqb, List, [], ◌∷◌, ◌++◌, length, map, Option, Some, None, refl, sym, ap, ◌∙◌, inl, inr, arith}
 use Rattle.std.specs.List.{find}
 use Rattle.std.proofs.lemmas.Bool.{cases_Bool, eqb-true, eq-eqb, ne_eqb, false≢true}
@@ -9,20 +9,20 @@ use Rattle.po_engine.specs.Finding.{without_first, IsFound}
 use Rattle.po_engine.specs.Calls.{waiting_in, of_key, places_without}
 use Rattle.po_engine.proofs.Lists.{without_none}
 
--- A key that isn't among keys isn't the first, nor among the others.
+-- A key that isn't among keys isn't the first, nor among the later ones.
 pub tail_free : (j x : ℕ) (xs : List ℕ) → occurs j (x ∷ xs) ≡ false → (eqb x j ≡ false) × (occurs j xs ≡ false)
 tail_free j x xs free = elim (cases_Bool (eqb x j))
     [ inl equal ↦ absurd (false≢true (sym free ∙ simp equal refl)) | inr differ ↦ (differ, simp differ at free) ]
 
--- A key among keys that isn't the first is among the others.
+-- A key among keys that isn't the first is among the later ones.
 pub tail_has : (j x : ℕ) (xs : List ℕ) → occurs j (x ∷ xs) ≡ true → eqb x j ≡ false → occurs j xs ≡ true
 tail_has j x xs has differ = simp differ at has
 
--- What is equal to something that is found is found.
+-- If two found keys are equal as options, they are the same key.
 pub some_same : (j k : ℕ) → Some j ≡ Some k → j ≡ k
 some_same j k e = cc
 
--- Where nothing is found, nothing is.
+-- If nothing is found, no key is.
 pub no_some : (k : ℕ) → None ≡ Some k → ⊥
 no_some k e = absurd (cc)
 
@@ -37,7 +37,7 @@ gone_key k [] = refl
 gone_key k (x ∷ xs) = elim (cases_Bool (eqb x k))
     [ inl equal ↦ simp equal (gone_key k xs) | inr differ ↦ simp differ (gone_key k xs) ]
 
--- Where a key is taken out the others stay.
+-- If a key is taken out, the others stay.
 pub kept_key : (k j : ℕ) (ks : List ℕ) → (k ≡ j → ⊥) → occurs k (without j ks) ≡ occurs k ks
 kept_key k j [] ne = refl
 kept_key k j (x ∷ xs) ne = elim (cases_Bool (eqb x j)) [
@@ -46,7 +46,7 @@ kept_key k j (x ∷ xs) ne = elim (cases_Bool (eqb x j)) [
       [ inl here ↦ simp (differ, here) refl | inr there ↦ simp (differ, there) (kept_key k j xs ne) ]
 ]
 
--- A key that isn't among keys with one more isn't among them, and isn't that one.
+-- A key that isn't among these keys and one more isn't among these keys, and isn't that one.
 pub free_push : (k j : ℕ) (ks : List ℕ) → occurs k (ks ++ j ∷ []) ≡ false → (occurs k ks ≡ false) × (eqb j k ≡ false)
 free_push k j [] free = (refl, (tail_free k j [] free).0)
 free_push k j (x ∷ xs) free =
@@ -54,7 +54,7 @@ free_push k j (x ∷ xs) free =
     let later = free_push k j xs t.1 in
     (simp t.0 later.0, later.1)
 
--- What is queued but a key has the keys but this one.
+-- The items without a key have the keys without this one.
 pub keys_without : (k : ℕ) (items : List Arrived) → arrived_keys (without_arrived k items) ≡ without k (arrived_keys items)
 keys_without k [] = refl
 keys_without k (i ∷ is) = elim (cases_Bool (eqb i.key k)) [
@@ -62,19 +62,19 @@ keys_without k (i ∷ is) = elim (cases_Bool (eqb i.key k)) [
   | inr differ ↦ simp differ (ap (λ ks. i.key ∷ ks) (keys_without k is))
 ]
 
--- A key that isn't queued can be left out.
+-- Leaving out a key that isn't queued changes nothing.
 pub without_free : (k : ℕ) (items : List Arrived) → occurs k (arrived_keys items) ≡ false → without_arrived k items ≡ items
 without_free k [] free = refl
 without_free k (i ∷ is) free =
     let t = tail_free k i.key (arrived_keys is) free in
     simp t.0 (ap (λ l. i ∷ l) (without_free k is t.1))
 
--- Without the key of an item that stands first, what stands behind it is left.
+-- Without the key of the first item, the items after it are left.
 pub without_head : (k : ℕ) (i : Arrived) (is : List Arrived) → eqb i.key k ≡ true → occurs i.key (arrived_keys is) ≡ false
     → without_arrived k (i ∷ is) ≡ is
 without_head k i is equal free = simp equal (without_free k is (rw (eqb-true i.key k equal) at free))
 
--- Where a queued key is taken out there is one less.
+-- If a queued key is taken out, there is one item less.
 pub length_removed : (k : ℕ) (items : List Arrived) → AreDistinct (arrived_keys items) → occurs k (arrived_keys items) ≡ true
     → length (without_arrived k items) + 1 ≡ length items
 length_removed k [] d has = absurd (false≢true has)
@@ -102,7 +102,7 @@ module _ (test : Arrived → Bool) where
         elim (cases_Bool (eqb j.key i.key)) [ inl here ↦ simp here refl | inr there ↦ simp there later ]
   ]
 
-  -- Without the first item that passes, its key is left out.
+  -- Leaving out the first item that passes is leaving out its key.
   pub without_found : (items : List Arrived) (i : Arrived) → AreDistinct (arrived_keys items) → find test items ≡ Some i
       → without_first test items ≡ without_arrived i.key items
   without_found [] i d found = let bad : None ≡ Some i = found in absurd (cc)
@@ -118,7 +118,7 @@ module _ (test : Arrived → Bool) where
         simp (fails, differ) (ap (λ l. j ∷ l) (without_found js i d.1 later))
   ]
 
--- None of these passes.
+-- No item passes a test that always fails.
 pub find_false : (items : List Arrived) → find (λ i. false) items ≡ None
 find_false [] = refl
 find_false (i ∷ is) = find_false is
@@ -141,7 +141,7 @@ first_on e (i ∷ is) = elim (cases_Bool (eqb i.entry e)) [
 ]
 
 module _ {V : Type 0} (p : Call V → Bool) where
-  -- Where none passes, each call keeps its place.
+  -- If no call passes, each keeps its place.
   pub places_none : (xs : List (Call V)) (ks : List ℕ) → find p xs ≡ None → places_without p xs ks ≡ ks
   places_none [] ks none = refl
   places_none (x ∷ xs) [] none = refl
@@ -151,7 +151,7 @@ module _ {V : Type 0} (p : Call V → Bool) where
   ]
 
 module _ {V : Type 0} (p : Call V → Bool) (call : ℕ → Option (Call V)) (test : Arrived → Bool) where
-  -- Each item passes just where its call does.
+  -- Each item passes exactly if its call does.
   abbrev pub Agree : List Arrived → Type 0
   Agree [] = Unit {0}
   Agree (i ∷ is) = IsFound (λ x. p x ≡ test i) (call i.key) × Agree is
@@ -179,7 +179,7 @@ module _ {V : Type 0} (p : Call V → Bool) (call : ℕ → Option (Call V)) (te
     | inr fails ↦ simp (is_it, agree, fails) (ap (λ l. x ∷ l) rest)
   ]
 
-  -- The calls without the first that passes are those of the items without it.
+  -- The calls without the first that passes are those of the items without the first that passes.
   pub without_all : (items : List Arrived) → Agree items → without_first p (waiting_in call items) ≡ waiting_in call (without_first test items)
   without_all [] agree = refl
   without_all (i ∷ is) agree = without_step i is (call i.key) refl agree.0 (without_all is agree.1)
@@ -193,13 +193,13 @@ module _ {V : Type 0} (p : Call V → Bool) (call : ℕ → Option (Call V)) (te
     | inr fails ↦ simp (is_it, agree, fails) (ap (λ l. i.stamp ∷ l) rest)
   ]
 
-  -- The places without that of the first call that passes are the stamps of the items without it.
+  -- The places without that of the first call that passes are the stamps of the items without the first that passes.
   pub places_all : (items : List Arrived) → Agree items
       → places_without p (waiting_in call items) (map (λ i. i.stamp) items) ≡ map (λ i. i.stamp) (without_first test items)
   places_all [] agree = refl
   places_all (i ∷ is) agree = places_step i is (call i.key) refl agree.0 (places_all is agree.1)
 
--- The call of this key is the first that passes; what is left of the queue are the other calls and their places.
+-- The call of this key is the first that passes, and the other calls and their places are left on the queue.
 pub record Takes {V : Type 0} (p : Call V → Bool) (call : ℕ → Option (Call V)) (items : List Arrived) (k : ℕ) : Type 0 where
   pub has : occurs k (arrived_keys items) ≡ true
   pub found : call k ≡ find p (waiting_in call items)
@@ -223,7 +223,7 @@ module _ {V : Type 0} (p : Call V → Bool) (call : ℕ → Option (Call V)) (te
     places = ap (map (λ i. i.stamp)) (sym (without_found test items i d found)) ∙ sym (places_all p call test items agree);
   }
 
-  -- Where no item passes, nothing is taken.
+  -- If no item passes, nothing is taken.
   pub takes_none : (items : List Arrived) → Agree p call test items → find test items ≡ None → TakesNone p call items
   takes_none items agree none =
       let found = find_all p call test items agree ∙ ap (λ o. of_key call (key_in o)) none in

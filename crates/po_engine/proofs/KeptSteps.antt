@@ -13,7 +13,7 @@ use Rattle.po_engine.specs.Ending.{has_ended, ended_as}
 use Rattle.po_engine.specs.Tickets.{SetsTicket, number_at}
 use Rattle.po_engine.specs.Calls.{IsKeptWell, key_of, call_at}
 
--- An index leads to the same element where the list gets longer.
+-- An index leads to the same element if the list gets longer.
 slice_more : (xs : List ℕ) (i j y : ℕ) → slice_get xs i ≡ Some j → slice_get (xs ++ y ∷ []) i ≡ Some j
 slice_more [] i j y h = let bad : None ≡ Some j = h in absurd (cc)
 slice_more (x ∷ xs) zero j y h = h
@@ -28,7 +28,7 @@ slice_below [] i j h = let bad : None ≡ Some j = h in absurd (cc)
 slice_below (x ∷ xs) zero j h = omega arith
 slice_below (x ∷ xs) (suc i) j h = omega (arith, slice_below xs i j h)
 
--- A number leads to the same key where there are more keys.
+-- A number leads to the same key if there are more keys.
 pub key_more : (first y : ℕ) (keys : List ℕ) (n k : ℕ) → key_of first keys n ≡ Some k → key_of first (keys ++ y ∷ []) n ≡ Some k
 key_more first y keys n k h = elim (cases_Bool (nat_lt n first)) [
   | inl below ↦ let bad : None ≡ Some k = simp below at h in absurd (cc)
@@ -70,7 +70,7 @@ module _ {V : Type 0} where
       → waiting_call (kept table (record { key = k; number = n })) ≡ Some x
   kept_call table k n x w its = let e = waiting_kept (get table.calls k) x w in ap (λ o. waiting_call (with_number n o)) e ∙ simp (eq-eqb x.number n its) refl
 
-  -- The end of the call with this number, once one more call has ended.
+  -- Which end is found for a number, once one more call has ended.
   find_other : (m : ℕ) (xs : List (Ended V)) (x : Ended V) → (x.number ≡ m → ⊥) → find (has_ended m) (xs ++ x ∷ []) ≡ find (has_ended m) xs
   find_other m [] x ne = simp (ne_eqb x.number m ne) refl
   find_other m (y ∷ ys) x ne = elim (cases_Bool (eqb y.number m))
@@ -152,7 +152,7 @@ module _ {V : Type 0} where
   number_in_slot (o ∷ os) zero = refl
   number_in_slot (o ∷ os) (suc k) = number_in_slot os k
 
-  -- The number at a key is that of the call that is kept there.
+  -- The number at a key is that of the call kept there.
   pub number_kept : (table : CallTable V) (k : ℕ) → number_at (numbers_of table) k ≡ option_map (λ x. x.call.number) (get table.calls k)
   number_kept table k = number_in_slot table.calls.slots k
 

@@ -8,7 +8,7 @@ use Rattle.po_queues.proofs.RangeLemmas.{get_or-map-below}
 use Rattle.po_engine.specs.WaitingCalls.{counts_of, is_on}
 
 module _ {X : Type 0} (p : X → Bool) where
-  -- a list with no such element stays, and a found one passes
+  -- a list with no such element stays as it is, and an element that is found passes
   without_kept : (b : Bool) (x : X) (xs : List X) → p x ≡ b → cond b (Some x) (find p xs) ≡ None → (find p xs ≡ None → without_first p xs ≡ xs) → cond b xs (x ∷ without_first p xs) ≡ x ∷ xs
   without_kept true x xs e h k = cc
   without_kept false x xs e h k = ap (λ ys. x ∷ ys) (k h)
@@ -28,6 +28,6 @@ module _ {X : Type 0} (p : X → Bool) where
 pub found_on : {V : Type 0} (e : ℕ) (calls : List (Call V)) (x : Call V) → find (is_on e) calls ≡ Some x → x.entry ≡ e
 found_on e calls x h = let t = found_passes (is_on e) calls x h in grind (arith, nat_tests)
 
--- the count of an entry stands at its number (9.9)
+-- the count of an entry is at its number (9.9)
 pub count_at : {V : Type 0} (total : ℕ) (calls : List (Call V)) (e : ℕ) → e < total → get_or (counts_of total calls) e 0 ≡ count_by (is_on e) calls
 count_at total calls e lt = get_or-map-below (λ k. count_by (is_on k) calls) total e lt

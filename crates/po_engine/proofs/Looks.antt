@@ -1,4 +1,4 @@
--- The turn that comes next, by the queues' entries, is the one that comes next by the waiting calls.
+-- The turn that comes next is the same by the entries of the queues and by the waiting calls.
 use Rattle.std.proofs.Common.{◌≡◌, ℕ, List, [], ◌∷◌, map, length, refl, ap, ap₂, sym, ◌∙◌, Bool, true, false, cond, ◌==◌, ◌||◌, Option}
 use Rattle.std.specs.List.{sum_by, count_by, list_any}
 use Rattle.std.proofs.lemmas.List.Sums.{length-filter}
@@ -58,7 +58,7 @@ module _ {S V : Type 0} (m : Meaning S V) (s : ObjectState S V) (queues : Queues
   turn_same : (e : ℕ) → turn_at m s.unit queues e ≡ turn_of m s e
   turn_same e = ap₂ (λ b counts. selection_if b (turn e (m.barrier s.unit e counts))) (any_same e) counts_same
 
-  -- what is serviced next is the turn that comes next
+  -- what is serviced next is the next turn
   pub next_same : (order : Order) (last : Option ℕ) → serviced_next m s.unit queues order last ≡ next_turn m order last s
   next_same order last =
       first_same (turn_at m s.unit queues) (turn_of m s) turn_same (examined order last queues.total (map (λ i. i.entry) queues.items))

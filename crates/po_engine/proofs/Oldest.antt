@@ -1,4 +1,4 @@
--- The first of all waiting calls is the first that passes a test that each passes.
+-- The first of all waiting calls is the first that passes a test that all pass.
 use Rattle.std.proofs.Common.{◌≡◌, List, [], ◌∷◌, refl, true, Some, None}
 use Rattle.std.specs.Prelude.{drop, IfNone, Option}
 use Rattle.std.specs.List.{find, slice_get}
@@ -21,7 +21,7 @@ module _ {X : Type 0} where
   none_left [] h = refl
   none_left (y ∷ xs) h = absurd (cc)
 
-  -- where none is first, none is left
+  -- if there is no first, none is left
   pub none_after : (xs left : List X) (r : Option X) → slice_get xs 0 ≡ r → left ≡ drop 1 xs → IfNone r (left ≡ [])
   none_after [] left None first is = is
   none_after [] left (Some y) first is = tt

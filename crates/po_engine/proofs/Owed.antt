@@ -1,4 +1,4 @@
--- The events that may yet come are few.
+-- The events that may still come are few.
 use Rattle.std.proofs.Common.{◌<◌, ◌≤◌, Bool, true, false, length, arith, if◌then◌else◌}
 use Rattle.po_unit.specs.Meaning.{Meaning}
 use Rattle.po_engine.specs.ObjectState.{ObjectState}

@@ -1,4 +1,4 @@
--- How many events the waiting calls may yet need, as calls come, go and are marked.
+-- How many events the waiting calls may still need, as calls come, go and are marked.
 use Rattle.std.proofs.Common.{◌≡◌, ℕ, ◌+◌, ◌-◌, ◌*◌, ◌<◌, ◌≤◌, List, [], ◌∷◌, map, length, refl, subst, ap, sym, ◌∙◌, arith, Bool, true, false, cond, Some, if◌then◌else◌}
 use Rattle.std.specs.List.{sum_by, count_by, find}
 use Rattle.std.proofs.lemmas.List.Elements.{All-head, All-tail, All-map, All-weaker}
@@ -9,7 +9,7 @@ use Rattle.po_engine.specs.WaitingCalls.{has_number, mark}
 use Rattle.po_engine.specs.ObjectState.{ObjectState}
 use Rattle.po_engine.specs.StateView.{AreLow}
 use Rattle.po_engine.specs.Finding.{without_first}
-use Rattle.po_engine.specs.Step.{take_out, abort, cancel}
+use Rattle.po_engine.specs.Step.{take_out, attempt_cancel, cancel}
 use Rattle.po_engine.specs.Pick.{owed}
 use Rattle.po_engine.proofs.Sums.{sum_by-cons, sum_by-without}
 use Rattle.po_engine.proofs.Absent.{All-without}
@@ -20,7 +20,7 @@ module _ {V : Type 0} (n : ℕ) where
   unmarked true x h = cc
   unmarked false x h = refl
 
-  -- where there is no such call, none is marked
+  -- if there is no such call, none is marked
   pub mark_absent : (xs : List (Call V)) → IsAbsent n xs → map (mark n) xs ≡ xs
   mark_absent [] a = refl
   mark_absent (x ∷ xs) a =
@@ -49,11 +49,11 @@ module _ {V : Type 0} (n : ℕ) where
 
 module _ {S V : Type 0} where
   -- an attempt to cancel a call that is marked already changes nothing
-  pub abort_again : (s : ObjectState S V) (n : ℕ) (x : Call V) → find (has_number n) s.waiting ≡ Some x → x.without_abort ≡ true → x.aborted ≡ true → count_by (has_number n) s.waiting ≤ 1 → abort s n (find (has_number n) s.waiting) ≡ s
-  abort_again s n x h without_abort marked few =
+  pub attempt_again : (s : ObjectState S V) (n : ℕ) (x : Call V) → find (has_number n) s.waiting ≡ Some x → x.without_abort ≡ true → x.aborted ≡ true → count_by (has_number n) s.waiting ≤ 1 → attempt_cancel s n (find (has_number n) s.waiting) ≡ s
+  attempt_again s n x h without_abort marked few =
       let same = ap (λ xs. record s { waiting = xs }) (mark_again n s.waiting x h marked few) in
       let by_mark = subst (λ b. (if b then record s { waiting = map (mark n) s.waiting } else cancel s n (Some x)) ≡ s) (sym without_abort) same in
-      subst (λ o. abort s n o ≡ s) (sym h) by_mark
+      subst (λ o. attempt_cancel s n o ≡ s) (sym h) by_mark
 
 module _ {S V : Type 0} (m : Meaning S V) where
   abbrev pub owes : Call V → ℕ
@@ -70,11 +70,11 @@ module _ {S V : Type 0} (m : Meaning S V) where
   pub owed_few : (xs : List (Call V)) → AreLow m xs → sum_by owes xs ≤ length xs * 257
   owed_few xs low = sum_by-le owes 257 xs (All-weaker (λ x. m.rank x.entry x.value ≤ 255) (λ x. owes x ≤ 257) (λ x h. omega (arith, h, one_or_two x.aborted)) xs low)
 
-  -- what is owed, and what one more call may need, is a number of 128 bits
+  -- what is owed, with what one more call may need, fits 128 bits
   pub owed_fits : (s : ObjectState S V) (x : Call V) → AreLow m s.waiting → length s.waiting < 18_446_744_073_709_551_616 → m.rank x.entry x.value ≤ 255 → owed m s + owes x ≤ 9_000_000_000_000_000_000_000
   owed_fits s x low few rank = omega (arith, owed_few s.waiting low, few, rank, one_or_two x.aborted, none_or_one s.finalized)
 
-  -- a call that is taken takes what it owes with it
+  -- a call that is taken out takes what it owes with it
   pub owed_taken : (s : ObjectState S V) (test : Call V → Bool) (x : Call V) → find test s.waiting ≡ Some x → owed m s ≡ owes x + owed m (take_out s test)
   owed_taken s test x h = omega (arith, sum_by-without owes test s.waiting x h)
 
@@ -104,7 +104,7 @@ module _ {S V : Type 0} (m : Meaning S V) where
   pub low_marked : (n : ℕ) (xs : List (Call V)) → AreLow m xs → AreLow m (map (mark n) xs)
   low_marked n xs h = All-map (λ x. m.rank x.entry x.value ≤ 255) (mark n) xs (All-weaker (λ x. m.rank x.entry x.value ≤ 255) (λ x. m.rank (mark n x).entry (mark n x).value ≤ 255) (λ x i. rank_marked (has_number n x) x i) xs h)
 
-  -- the number of what is owed, after a call was taken
+  -- the number of events owed after a call was taken out
   pub record IsPaid (s : ObjectState S V) (after : List (Call V)) (number part : ℕ) : Type 0 where
     pub enough : part ≤ number
     pub owed : number - part ≡ owed m (record s { waiting = after })

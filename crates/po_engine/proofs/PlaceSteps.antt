@@ -19,7 +19,7 @@ other_number k n lt = grind (arith, nat_tests)
 pub noted_here : (f : ℕ → ℕ) (k n : ℕ) → noted f k (Some n) n ≡ k
 noted_here f k n = rw (eq_self n) refl
 
--- one more place, above all
+-- one more place, above all others
 pub increases_push : (ks : List ℕ) (k : ℕ) → All (λ j. j < k) ks → Increases ks → Increases (ks ++ k ∷ [])
 increases_push [] k low h = (All-nil (λ j. k < j), tt)
 increases_push (i ∷ ks) k low h = (All-push (λ j. i < j) ks k h.0 (All-head (λ j. j < k) i ks low), increases_push ks k (All-tail (λ j. j < k) i ks low) h.1)
@@ -47,14 +47,14 @@ module _ {V : Type 0} (f : ℕ → ℕ) where
   same_number true x = refl
   same_number false x = refl
 
-  -- a marked call stays where it is
+  -- a marked call keeps its place
   pub at_marked : (n : ℕ) (xs : List (Call V)) (ks : List ℕ) → AreAt f xs ks → AreAt f (map (mark n) xs) ks
   at_marked n [] [] h = h
   at_marked n [] (k ∷ ks) h = absurd h
   at_marked n (x ∷ xs) [] h = absurd h
   at_marked n (x ∷ xs) (k ∷ ks) h = (ap f (same_number (has_number n x) x) ∙ h.0, at_marked n xs ks h.1)
 
-  -- where no call is noted, nothing changes
+  -- if no call is noted, nothing changes
   pub at_no_other : (k : ℕ) (xs : List (Call V)) (ks : List ℕ) → AreAt f xs ks → AreAt (noted f k None) xs ks
   at_no_other k [] [] h = h
   at_no_other k [] (j ∷ ks) h = absurd h
@@ -77,7 +77,7 @@ module _ {V : Type 0} where
   places_left P test true xs k ks h i = All-tail P k ks h
   places_left P test false xs k ks h i = All-cons P k (places_without test xs ks) (All-head P k ks h) i
 
-  -- what holds of all places holds of those that are left
+  -- what holds of all places holds of those that stay
   pub All-places : (P : ℕ → Type 0) (test : Call V → Bool) (xs : List (Call V)) (ks : List ℕ) → All P ks → All P (places_without test xs ks)
   All-places P test [] ks h = h
   All-places P test (x ∷ xs) [] h = h
@@ -87,7 +87,7 @@ module _ {V : Type 0} where
   increases_left test true xs k ks h i = h.1
   increases_left test false xs k ks h i = (All-places (λ j. k < j) test xs ks h.0, i)
 
-  -- the places that are left rise as before
+  -- the places that stay rise as before
   pub increases_without : (test : Call V → Bool) (xs : List (Call V)) (ks : List ℕ) → Increases ks → Increases (places_without test xs ks)
   increases_without test [] ks h = h
   increases_without test (x ∷ xs) [] h = h

@@ -9,10 +9,10 @@ use Rattle.po_calls.specs.declared.call.Call.{Call}
 use Rattle.po_calls.specs.declared.end.End.{End}
 use Rattle.po_calls.specs.declared.end.End.TheVariants.{Completed, Raised, Cancelled, ProgramError}
 use Rattle.po_history.specs.declared.event.Event.{Event}
-use Rattle.po_history.specs.declared.event.Event.TheVariants.{Issue, Ran, Abort, Tick, Final, Serve, Break, Expire}
+use Rattle.po_history.specs.declared.event.Event.TheVariants.{Issue, Ran, Cancel, Tick, Final, Serve, Break, Expire}
 use Rattle.po_engine.specs.ObjectState.{ObjectState, counts_in, barrier_in}
 use Rattle.po_engine.specs.WaitingCalls.{has_number, is_on, mark}
-use Rattle.po_engine.specs.Step.{is_full, enter, end_call, end_all, queue, conclude, run_body, arrive, take_out, cancel, abort, serve, step}
+use Rattle.po_engine.specs.Step.{is_full, enter, end_call, end_all, queue, conclude, run_body, arrive, take_out, cancel, attempt_cancel, serve, step}
 use Rattle.po_engine.specs.Ending.{ended_as, has_ended}
 use Rattle.po_engine.proofs.Sums.{sum_by-push, sum_by-without, sum_by-mapped}
 
@@ -82,14 +82,14 @@ module _ {S V : Type 0} (n : ℕ) where
   places-aborted p k true x h = omega (arith, sum_by-mapped (λ y. cond (has_number n y) 1 0) (mark k) (λ y. cond (has_number n y) 1 0) (λ y. ap (λ b. cond b 1 0) (marked n (has_number k y) y)) p.waiting)
   places-aborted p k false x h = places-cancel p k (Some x) h
 
-  places-abort : (p : ObjectState S V) (k : ℕ) (o : Option (Call V)) → find (has_number k) p.waiting ≡ o → places_of (abort p k o) ≡ places_of p
-  places-abort p k None h = refl
-  places-abort p k (Some x) h = places-aborted p k x.without_abort x h
+  places-attempt : (p : ObjectState S V) (k : ℕ) (o : Option (Call V)) → find (has_number k) p.waiting ≡ o → places_of (attempt_cancel p k o) ≡ places_of p
+  places-attempt p k None h = refl
+  places-attempt p k (Some x) h = places-aborted p k x.without_abort x h
 
   pub places-step : (m : Meaning S V) (limit : Option ℕ) (p : ObjectState S V) (e : Event V) → places_of (step m limit p e) ≡ places_of p + gains n e
   places-step m limit p (Issue k owner e v d) = places-arrive m limit (record p { next = p.next + 1 }) (record { number = k; owner = owner; entry = e; value = v; without_abort = false; aborted = false; deadline = d }) (barrier_in m p e)
   places-step m limit p (Ran owner op v reply) = omega arith
-  places-step m limit p (Abort k) = omega (arith, places-abort p k (find (has_number k) p.waiting) refl)
+  places-step m limit p (Cancel k) = omega (arith, places-attempt p k (find (has_number k) p.waiting) refl)
   places-step m limit p (Tick t) = omega arith
   places-step m limit p Final = omega (arith, places-end_all p ProgramError)
   places-step m limit p (Serve e) = omega (arith, places-served m limit p e (find (is_on e) p.waiting) refl)

@@ -1,4 +1,4 @@
--- What is queued and the call in service, from step to step.
+-- What is queued, and the call in service, from step to step.
 use Rattle.std.proofs.Common.{◌≡◌, ℕ, ◌<◌, ◌≤◌, ◌==◌, Bool, true, false, eqb, List, [], ◌∷◌, ◌++◌, map, Option, Some, None, refl, sym, ap, ap₂, ◌∙◌, subst, inl, inr, arith, drop}
 use Rattle.std.specs.Prelude.{IfNone}
 use Rattle.std.specs.List.{find, cons_option, slice_get, All}
@@ -18,11 +18,11 @@ module _ {V : Type 0} (call : ℕ → Option (Call V)) where
   its_at n None is = absurd is
   its_at n (Some x) is = (x, refl, is)
 
-  -- The call of a key that has this number.
+  -- The call at a key, if it has this number.
   pub its_call : (n k : ℕ) → IsFound (λ x. x.number ≡ n) (call k) → (x : Call V) × (call k ≡ Some x) × (x.number ≡ n)
   its_call n k is = its_at n (call k) is
 
--- A key that is queued is below what all of them are below.
+-- A queued key is below any bound of all queued keys.
 key_below : (k most : ℕ) (items : List Arrived) → All (λ i. i.key < most) items → occurs k (arrived_keys items) ≡ true → k < most
 key_below k most [] all has = absurd (false≢true has)
 key_below k most (i ∷ is) all has = elim (cases_Bool (eqb i.key k)) [
@@ -30,7 +30,7 @@ key_below k most (i ∷ is) all has = elim (cases_Bool (eqb i.key k)) [
   | inr differ ↦ key_below k most is (All-tail (λ (j : Arrived). j.key < most) i is all) (tail_has k i.key (arrived_keys is) has differ)
 ]
 
--- The item that gives a key.
+-- The item that a key belongs to.
 item_of_key : (k : ℕ) (o : Option Arrived) → key_in o ≡ Some k → (i : Arrived) × (o ≡ Some i) × (i.key ≡ k)
 item_of_key k None is = absurd (no_some k is)
 item_of_key k (Some i) is = (i, refl, some_same i.key k is)
@@ -39,14 +39,14 @@ no_item : (o : Option Arrived) → key_in o ≡ None → o ≡ None
 no_item None is = refl
 no_item (Some i) is = let bad : Some i.key ≡ None = is in absurd (cc)
 
--- What stands before a place has a lower stamp.
+-- If all stamps are below a place, so is the stamp of each item.
 pub stamps_before : (place : ℕ) (items : List Arrived) → All (λ k. k < place) (map (λ i. i.stamp) items) → All (λ i. i.stamp < place) items
 stamps_before place [] all = All-nil (λ (i : Arrived). i.stamp < place)
 stamps_before place (i ∷ is) all =
     let stamps = map (λ (j : Arrived). j.stamp) is in
     All-cons (λ (j : Arrived). j.stamp < place) i is (All-head (λ k. k < place) i.stamp stamps all) (stamps_before place is (All-tail (λ k. k < place) i.stamp stamps all))
 
--- Where something is found, nothing follows from there being none.
+-- If something is found, anything follows from the claim that nothing is.
 pub not_none : {X : Type 0} (P : Type 0) (o : Option X) → IfNone o ⊥ → IfNone o P
 not_none P None is = absurd is
 not_none P (Some x) is = tt
@@ -56,7 +56,7 @@ module _ {V : Type 0} where
   cons_push None xs ys = refl
   cons_push (Some x) xs ys = refl
 
-  -- A call that is queued stands last.
+  -- A call that is queued is the last.
   pub waiting_push : (call : ℕ → Option (Call V)) (items : List Arrived) (i : Arrived) (x : Call V) → call i.key ≡ Some x
       → waiting_in call (items ++ i ∷ []) ≡ waiting_in call items ++ x ∷ []
   waiting_push call [] i x h = rw h refl
@@ -76,7 +76,7 @@ module _ {V : Type 0} where
     | inr differ ↦ simp differ (all.0, queued_without call index k is all.1)
   ]
 
-  -- Where calls differ only at a key that isn't queued, the waiting calls are the same.
+  -- If calls differ only at a key that isn't queued, the waiting calls are the same.
   pub waiting_same : (f g : ℕ → Option (Call V)) (k : ℕ) (items : List Arrived) → occurs k (arrived_keys items) ≡ false
       → ((j : ℕ) → (j ≡ k → ⊥) → g j ≡ f j) → waiting_in g items ≡ waiting_in f items
   waiting_same f g k [] free same = refl
@@ -123,11 +123,11 @@ module _ {V : Type 0} (call : ℕ → Option (Call V)) (index : ℕ → Option �
   serving_none reserved items None is none = refl
   serving_none reserved items (Some k) is none = absurd (no_call k (call k) refl is.2 none)
 
-  -- Where no call is in service, no key is.
+  -- If no call is in service, no key is.
   pub none_serving : (queues : EntryQueuesView) (serving : Option ℕ) → IsQueued call index queues serving → of_key call serving ≡ None → serving ≡ None
   none_serving queues serving is none = serving_none queues.reserved queues.items serving is.in_service none
 
-  -- A queued call is taken in service.
+  -- A queued call is taken into service.
   pub removed : (queues : EntryQueuesView) (k : ℕ) → AreInOrder queues → occurs k (arrived_keys queues.items) ≡ true
       → IsQueued call index queues None → IsQueued call index (record queues { items = without_arrived k queues.items }) (Some k)
   removed queues k order has is = record {
@@ -207,7 +207,7 @@ module _ {V : Type 0} (call : ℕ → Option (Call V)) (index : ℕ → Option �
   free_key k items false e all none = refl
   free_key k items true e all none = absurd (no_call k (call k) refl (queued_at k items all e) none)
 
-  -- A new call is taken in service.
+  -- A new call is taken into service.
   pub added : (g : ℕ → Option (Call V)) (later : ℕ → Option ℕ) (queues : EntryQueuesView) (k : ℕ) (x : Call V) → call k ≡ None → g k ≡ Some x
       → ((j : ℕ) → (j ≡ k → ⊥) → g j ≡ call j) → ((n j : ℕ) → index n ≡ Some j → later n ≡ Some j) → later x.number ≡ Some k
       → k < queues.reserved → IsQueued call index queues None
@@ -307,7 +307,7 @@ module _ {V : Type 0} (call : ℕ → Option (Call V)) (index : ℕ → Option �
   unmarked_all n [] agree = refl
   unmarked_all n (i ∷ is) agree = unmarked_step n i (waiting_in call is) (call i.key) agree.0 (unmarked_all n is agree.1)
 
-  -- Where no call has the number, none is marked.
+  -- If no call has the number, none is marked.
   pub unmarked : (queues : EntryQueuesView) (serving : Option ℕ) (n : ℕ) → IsQueued call index queues serving → IsAbsent queues.items n
       → map (mark n) (waiting_in call queues.items) ≡ waiting_in call queues.items
   unmarked queues serving n is absent = unmarked_all n queues.items (agree_none n queues.items absent is.queued)
@@ -366,7 +366,7 @@ module _ {V : Type 0} (call : ℕ → Option (Call V)) (index : ℕ → Option �
     mark_all g n k x queues.items (agree_number n k queues.items there.indexed there.its is.queued) at its now same,
   )
 
-  -- The call of this key is the first of all; what is left of the queue are the other calls and their places.
+  -- The call of this key is the first of all, and the other calls and their places are left on the queue.
   pub record IsOldest (items : List Arrived) (k : ℕ) : Type 0 where
     pub has : occurs k (arrived_keys items) ≡ true
     pub found : call k ≡ slice_get (waiting_in call items) 0

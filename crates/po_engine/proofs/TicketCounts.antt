@@ -1,9 +1,9 @@
--- How many calls aren't collected, after one ticket more or one less.
+-- How many calls aren't collected, with one ticket more or one less.
 use Rattle.std.proofs.Common.{◌≡◌, ◌≢◌, ℕ, zero, suc, ◌+◌, List, [], ◌∷◌, refl, ap, arith, cond, Option, Some, None, is_some}
 use Rattle.std.proofs.lemmas.List.Sums.{sum_by-cons}
 use Rattle.po_engine.specs.Tickets.{number_at, SetsTicket, uncollected}
 
--- one, where there is a ticket
+-- one if there is a ticket, else none
 abbrev held : Option ℕ → ℕ
 held o = cond (is_some o) 1 0
 
@@ -17,7 +17,7 @@ same_tickets [] (p ∷ ps) h = omega (arith, first p ps, ap held (h zero), same_
 same_tickets (o ∷ os) [] h = omega (arith, first o os, ap held (h zero), same_tickets os [] (λ k. h (suc k)))
 same_tickets (o ∷ os) (p ∷ ps) h = omega (arith, first o os, first p ps, ap held (h zero), same_tickets os ps (λ k. h (suc k)))
 
--- lists with the same tickets but at one key differ by what is there
+-- lists with the same tickets except at one key differ by what is there
 others_same : (old new : List (Option ℕ)) (key : ℕ) → ((k : ℕ) → k ≢ key → number_at new k ≡ number_at old k) → uncollected new + held (number_at old key) ≡ uncollected old + held (number_at new key)
 others_same [] [] key h = omega arith
 others_same [] (p ∷ ps) zero h = omega (arith, first p ps, same_tickets [] ps (λ k. h (suc k) (λ e. absurd (omega (arith, e)))))
@@ -37,6 +37,6 @@ pub one-less : (old new : List (Option ℕ)) (key n : ℕ) → number_at old key
 one-less old new key n there set =
     omega (arith, others_same old new key set.others, ap held there, ap held set.changed)
 
--- where no ticket is there, no call is uncollected
+-- if there is no ticket, no call is uncollected
 pub none-held : (tickets : List (Option ℕ)) → ((k : ℕ) → number_at tickets k ≡ None) → uncollected tickets ≡ 0
 none-held tickets h = same_tickets [] tickets h

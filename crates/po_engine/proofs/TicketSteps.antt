@@ -1,4 +1,4 @@
--- Live tickets: what is kept at their keys, and that their numbers lead there.
+-- Live tickets: what is kept at their keys, and how their numbers lead there.
 use Rattle.std.proofs.Common.{◌≡◌, ℕ, true, false, eqb, List, [], ◌∷◌, Option, Some, None, option_map, refl, sym, ap, ◌∙◌, subst, inl, inr}
 use Rattle.std.specs.List.{find}
 use Rattle.std.proofs.lemmas.Bool.{cases_Bool, eq-eqb, eqb-true}
@@ -22,7 +22,7 @@ module _ {V : Type 0} where
   open_number n None live = refl
   open_number n (Some c) live = simp live refl
 
-  -- A live ticket is of what is kept at its key.
+  -- A live ticket belongs to what is kept at its key.
   pub live_kept : (table : CallTable V) (ticket : Ticket) → is_live (numbers_of table) ticket ≡ true → kept table ticket ≡ get table.calls ticket.key
   live_kept table ticket live = open_number ticket.number (get table.calls ticket.key) (subst (λ o. is_number ticket.number o ≡ true) (number_kept table ticket.key) live)
 
@@ -69,7 +69,7 @@ module _ {V : Type 0} where
   no_found None n e h = h
   no_found (Some x) n e h = let bad : None ≡ Some x = sym e in absurd (cc)
 
-  -- Where the call of a live ticket doesn't wait, no queued call has its number.
+  -- If the call of a live ticket doesn't wait, no queued call has its number.
   pub ticket_absent : (table : CallTable V) (index : ℕ → Option ℕ) (queues : EntryQueuesView) (ended : List (Ended V)) (ticket : Ticket)
       → is_live (numbers_of table) ticket ≡ true → waiting_call (kept table ticket) ≡ None → IsKeptWell table.calls index ended
       → IsAbsent (call_at table.calls) index queues.items ticket.number
@@ -82,7 +82,7 @@ module _ {V : Type 0} where
       same_key : (a b : ℕ) → Some a ≡ Some b → a ≡ b
       same_key a b e = cc
 
-  -- The waiting call of a live ticket is the one of its number.
+  -- The waiting call of a live ticket is the one with its number.
   pub ticket_found : (table : CallTable V) (index : ℕ → Option ℕ) (queues : EntryQueuesView) (serving : Option ℕ) (ended : List (Ended V)) (ticket : Ticket) (o : Option (Call V))
       → is_live (numbers_of table) ticket ≡ true → waiting_call (kept table ticket) ≡ o → AreInOrder queues → serving ≡ None
       → IsQueued (call_at table.calls) index queues serving → IsKeptWell table.calls index ended
@@ -101,7 +101,7 @@ module _ {V : Type 0} where
   dead : (table : CallTable V) (ticket : Ticket) → is_live (numbers_of table) ticket ≡ false → kept table ticket ≡ None
   dead table ticket is = dead_kept ticket.number (get table.calls ticket.key) (subst (λ o. is_number ticket.number o ≡ false) (number_kept table ticket.key) is)
 
-  -- What the table keeps of a ticket is its waiting call.
+  -- What the table keeps for a ticket is its waiting call.
   pub ticket_among : (table : CallTable V) (index : ℕ → Option ℕ) (queues : EntryQueuesView) (serving : Option ℕ) (ended : List (Ended V)) (ticket : Ticket)
       → of_key (call_at table.calls) serving ≡ None → AreInOrder queues → IsQueued (call_at table.calls) index queues serving → IsKeptWell table.calls index ended
       → waiting_call (kept table ticket) ≡ waiting_among (waiting_in (call_at table.calls) queues.items) (numbers_of table) ticket

@@ -1,4 +1,4 @@
--- Each call that waits is kept: so not more wait than are uncollected.
+-- Each waiting call is kept, so no more calls wait than are uncollected.
 use Rattle.std.proofs.Common.{◌≡◌, ℕ, zero, suc, ◌+◌, ◌<◌, ◌≤◌, Bool, true, false, cond, List, [], ◌∷◌, ◌++◌, length, map, drop, get_or, set, Option, Some, None, option_map, is_some, count_by, refl, sym, ap, ap₂, ◌∙◌, arith}
 use Rattle.std.proofs.Math.Seq.{drop-append_seam}
 use Rattle.std.proofs.lemmas.Bool.{eqb-false}
@@ -38,7 +38,7 @@ module _ {T : Type 0} where
       let one : ◌≡◌ {A = ℕ} (cond (is_some (get_or slots k None)) 1 0) 1 = ap (λ (b : Bool). cond {A = ℕ} b 1 0) held in
       omega (arith, e, one)
 
-  -- So many distinct keys that have something are not more than all that have something.
+  -- Distinct keys that each have something are no more than all slots that have something.
   pub held_within : (slots : List (Option T)) (ks : List ℕ) → AreDistinct ks → AllHeld slots ks → length ks ≤ count_by is_some slots
   held_within slots [] d all = omega arith
   held_within slots (k ∷ ks) d all =
@@ -50,7 +50,7 @@ module _ {V : Type 0} where
   some_number None = refl
   some_number (Some k) = refl
 
-  -- As many tickets are of uncollected calls as calls are kept.
+  -- There are as many tickets of uncollected calls as calls kept.
   pub uncollected_kept : (slots : List (Option (Kept V))) → uncollected (map (option_map (λ k. k.call.number)) slots) ≡ count_by is_some slots
   uncollected_kept [] = refl
   uncollected_kept (o ∷ os) =
@@ -68,6 +68,6 @@ module _ {V : Type 0} where
   queued_held calls index [] all = tt
   queued_held calls index (i ∷ is) all = (kept_at (IsQueuedAs index i) (get calls i.key) all.0, queued_held calls index is all.1)
 
--- As many have ended in the command as stand behind those that had ended before.
+-- As many calls have ended in the command as come after those that had ended before.
 pub ended_length : {X : Type 0} (ended before now : List X) → ended ≡ before ++ now → length (drop (length before) ended) ≡ length now
 ended_length ended before now shown = ap length (ap (drop (length before)) shown ∙ drop-append_seam before now)

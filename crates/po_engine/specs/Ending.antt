@@ -1,3 +1,4 @@
+-- SPDX-License-Identifier: MIT
 -- Calls that have ended.
 use Rattle.std.specs.Prelude.{ℕ, ◌==◌, Bool}
 use Rattle.po_calls.specs.declared.call.Call.{Call}

@@ -1,3 +1,4 @@
+-- SPDX-License-Identifier: MIT
 -- Which inner event comes next, by the service order.
 use Rattle.std.specs.Prelude.{ℕ, ◌≡◌, ◌+◌, List, [], ◌∷◌, map, true, Ok, Err, Option, Some, None, find, IsSome, ◌<◌, sum_by, option_map, if◌then◌else◌}
 use Rattle.std.specs.List.{list_any}
@@ -8,14 +9,13 @@ use Rattle.po_queues.specs.declared.selection.Selection.TheVariants.{Quiet, Read
 use Rattle.po_queues.specs.declared.order.Order.{Order}
 use Rattle.po_queues.specs.Turns.{turn, first_selection, selection_if, examined}
 use Rattle.po_history.specs.declared.event.Event.{Event}
-use Rattle.po_history.specs.declared.event.Event.TheVariants.{Issue, Ran, Abort, Tick, Final, Serve, Break, Expire}
+use Rattle.po_history.specs.declared.event.Event.TheVariants.{Issue, Ran, Cancel, Tick, Final, Serve, Break, Expire}
 use Rattle.po_engine.specs.WaitingCalls.{has_number, is_on, is_due}
 use Rattle.po_engine.specs.ObjectState.{ObjectState, barrier_in, IsQuiet}
 use Rattle.po_engine.specs.Step.{step}
 use Rattle.po_engine.specs.Finding.{IsFound}
 
--- the event that services what a look tells: the one of an open entry is served, and a barrier that propagates an
--- exception ends all calls (9.5.3)
+-- the event for a selection: an open entry is served, and a barrier that propagates an exception ends all calls (9.5.3)
 abbrev pub event_of : {V : Type 0} → Selection → Option (Event V)
 event_of Quiet = None
 event_of (Ready e) = Some (Serve e)
@@ -36,20 +36,18 @@ module _ {S V : Type 0} where
   abbrev pub turn_of : Meaning S V → ObjectState S V → ℕ → Selection
   turn_of m s e = selection_if (list_any (is_on e) s.waiting) (turn e (barrier_in m s e))
 
-  -- the turn that comes next, if one does: that of the first examined entry that isn't closed; last is the entry that
-  -- was served last
+  -- the next turn, if any: that of the first examined entry that isn't closed; `last` is the entry that was served last
   abbrev pub next_turn : Meaning S V → Order → Option ℕ → ObjectState S V → Selection
   next_turn m order last s =
       first_selection (turn_of m s) (examined order last (m.entries s.unit) (map (λ x. x.entry) s.waiting))
 
-  -- the inner event that follows, if one does: that of the turn that comes next, and else the first call that is due
-  -- expires
+  -- the inner event that comes next, if any: that of the next turn, or else the first call that is due expires
   abbrev pub pick : Meaning S V → Order → Option ℕ → ObjectState S V → Option (Event V)
   pick m order last s =
       option_or (event_of (next_turn m order last s))
       (option_map (λ x. Expire x.number) (find (is_due s.clock) s.waiting))
 
-  -- Each of the events is the one that follows.
+  -- Each of the events is the one that comes next.
   abbrev pub ArePicks : Meaning S V → Option ℕ → Order → Option ℕ → ObjectState S V → List (Event V) → Type 0
   ArePicks m limit order last s [] = Unit {0}
   ArePicks m limit order last s (event ∷ events) =
@@ -59,8 +57,8 @@ module _ {S V : Type 0} where
   abbrev pub weight : Meaning S V → ObjectState S V → ℕ
   weight m s = sum_by (λ x. m.rank x.entry x.value + 1) s.waiting
 
-  -- for how many further events there has to be room: each call is served so often, and at most one event aborts it or
-  -- lets it expire; and the object may be finalized
+  -- how many further events there has to be room for: each call is served once more than it may be requeued, at most one event
+  -- attempts it or lets it expire, and the object may be finalized
   abbrev pub owed : Meaning S V → ObjectState S V → ℕ
   owed m s = sum_by (λ x. m.rank x.entry x.value + (if x.aborted then 1 else 2)) s.waiting + (if s.finalized then 0 else 1)
 
@@ -71,6 +69,6 @@ Fits m s (Break e) = (e < m.entries s.unit) × IsSome (find (is_on e) s.waiting)
 Fits m s (Expire n) = IsQuiet m s × IsFound (λ x. is_due s.clock x ≡ true) (find (has_number n) s.waiting)
 Fits m s (Issue n owner e v d) = ⊥
 Fits m s (Ran owner op v reply) = ⊥
-Fits m s (Abort n) = ⊥
+Fits m s (Cancel n) = ⊥
 Fits m s (Tick t) = ⊥
 Fits m s Final = ⊥

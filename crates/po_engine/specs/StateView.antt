@@ -1,3 +1,4 @@
+-- SPDX-License-Identifier: MIT
 -- What contracts see of a state (this project's own).
 use Rattle.std.specs.Prelude.{ℕ, ◌≡◌, ◌<◌, ◌≤◌, List, Option, Some, Bool, find, option_map}
 use Rattle.std.specs.List.{All}
@@ -11,26 +12,26 @@ use Rattle.po_engine.specs.WaitingCalls.{is_due}
 use Rattle.po_engine.specs.ObjectState.{ObjectState}
 use Rattle.po_engine.specs.Calls.{CallsView}
 
--- What contracts see of a state beside it: where its calls arrived, its tickets, for how many calls there is room, and how
--- many had ended before the command.
+-- What contracts see of a state: the object's state, and besides it the places at which its calls arrived, the call in service,
+-- its tickets, how many calls there is room for, and how many had ended before the command.
 pub record StateView (S V : Type 0) : Type 0 where
   pub state : ObjectState S V
-  -- of each waiting call the place in the history at which it arrived
+  -- for each waiting call, the place in the history at which it arrived
   pub places : List ℕ
   -- the call that is being served: it isn't queued, and hasn't ended
   pub serving : Option (Call V)
-  -- by key the number of the uncollected call whose ticket has that key
+  -- by key, the number of the uncollected call whose ticket has that key
   pub tickets : List (Option ℕ)
-  -- the key of the ticket that each call got, by its number less the first one: known to proofs alone
+  -- the key of each call's ticket, by the call's number minus the first one: known to proofs alone
   pub keys : List ℕ
   pub first : ℕ
-  -- how many calls may be uncollected with the memory that there is, and whether that stays so
+  -- how many calls may be uncollected with the memory taken so far, and whether that never changes
   pub most : ℕ
   pub is_fixed : Bool
   -- how many calls had ended before the command began
   pub before : ℕ
 
--- A requeue names an entry that there is.
+-- A requeue names an entry that exists.
 abbrev pub NamesEntry : {V : Type 0} → ℕ → Outcome V → Type 0
 NamesEntry total (Complete v) = Unit {0}
 NamesEntry total (Raise k) = Unit {0}
@@ -45,7 +46,7 @@ module _ {S V : Type 0} where
   abbrev pub AreLow : Meaning S V → List (Call V) → Type 0
   AreLow m calls = All (λ x. m.rank x.entry x.value ≤ 255) calls
 
-  -- It is no expiration, or that of the first call that is due.
+  -- The event is no expiration, or it is the expiration of the first call that is due.
   abbrev pub IsFirstDue : ObjectState S V → Event V → Type 0
   IsFirstDue s (Expire n) = option_map (λ x. x.number) (find (is_due s.clock) s.waiting) ≡ Some n
   IsFirstDue s other = Unit {0}

@@ -1,4 +1,5 @@
--- Tickets: what a caller holds of a call that was accepted and isn't collected (this project's own).
+-- SPDX-License-Identifier: MIT
+-- Tickets: what a caller holds for a call that was accepted and isn't collected (this project's own).
 use Rattle.std.specs.Prelude.{ℕ, ◌≡◌, ◌≢◌, ◌==◌, List, Bool, false, Option, Some, None, is_some, count_by, if◌then◌else◌, find}
 use Rattle.std.specs.List.{slice_index_or}
 use Rattle.po_calls.specs.declared.call.Call.{Call}
@@ -14,7 +15,7 @@ use Rattle.po_engine.specs.Ending.{has_ended}
 abbrev pub number_at : List (Option ℕ) → ℕ → Option ℕ
 number_at tickets key = slice_index_or tickets key None
 
--- Only at this key the tickets change, to a ticket of this number or to none.
+-- The tickets change only at this key, to a ticket of this number or to none.
 pub record SetsTicket (old new : List (Option ℕ)) (key : ℕ) (number : Option ℕ) : Type 0 where
   pub changed : number_at new key ≡ number
   pub others : (k : ℕ) → k ≢ key → number_at new k ≡ number_at old k
@@ -32,25 +33,25 @@ is_number n (Some k) = k == n
 abbrev pub is_live : List (Option ℕ) → Ticket → Bool
 is_live tickets ticket = is_number ticket.number (number_at tickets ticket.key)
 
--- where a call is, by what is found of it among the ended and among the waiting calls
+-- the status of a call, given what is found of it among the ended and among the waiting calls
 abbrev pub status_by : {V : Type 0} → Option (Ended V) → Option (Call V) → CallStatus V
 status_by (Some x) waits = HasEnded x.end
 status_by None (Some x) = Waiting
 status_by None None = Unknown
 
--- the end, where there is one
+-- the end, if there is one
 abbrev pub end_at : {V : Type 0} → CallStatus V → Option (End V)
 end_at Unknown = None
 end_at Waiting = None
 end_at (HasEnded end) = Some end
 
--- where the call of a ticket is, by the waiting and the ended calls: Unknown where it isn't of an uncollected call
+-- the status of a ticket's call, by the waiting and the ended calls: Unknown if the ticket is of no uncollected call
 abbrev pub status_among : {V : Type 0} → List (Call V) → List (Ended V) → List (Option ℕ) → Ticket → CallStatus V
 status_among waiting ended tickets ticket =
     if is_live tickets ticket
     then status_by (find (has_ended ticket.number) ended) (find (has_number ticket.number) waiting)
     else Unknown
 
--- the waiting call of a ticket: none where it isn't of an uncollected call
+-- the waiting call of a ticket: none if the ticket is of no uncollected call
 abbrev pub waiting_among : {V : Type 0} → List (Call V) → List (Option ℕ) → Ticket → Option (Call V)
 waiting_among waiting tickets ticket = if is_live tickets ticket then find (has_number ticket.number) waiting else None

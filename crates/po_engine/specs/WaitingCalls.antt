@@ -1,3 +1,4 @@
+-- SPDX-License-Identifier: MIT
 -- Waiting calls, and how many of them are queued on each entry.
 use Rattle.std.specs.Prelude.{ℕ, ◌==◌, nat_le, List, map, Bool, true, false, not, ◌&&◌, count_by, if◌then◌else◌}
 use Rattle.po_calls.specs.declared.call.Call.{Call}
@@ -17,7 +18,7 @@ has_number n x = x.number == n
 abbrev pub is_of : {V : Type 0} → ℕ → Call V → Bool
 is_of owner x = x.owner == owner
 
--- of each entry in the order of their numbers, how many of the calls are queued on it: the attribute Count (9.9)
+-- for each entry, in the order of their numbers, how many of the calls are queued on it: the attribute Count (9.9)
 abbrev pub counts_of : {V : Type 0} → ℕ → List (Call V) → List ℕ
 counts_of total calls = map (λ e. count_by (is_on e) calls) (below total)
 
@@ -30,6 +31,6 @@ is_past clock (At d) = nat_le d clock
 abbrev pub is_due : {V : Type 0} → ℕ → Call V → Bool
 is_due clock x = not x.without_abort && is_past clock x.deadline
 
--- the call, marked as aborted if it has number n: an attempt was made to cancel it while it was queued without abort (9.5.3, 9.5.4)
+-- the call, marked as aborted if it has number n: an attempt was made to cancel it while queued without abort (9.5.3, 9.5.4)
 abbrev pub mark : {V : Type 0} → ℕ → Call V → Call V
 mark n x = if has_number n x then record x { aborted = true } else x

@@ -1,3 +1,4 @@
+// SPDX-License-Identifier: MIT
 //! The calls of an object: those that wait, on their queues, and those that have just ended.
 
 ghost use Rattle.std.specs.Prelude.{◌≡◌, ◌<◌, ◌≤◌, ◌+◌, [], ℕ, map, length, Some, None, true, false, IfOk, IsOk, OnOk, OnErr, find};
@@ -16,22 +17,22 @@ use po_queues::EntryQueues;
 use std::alloc::{AllocError, Global};
 use std::marker::Model;
 
-/// The calls of an object that aren't collected, in a table; those that wait, on the queues of its keys; and how the
-/// calls have ended that ended in the last command.
+/// The calls of an object: a table of those that aren't collected, queues of the keys of those that wait, and a list of those
+/// that ended in the last command.
 ///
-/// A call that is being served is in service: it waits, and isn't queued. How many calls may be uncollected at once is either
-/// fixed when the calls are made, and then nothing else takes memory; or `reserve` makes room for each further one.
+/// A call that is being served is in service: it waits, but isn't queued. The number of calls that may be uncollected at once
+/// is either fixed when this is made, and then no call needs more memory; or `reserve` makes room for each further call.
 #[derive(Drop)]
 pub struct Calls<V: Copy> {
     table: Table<V>,
     queues: EntryQueues,
-    /// The key that each call got, by its number less the first: known to proofs alone.
+    /// The key of each call, at the call's number minus `first`. Known to proofs alone.
     keys: Trace<usize>,
-    /// The calls that have ended, in that order: known to proofs alone.
+    /// The calls that have ended, in the order in which they ended. Known to proofs alone.
     ended: Trace<Ended<V>>,
-    /// Those of them that had ended before the command began: known to proofs alone.
+    /// Those that had ended before the command began. Known to proofs alone.
     before: Trace<Ended<V>>,
-    /// The others.
+    /// Those that have ended since the command began.
     ended_now: Vec<Ended<V>>,
     /// The number of the first call.
     first: u64,
@@ -41,7 +42,7 @@ pub struct Calls<V: Copy> {
     serving: Option<usize>,
     /// How many calls may be uncollected at once.
     most: usize,
-    /// Whether that stays so.
+    /// Whether `most` never changes.
     is_fixed: bool,
 }
 
@@ -71,7 +72,7 @@ impl<V: Copy> Model for Calls<V> {
     ghost invariant = { λ c. KeepsCalls c.table c.queues c.keys.items c.ended.items c.before.items c.ended_now c.first c.next c.serving c.most c.is_fixed };
 }
 
-/// When a call expires, if it does: one that a requeue without abort queued doesn't (9.5.4, 9.7.2).
+/// Returns when a call expires, if it does. One that is queued by a requeue without abort doesn't (9.5.4, 9.7.2).
 fn expires_at<V: Copy>(call: &Call<V>) -> Option<u64>
     ensures { result ≡ time_of_expiration call.now }
 {
@@ -81,7 +82,7 @@ fn expires_at<V: Copy>(call: &Call<V>) -> Option<u64>
     }
 }
 
-/// Reserves all keys below this one.
+/// Reserves all keys below `keys`.
 fn reserve_below(queues: &mut EntryQueues, keys: usize) -> Result<(), AllocError>
     ensures ok { OnOk result (keys ≤ queues.new.reserved) }
     ensures only_room { queues.new ≡ record queues.old { reserved = queues.new.reserved } }
@@ -92,7 +93,7 @@ fn reserve_below(queues: &mut EntryQueues, keys: usize) -> Result<(), AllocError
     Ok(())
 }
 
-/// For how many calls there is room once one less is kept, so many, and its key is the next.
+/// Returns how many calls there is room for after one is collected: `len` are left, and `key` is free.
 fn room_left(is_fixed: bool, most: usize, len: usize, key: usize, reserved: usize) -> usize
     ensures { IsLeft is_fixed most len key reserved result }
 {
@@ -106,7 +107,8 @@ fn room_left(is_fixed: bool, most: usize, len: usize, key: usize, reserved: usiz
 }
 
 impl<V: Copy> Calls<V> {
-    /// No calls, on queues of so many entries, at clock 0; the first call will have this number. There is room for none.
+    /// Makes empty queues for `total` entries, at clock 0. The first call will have the number `first`. There is room for no
+    /// call yet.
     pub fn new(alloc: Global, total: u16, first: u64) -> Result<Calls<V>, AllocError>
         ensures { IfOk result (λ c. c ≡ record {
           waiting = [];
@@ -139,7 +141,7 @@ impl<V: Copy> Calls<V> {
         })
     }
 
-    /// The same with all memory for `most` uncollected calls at once.
+    /// Like `new`, but with all memory for `most` uncollected calls at once.
     pub fn with_capacity(
         alloc: Global,
         total: u16,
@@ -180,7 +182,7 @@ impl<V: Copy> Calls<V> {
         })
     }
 
-    /// Makes room for one more call, where there is none. A call that is collected leaves its room to one other call at most.
+    /// Makes room for one more call if there is none. A collected call leaves its room to one other call at most.
     pub fn reserve(&mut self) -> Result<(), AllocError>
         requires { self.old.is_fixed ≡ false }
         ensures same { self.new ≡ record self.old { most = self.new.most } }
@@ -200,7 +202,7 @@ impl<V: Copy> Calls<V> {
         Ok(())
     }
 
-    /// A command begins: no call has ended since.
+    /// Begins a command: no call has ended in it yet.
     pub fn begin(&mut self)
         ensures { self.new ≡ record self.old { ended_before = length self.old.ended } }
     {
@@ -208,8 +210,8 @@ impl<V: Copy> Calls<V> {
         self.ended_now.clear();
     }
 
-    /// What all calls keep: those that wait aren't collected, and not more are uncollected than may be; each that was
-    /// accepted waits, is in service or has ended; and the number of one that waits leads to its ticket.
+    /// Recalls for proofs what always holds: waiting calls are uncollected; no more than `most` calls are uncollected; each
+    /// accepted call waits, is in service or has ended; and the number of a waiting call leads to its ticket.
     pub fn recall_invariant(&self)
         ensures sound { AreCallsSound self.now }
         ensures waiting { length self.now.waiting ≤ uncollected self.now.tickets }

@@ -1,3 +1,4 @@
+// SPDX-License-Identifier: MIT
 //! The state of a protected object: its data and its calls.
 
 ghost use Rattle.std.specs.Prelude.{◌≡◌, ◌<◌, ◌≤◌, ◌+◌, [], ℕ, true, false, length, Option, None, Some, IfOk, OnOk, OnErr, IsOk, find, if◌then◌else◌};
@@ -18,22 +19,22 @@ use po_unit::Unit;
 use std::alloc::{AllocError, Global};
 use std::marker::Model;
 
-/// The data of a protected object and its calls. Contracts see it as an object's state, beside where its calls arrived, the
-/// call that is being served, its tickets, for how many calls there is room, and how many calls had ended before the
-/// command. Each method is one word of the definitions of a step.
+/// The data of a protected object and its calls. Contracts see the object's state, and besides it the places at which its calls
+/// arrived, the call in service, its tickets, how many calls there is room for, and how many calls had ended before the
+/// command. Each method does what one definition of a step says.
 ///
-/// It is what a core (`po_core`) and a driven object (`po_driven`) stand on. How all calls have ended is known to proofs alone.
+/// Cores (`po_core`) and driven objects (`po_driven`) are built on it. Only proofs know how all calls have ended.
 #[derive(Drop)]
 pub struct State<U: Unit> {
     unit: U,
     calls: Calls<U::Value>,
     finalized: bool,
-    /// How many further events may come with no further command but a finalization: those that the queued calls may need,
-    /// and the finalization.
+    /// How many more events may come if the only further command is a finalization: those that the queued calls may need, and
+    /// the finalization.
     owed: u128,
 }
 
-/// The entry that was served last, after one more event.
+/// Returns the entry that was served last after `event`, given the one that was last before it.
 pub fn served_by<V: Copy>(last: Option<u16>, event: Event<V>) -> Option<u16>
     ensures { result ≡ served_last last event }
 {
@@ -69,8 +70,8 @@ impl<U: Unit> Model for State<U> {
     } };
 }
 
-/// How many events a waiting call may yet need: it is served once more than it may be requeued, and one event at most
-/// aborts it or lets it expire.
+/// Returns how many events a waiting call may still need: it is served once more than it may be requeued, and at most one event
+/// attempts it or lets it expire.
 fn events_owed<U: Unit>(call: &Call<U::Value>) -> u128
     ensures owed { result ≡ U.meaning.rank call.now.entry call.now.value + (if call.now.aborted then 1 else 2) }
     ensures low { U.meaning.rank call.now.entry call.now.value ≤ 255 }
@@ -79,7 +80,7 @@ fn events_owed<U: Unit>(call: &Call<U::Value>) -> u128
     if call.aborted { rank + 1 } else { rank + 2 }
 }
 
-/// The state of a unit that was just made, with these calls.
+/// Returns the state of an object with a newly made unit and these calls.
 fn opened<U: Unit>(unit: U, calls: Calls<U::Value>) -> State<U>
     requires total { calls.total ≡ U.meaning.entries unit }
     requires waiting { calls.waiting ≡ [] }
@@ -106,7 +107,7 @@ fn opened<U: Unit>(unit: U, calls: Calls<U::Value>) -> State<U>
 }
 
 impl<U: Unit + Drop> State<U> {
-    /// The state of an object that was just made, whose first call gets this number. There is room for no call.
+    /// Makes the state of a new object, whose first call gets the number `first_number`. There is no room for a call yet.
     pub fn new(alloc: Global, unit: U, first_number: u64) -> Result<State<U>, AllocError>
         ensures { IfOk result (λ d. d ≡ record {
           state = opening_state unit first_number;
@@ -124,7 +125,7 @@ impl<U: Unit + Drop> State<U> {
         Ok(opened(unit, calls))
     }
 
-    /// The same with all memory for so many uncollected calls.
+    /// Like `new`, but takes all memory for up to `most` uncollected calls.
     pub fn with_capacity(
         alloc: Global,
         unit: U,
@@ -149,7 +150,7 @@ impl<U: Unit + Drop> State<U> {
 }
 
 impl<U: Unit> State<U> {
-    /// Makes room for one more call, where there is none.
+    /// Makes room for one more call if there is none.
     pub fn reserve(&mut self) -> Result<(), AllocError>
         requires { self.old.is_fixed ≡ false }
         ensures same { self.new ≡ record self.old { most = self.new.most } }
@@ -160,15 +161,15 @@ impl<U: Unit> State<U> {
         self.calls.reserve()
     }
 
-    /// A command begins: no call has ended since.
+    /// Begins a command: no call has ended in it yet.
     pub fn begin(&mut self)
         ensures { self.new ≡ record self.old { before = length self.old.state.ended } }
     {
         self.calls.begin();
     }
 
-    /// What all states keep: the events that may yet come are few; each accepted call waits or has ended; and the number of
-    /// one that waits leads to its ticket.
+    /// Recalls for proofs what holds of every state: the events that may still come are few; each accepted call waits or has
+    /// ended; and the number of a waiting call leads to its ticket.
     pub fn recall_invariant(&self)
         ensures few { owed U.meaning self.now.state ≤ 9_000_000_000_000_000_000_000 }
         ensures each { self.now.serving ≡ None → length self.now.state.ended + length self.now.state.waiting ≡ length self.now.keys }

@@ -4,7 +4,7 @@ use Rattle.std.proofs.lemmas.List.{append-nil}
 use Rattle.po_history.specs.Histories.{VolumeView, HistoryView, joined, RunOn, AreVolumesOf, all_events}
 
 module _ {V : Type 0} where
-  -- Volumes run on to where one more, that begins there, ends.
+  -- If volumes run on to the place at which another begins, then with that one they run on to its end.
   pub run_on-append :
       (from : ℕ) (volumes : List (VolumeView V)) (to : ℕ) (volume : VolumeView V)
       → RunOn from volumes to → volume.first_place ≡ to
@@ -22,7 +22,7 @@ module _ {V : Type 0} where
       ap (λ events. v.events ++ events) (joined-append volumes volume)
       ∙ sym (append_assoc v.events (joined volumes) volume.events)
 
-  -- After a cut the volumes with the new one run on to the present, and no event is lost.
+  -- After a cut, the volumes with the new one run on to the present, and no event is lost.
   pub cut_off :
       (old new : HistoryView V) (volume : VolumeView V)
       → volume ≡ record { first_place = old.place; events = old.events }

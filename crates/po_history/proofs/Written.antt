@@ -1,4 +1,4 @@
--- The lists that the methods write into the ghost field: as the field has no bytes, this is all that their bodies do.
+-- The lists that the methods write into the ghost field. Since the field has no bytes, this is all that their bodies do.
 use Rattle.std.proofs.Common.{List, [], ◌∷◌, ◌++◌}
 
 module _ {X : Type 0} where

@@ -1,3 +1,4 @@
+-- SPDX-License-Identifier: MIT
 -- The history of a protected object since it was last cut, and the volumes that were cut off before (this project's own).
 use Rattle.std.specs.Prelude.{ℕ, ◌≡◌, ◌+◌, ◌-◌, List, [], ◌∷◌, ◌++◌, length, nat_lt, Option, None, slice_index_or}
 use Rattle.std.specs.Prelude.{if◌then◌else◌}
@@ -9,7 +10,7 @@ pub record VolumeView (V : Type 0) : Type 0 where
   pub first_place : ℕ
   pub events : List (Event V)
 
--- What is seen of a history (this project's own).
+-- What contracts see of a history (this project's own).
 pub record HistoryView (V : Type 0) : Type 0 where
   -- The number of the first call.
   pub first_number : ℕ
@@ -17,9 +18,9 @@ pub record HistoryView (V : Type 0) : Type 0 where
   pub place : ℕ
   -- The events since the last cut.
   pub events : List (Event V)
-  -- How many further events have room, and may come without memory.
+  -- How many further events have room, so that they take no memory.
   pub owed : ℕ
-  -- Of each call from the first on how it ended, if it has.
+  -- For each call from the first on, how it ended, if it has.
   pub outcomes : List (Option (End V))
 
 module _ {V : Type 0} where
@@ -38,16 +39,16 @@ module _ {V : Type 0} where
   joined [] = []
   joined (volume ∷ volumes) = volume.events ++ joined volumes
 
-  -- The volumes follow one another from a place on up to another place, with no gap (this project's own).
+  -- The volumes follow one another without a gap, from the first place to the second (this project's own).
   abbrev pub RunOn : ℕ → List (VolumeView V) → ℕ → Type 0
   RunOn from [] to = from ≡ to
   RunOn from (volume ∷ volumes) to =
       (volume.first_place ≡ from) × RunOn (from + length volume.events) volumes to
 
-  -- These volumes run on from the place up to the present events (this project's own).
+  -- These volumes run without a gap from the place to the present events (this project's own).
   abbrev pub AreVolumesOf : ℕ → List (VolumeView V) → HistoryView V → Type 0
   AreVolumesOf from volumes history = RunOn from volumes history.place
 
-  -- All events from the start on: those of the volumes, and then the present ones (this project's own).
+  -- All events from the start: those of the volumes, then the present ones (this project's own).
   abbrev pub all_events : List (VolumeView V) → HistoryView V → List (Event V)
   all_events volumes history = joined volumes ++ history.events

@@ -1,9 +1,10 @@
+// SPDX-License-Identifier: MIT
 //! The history of a protected object since it was last cut.
 //!
-//! It is what an object can be replayed from: each event in its order, with its place in the whole history, and how each
-//! call ended. All memory is taken before an event happens: room is reserved for it and is then owed to it, so that the
-//! events that follow by themselves never fail for want of memory. An owner who wants the memory back cuts off the events
-//! so far as a volume. The places run on from volume to volume, and the outcomes stay.
+//! An object can be replayed from it: it has each event in order, with its place in the whole history, and how each call ended.
+//! All memory is taken before an event happens. Room is reserved for the event and is then owed to it, so the events that
+//! follow by themselves never run out of memory. An owner who wants the memory back cuts off the events so far as a volume.
+//! Places continue from volume to volume, and outcomes stay.
 
 ghost use Rattle.std.specs.Prelude.{ℕ, ◌≡◌, ◌≢◌, ◌<◌, ◌≤◌, ◌+◌, ◌-◌, ◌^◌, List, [], ◌∷◌, ◌++◌, length, slice_set};
 ghost use Rattle.std.specs.Prelude.{◌↔◌, IfOk, OnOk, OnErr, IsTrue};
@@ -24,9 +25,9 @@ pub struct History<V: Copy> {
     /// The place of the first of the events in the whole history.
     place: u64,
     events: Vec<Event<V>>,
-    /// By number, less the first: how the call ended, if it has.
+    /// How each call ended, if it has. The index is its number, less the first.
     outcomes: Vec<Option<End<V>>>,
-    /// How many further events have room.
+    /// For how many further events room is reserved.
     owed: usize,
 }
 
@@ -48,7 +49,7 @@ impl<V: Copy> Model for History<V> {
 }
 
 impl<V: Copy> History<V> {
-    /// A history of no event, whose first call gets this number and whose first event this place.
+    /// Makes a history with no event, whose first call gets this number and whose first event this place.
     ///
     /// One event is owed: the finalization of the object, which takes no memory (9.4).
     pub fn new(alloc: Global, first_number: u64, first_place: u64) -> Result<History<V>, AllocError>
@@ -70,11 +71,11 @@ impl<V: Copy> History<V> {
         })
     }
 
-    /// Makes room for a call whose entry has this rank: for its outcome, for the event that issues it, and for all
-    /// further events of it.
+    /// Makes room for a call whose entry has this rank: for its outcome, for the event that issues it, and for all its further
+    /// events.
     ///
-    /// A call is served at most `rank + 1` times, as each requeue lowers the rank (9.5.4), and one event at most aborts
-    /// it or lets it expire.
+    /// A call is served at most `rank + 1` times, since each requeue lowers the rank (9.5.4). At most one event attempts it or
+    /// lets it expire.
     pub fn reserve_for(&mut self, rank: u8) -> Result<(), AllocError>
         ensures ok { OnOk result (self.new ≡ record self.old {
           owed = self.old.owed + rank + 3;
@@ -90,7 +91,7 @@ impl<V: Copy> History<V> {
         Ok(())
     }
 
-    /// Makes room for one event that is no call's.
+    /// Makes room for one event that belongs to no call.
     pub fn reserve_event(&mut self) -> Result<(), AllocError>
         ensures ok { OnOk result (self.new ≡ record self.old { owed = self.old.owed + 1 }) }
         ensures err { OnErr result (self.new ≡ self.old) }
@@ -100,7 +101,7 @@ impl<V: Copy> History<V> {
         Ok(())
     }
 
-    /// Notes an event, for which there is room as long as some are `owed`, as the last.
+    /// Adds an event at the end. There is room for it as long as some are `owed`.
     pub fn push_owed(&mut self, event: Event<V>)
         requires { 0 < self.old.owed }
         ensures exact { self.new ≡ record self.old {
@@ -115,7 +116,7 @@ impl<V: Copy> History<V> {
         self.events.push_reserved(event);
     }
 
-    /// Gives up the room for so many events that won't come.
+    /// Gives up the room for this many owed events, which won't come.
     pub fn release(&mut self, events: usize)
         requires { events ≤ self.old.owed }
         ensures { self.new ≡ record self.old { owed = self.old.owed - events } }
@@ -123,8 +124,8 @@ impl<V: Copy> History<V> {
         self.owed -= events;
     }
 
-    /// Notes how a call that was issued, and hasn't ended so far, has ended. `is_reserved_for` and `outcome` tell whether
-    /// it is such a call.
+    /// Notes how a call ended. It has to be one that was issued and hasn't ended so far: `is_reserved_for` and `outcome` let
+    /// the caller check that.
     pub fn set_outcome(&mut self, n: u64, end: End<V>)
         requires issued { self.old.first_number ≤ n }
         requires reserved { n - self.old.first_number < length self.old.outcomes }
@@ -140,14 +141,14 @@ impl<V: Copy> History<V> {
         self.outcomes[index] = Some(end);
     }
 
-    /// The events since the last cut, in their order.
+    /// Returns the events since the last cut, in order.
     pub fn events(&self) -> &[Event<V>]
         ensures { result.now ≡ self.now.events }
     {
         self.events.as_slice()
     }
 
-    /// How the call with this number ended, if it has.
+    /// Returns how the call with this number ended, if it has.
     pub fn outcome(&self, n: u64) -> Option<End<V>>
         ensures { result ≡ outcome_of self.now n }
     {
@@ -155,7 +156,7 @@ impl<V: Copy> History<V> {
         self.outcomes.get(index).copied().flatten()
     }
 
-    /// Whether there is room for the outcome of the call with this number.
+    /// Returns whether there is room for the outcome of the call with this number.
     pub fn is_reserved_for(&self, n: u64) -> bool
         ensures { IsTrue result
             ↔ (self.now.first_number ≤ n) × (n - self.now.first_number < length self.now.outcomes) }
@@ -163,28 +164,28 @@ impl<V: Copy> History<V> {
         n >= self.first_number && n - self.first_number < self.outcomes.len() as u64
     }
 
-    /// How many further events have room.
+    /// Returns for how many further events room is reserved.
     pub fn owed(&self) -> usize
         ensures { result ≡ self.now.owed }
     {
         self.owed
     }
 
-    /// The place of the next event in the whole history.
+    /// Returns the place of the next event in the whole history.
     pub fn place(&self) -> u128
         ensures { result ≡ next_place self.now }
     {
         u128::from(self.place) + self.events.len() as u128
     }
 
-    /// The place of the first event since the last cut.
+    /// Returns the place of the first event since the last cut.
     pub fn first_place(&self) -> u64
         ensures { result ≡ self.now.place }
     {
         self.place
     }
 
-    /// Cuts off the events since the last cut. The outcomes stay, and so does the room for the events that are owed.
+    /// Cuts off the events since the last cut, as a volume. The outcomes stay, and so does the room for events that are owed.
     pub fn cut(&mut self) -> Result<Volume<V>, AllocError>
         requires { next_place self.old < 2 ^ 64 }
         ensures volume { IfOk result (λ volume. volume ≡

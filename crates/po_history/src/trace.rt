@@ -1,3 +1,4 @@
+// SPDX-License-Identifier: MIT
 //! A list that only proofs read. It takes no memory, and its methods do nothing at run time.
 
 ghost use Rattle.std.specs.Prelude.{◌≡◌, List, [], ◌∷◌, ◌++◌};
@@ -5,10 +6,10 @@ ghost use Rattle.std.specs.Borrow.{ftrue};
 
 use std::marker::{Model, PhantomData};
 
-/// What has happened, in that order; clauses read it as `items`.
+/// What has happened, in order; clauses read it as `items`.
 ///
-/// By itself it says nothing of a program, as each list meets what is written here. It says what the invariant of the
-/// type that keeps it says: which fields that are really there follow from the list.
+/// By itself it says nothing about a program, since any list meets the contracts here. It gets its meaning from the invariant
+/// of the type that keeps it, which says how that type's real fields follow from the list.
 #[derive(Drop)]
 pub struct Trace<T> {
     of: PhantomData<T>,
@@ -19,27 +20,27 @@ impl<T> Model for Trace<T> {
     ghost also_owns = { λ _. ftrue };
 }
 
-// It owns nothing.
+// A trace owns nothing.
 unsafe impl<T: Send> Send for Trace<T> {}
 
 unsafe impl<T: Send> Sync for Trace<T> {}
 
 impl<T> Trace<T> {
-    /// Nothing has happened yet.
+    /// Makes the trace in which nothing has happened yet.
     pub fn new() -> Trace<T>
         ensures { result.items ≡ [] }
     {
         Trace { of: PhantomData }
     }
 
-    /// The same has happened.
+    /// Makes a trace with the same items.
     pub fn copy(&self) -> Trace<T>
         ensures { result.items ≡ self.now.items }
     {
         Trace { of: PhantomData }
     }
 
-    /// One more thing has happened.
+    /// Makes a trace in which one more thing has happened: `last`.
     pub fn then(&self, last: &T) -> Trace<T>
         ensures { result.items ≡ self.now.items ++ last.now ∷ [] }
     {

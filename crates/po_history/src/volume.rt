@@ -1,3 +1,4 @@
+// SPDX-License-Identifier: MIT
 //! A part of a history that was cut off.
 
 ghost use Rattle.std.specs.Prelude.{◌≡◌, ◌<◌, ◌+◌, ◌^◌, length};
@@ -24,7 +25,7 @@ impl<V: Copy> Model for Volume<V> {
 }
 
 impl<V: Copy> Volume<V> {
-    /// The volume of these events, of which the first has this place.
+    /// Makes the volume of these events, the first of which has this place.
     pub(crate) fn new(first_place: u64, events: Vec<Event<V>>) -> Volume<V>
         requires { first_place + length events.items < 2 ^ 64 }
         ensures { result ≡ record { first_place = first_place; events = events.items } }
@@ -35,21 +36,21 @@ impl<V: Copy> Volume<V> {
         }
     }
 
-    /// The place of its first event in the whole history, counted from the place at which the object was started.
+    /// Returns the place of its first event in the whole history, counted from the place at which the object was started.
     pub fn first_place(&self) -> u64
         ensures { result ≡ self.now.first_place }
     {
         self.first_place
     }
 
-    /// Its events, in their order.
+    /// Returns its events, in order.
     pub fn events(&self) -> &[Event<V>]
         ensures { result.now ≡ self.now.events }
     {
         self.events.as_slice()
     }
 
-    /// The place of the event that came next, which fits: a history is cut at no other places.
+    /// Returns the place of the event that came next. It fits into 64 bits, since a history is cut only at such places.
     pub fn place_after(&self) -> u64
         ensures { result ≡ self.now.first_place + length self.now.events }
     {

@@ -1,4 +1,4 @@
--- Words behind words, and where they stand.
+-- Words after words, and their places.
 use Rattle.std.proofs.Common.{◌≡◌, ℕ, zero, suc, ◌+◌, ◌-◌, ◌≤◌, List, [], ◌∷◌, ◌++◌, length, get_or, take, drop, refl, sym, ap, ◌∙◌, subst, arith, append_assoc, length-append}
 use Rattle.std.proofs.lemmas.List.{take_at, drop_at}
 use Rattle.po_language.specs.Spans.{IsSuffix, IsSpanOf}
@@ -44,7 +44,7 @@ still_before [] n w rest e le = nil_apart w rest (sym (drop_nil n) ∙ e) _
 still_before (x ∷ xs) zero w rest e le = omega arith
 still_before (x ∷ xs) (suc n) w rest e le = still_before xs n w rest e (omega arith)
 
--- the bytes behind what stands before
+-- a word is cut out of its line by its length and the length of what follows
 cut_out : (line front w behind : List ℕ) → line ≡ front ++ (w ++ behind) → take (length w) (drop (length line - (length w + length behind)) line) ≡ w
 cut_out line front w behind e =
     let n : length line - (length w + length behind) ≡ length front = omega (arith, ap (λ (l : List ℕ). length l) e, length-append front (w ++ behind), length-append w behind) in

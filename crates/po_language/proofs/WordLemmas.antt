@@ -6,7 +6,7 @@ use Rattle.std.proofs.lemmas.List.{take-append-drop}
 use Rattle.std.proofs.lemmas.List.Sums.{fold-append, fold_more}
 use Rattle.po_language.specs.Words.{words, is_space, is_word_byte, has_bytes, digits_value}
 
--- the first part is what stands before the first space
+-- the first part is what comes before the first space
 parts : (l : List ℕ) → (tail : List (List ℕ)) × (slice_split is_space l ≡ take (prefix_len is_word_byte l) l ∷ tail) × (words (drop (prefix_len is_word_byte l) l) ≡ filter has_bytes tail)
 parts [] = ([], refl, refl)
 parts (b ∷ bs) =
@@ -66,10 +66,10 @@ digits_at w i h =
     let parted = fold-append f 0 (take (i + 1) w) (drop (i + 1) w) in
     omega (arith, e, whole, parted, value_grows (fold f 0 (take (i + 1) w)) (drop (i + 1) w))
 
--- a number that the digits so far pass is passed by all
+-- if the digits so far are too much for 64 bits, so are all digits
 pub too_high : (w : List ℕ) (i : ℕ) → i < length w → 2 ^ 64 ≤ digits_value (take i w) * 10 + (get_or w i 0 - 48) → 2 ^ 64 ≤ digits_value w
 too_high w i h high = omega (arith, digits_at w i h)
 
--- the word and what follows it stand behind the spaces
+-- the word and what follows it come after the spaces
 pub parted : (l r w rest : List ℕ) (n m : ℕ) → r ≡ drop n l → w ≡ take m r → rest ≡ drop m r → l ≡ take n l ++ (w ++ rest)
 parted l r w rest n m er ew erest = rw (ew, erest, take-append-drop m r, er) (sym (take-append-drop n l))

@@ -1,3 +1,4 @@
+-- SPDX-License-Identifier: MIT
 -- What a line says: a command, nothing, or what is wrong with it.
 use Rattle.std.specs.Prelude.{codes, ℕ, ℤ, Bool, true, false, ◌&&◌, nat_le, ◌==◌, List, [], ◌∷◌, Option, Some, None, Result, Ok, Err, if◌then◌else◌}
 use Rattle.std.specs.Option.{option_map, option_and_then}
@@ -17,13 +18,13 @@ use Rattle.po_language.specs.declared.command.Beginning.{Beginning}
 use Rattle.po_language.specs.declared.command.Command.{Command}
 use Rattle.po_language.specs.declared.command.Command.TheVariants.{Begin, Operate}
 use Rattle.po_language.specs.declared.command.Operation.{Operation}
-use Rattle.po_language.specs.declared.command.Operation.TheVariants.{Call as CallOperation, Run, Read, Abort, Tick as TickOperation, Finalize, Show as ShowOperation}
+use Rattle.po_language.specs.declared.command.Operation.TheVariants.{Call as CallOperation, Procedure, Function, Cancel as CancelOperation, Tick as TickOperation, Finalize, Show as ShowOperation}
 use Rattle.po_language.specs.declared.command.FaultKind.{FaultKind}
 use Rattle.po_language.specs.declared.command.FaultKind.TheVariants.{UnknownCommand, NoUnit, SecondUnit, BadUnit, BadArgument}
 use Rattle.po_language.specs.declared.parse.Verb.{Verb}
 use Rattle.po_language.specs.declared.parse.Verb.TheVariants.{Begin as BeginVerb, Call, Cond, Timed, Proc, Func, Cancel, Tick, Final, Show}
 
--- the word begins with `#`
+-- whether the word begins with `#`
 abbrev pub is_comment : List ℕ → Bool
 is_comment [] = false
 is_comment (b ∷ bs) = b == 35
@@ -43,7 +44,7 @@ verb_of word =
     else if bytes_eq word (codes "show") then Some Show
     else None
 
--- ---- the words behind `unit`
+-- ---- the words after `unit`
 
 -- The unit's size is one that it may have, if it has one.
 abbrev pub HasSize : UnitList → UnitChoice → Type 0
@@ -59,7 +60,7 @@ abbrev pub IsOperation : Command → Type 0
 IsOperation (Begin beginning) = ⊥
 IsOperation (Operate operation) = Unit {0}
 
--- a number that is a size
+-- the number, if it is a size
 abbrev pub size_within : Option ℕ → Option ℕ
 size_within None = None
 size_within (Some n) = if nat_le 1 n && nat_le n 1024 then Some n else None
@@ -67,7 +68,7 @@ size_within (Some n) = if nat_le 1 n && nat_le n 1024 then Some n else None
 abbrev pub size_of : List ℕ → Option ℕ
 size_of word = size_within (number_of word)
 
--- the unit of this number, by whether it has a size, and the words behind it and its size
+-- the unit of this number and the words after it; if it has a size, the first word is the size
 abbrev pub unit_with : ℕ → Bool → List (List ℕ) → Option (UnitChoice × List (List ℕ))
 unit_with number false ws = Some (record { number = number; size = 0 }, ws)
 unit_with number true [] = None
@@ -77,7 +78,7 @@ abbrev pub unit_by : UnitList → Option ℕ → List (List ℕ) → Option (Uni
 unit_by units None ws = None
 unit_by units (Some number) ws = unit_with number (names_at units number).is_sized ws
 
--- the unit that the words begin with, and the words behind it
+-- the unit that the words begin with, and the words after it
 abbrev pub unit_of : UnitList → List (List ℕ) → Option (UnitChoice × List (List ℕ))
 unit_of units [] = None
 unit_of units (name ∷ ws) = unit_by units (unit_number units name) ws
@@ -90,24 +91,24 @@ order_of word =
     else if bytes_eq word (codes "rotating") then Some Rotating
     else None
 
--- the order, or the textual one in front of a word that names none
+-- the order, or the textual one before a word that names none
 abbrev pub order_by : Option Order → List ℕ → List (List ℕ) → Order × List (List ℕ)
 order_by (Some order) w ws = (order, ws)
 order_by None w ws = (Textual, w ∷ ws)
 
--- the service order, textual where none is named, and the words behind it
+-- the service order, textual if none is named, and the words after it
 abbrev pub with_order : List (List ℕ) → Order × List (List ℕ)
 with_order [] = (Textual, [])
 with_order (w ∷ ws) = order_by (order_of w) w ws
 
--- the greatest queue length that the words state, none where there are no words
+-- the greatest queue length that the words state, or none if there are no words
 abbrev pub limit_of : List (List ℕ) → Option (Option ℕ)
 limit_of [] = Some None
 limit_of (w ∷ []) = None
 limit_of (w ∷ most ∷ []) = if bytes_eq w (codes "max") then option_map (λ n. Some n) (number_of most) else None
 limit_of (w ∷ most ∷ x ∷ xs) = None
 
--- what begins, by the service order and the words behind it
+-- what begins, given the service order and the words after it
 abbrev pub beginning_with : UnitChoice → Order × List (List ℕ) → Option Beginning
 beginning_with unit ordered =
     option_map (λ limit. record { unit = unit; order = ordered.0; max_queue = limit }) (limit_of ordered.1)
@@ -120,22 +121,22 @@ beginning_by (Some chosen) = beginning_with chosen.0 (with_order chosen.1)
 abbrev pub beginning_of : UnitList → List (List ℕ) → Option Beginning
 beginning_of units ws = beginning_by (unit_of units ws)
 
--- ---- the words behind the other commands
+-- ---- the words after the other commands
 
 -- the unit's entry of that name
 abbrev pub entry_at : KnownNames → List ℕ × Option ℤ → EntryRef
-entry_at names parts = record { entry = number_of_name names.entries parts.0; index = parts.1 }
+entry_at names parts = record { declaration = number_of_name names.entries parts.0; index = parts.1 }
 
 -- the unit's entry that the word names
 abbrev pub entry_of : KnownNames → List ℕ → Option EntryRef
 entry_of names word = option_map (entry_at names) (entry_parts word)
 
--- the word, where it is the only one
+-- the word, if it is the only one
 abbrev pub only_of : List (List ℕ) → Option (List ℕ)
 only_of (w ∷ []) = Some w
 only_of other = None
 
--- the two words, where there are just two
+-- the two words, if there are just two
 abbrev pub pair_of : List (List ℕ) → Option (List ℕ × List ℕ)
 pair_of (first ∷ second ∷ []) = Some (first, second)
 pair_of other = None
@@ -171,28 +172,28 @@ abbrev pub name_and_value : List (List ℕ) → Option (List ℕ × ℕ)
 name_and_value [] = None
 name_and_value (name ∷ ws) = if is_name name then option_map (λ value. (name, value)) (number_alone ws) else None
 
--- a procedure and a value, and nothing else; one that isn't there has the number behind the last
-abbrev pub run_of : KnownNames → List (List ℕ) → Option Operation
-run_of names ws = option_map (λ p. Run (number_of_name names.procedures p.0) p.1) (name_and_value ws)
+-- a procedure and a value, and nothing else; an unknown procedure has the number after the last
+abbrev pub procedure_of : KnownNames → List (List ℕ) → Option Operation
+procedure_of names ws = option_map (λ p. Procedure (number_of_name names.procedures p.0) p.1) (name_and_value ws)
 
--- a function and a value, and nothing else; one that isn't there has the number behind the last
-abbrev pub read_of : KnownNames → List (List ℕ) → Option Operation
-read_of names ws = option_map (λ p. Read (number_of_name names.functions p.0) p.1) (name_and_value ws)
+-- a function and a value, and nothing else; an unknown function has the number after the last
+abbrev pub function_of : KnownNames → List (List ℕ) → Option Operation
+function_of names ws = option_map (λ p. Function (number_of_name names.functions p.0) p.1) (name_and_value ws)
 
--- the operation, where no words follow
+-- the operation, if no words follow
 abbrev pub alone : Operation → List (List ℕ) → Option Operation
 alone operation [] = Some operation
 alone operation (w ∷ ws) = None
 
--- the operation that the words ask for, where the first word of the line isn't `unit`
+-- the operation that the words ask for, if the first word of the line isn't `unit`
 abbrev pub operation_of : KnownNames → Verb → List (List ℕ) → Option Operation
 operation_of names BeginVerb ws = None
 operation_of names Call ws = call_of names Never ws
 operation_of names Cond ws = call_of names (At 0) ws
 operation_of names Timed ws = timed_of names ws
-operation_of names Proc ws = run_of names ws
-operation_of names Func ws = read_of names ws
-operation_of names Cancel ws = option_map (λ n. Abort n) (number_alone ws)
+operation_of names Proc ws = procedure_of names ws
+operation_of names Func ws = function_of names ws
+operation_of names Cancel ws = option_map (λ n. CancelOperation n) (number_alone ws)
 operation_of names Tick ws = option_map (λ time. TickOperation time) (number_alone ws)
 operation_of names Final ws = alone Finalize ws
 operation_of names Show ws = alone ShowOperation ws
@@ -221,22 +222,22 @@ abbrev pub some_command : Result Command FaultKind → Result (Option Command) F
 some_command (Ok c) = Ok (Some c)
 some_command (Err kind) = Err kind
 
--- a known first word, with the words behind it
+-- the command of a first word, if it is known, and of the words after it
 abbrev pub command_by : UnitList → Option UnitChoice → Option Verb → List (List ℕ) → Result (Option Command) FaultKind
 command_by units begun None ws = Err UnknownCommand
 command_by units None (Some verb) ws = some_command (first_command units verb ws)
 command_by units (Some unit) (Some verb) ws = some_command (later_command (names_at units unit.number) verb ws)
 
--- a line without words, or whose first word begins with `#`, is skipped
+-- the same; a line without words, or whose first word begins with `#`, is skipped
 abbrev pub command_with : UnitList → Option UnitChoice → List (List ℕ) → Result (Option Command) FaultKind
 command_with units begun [] = Ok None
 command_with units begun (w ∷ ws) = if is_comment w then Ok None else command_by units begun (verb_of w) ws
 
--- the line's command, if it has one; begun is the unit that an earlier line began
+-- the line's command, if it has one; `begun` is the unit that an earlier line began
 abbrev pub command_of : UnitList → Option UnitChoice → List ℕ → Result (Option Command) FaultKind
 command_of units begun line = command_with units begun (words line)
 
--- no entry, procedure or function has a name
+-- names of no entry, procedure or function
 abbrev pub no_names : KnownNames
 no_names = record { unit = []; is_sized = false; entries = []; procedures = []; functions = [] }
 
@@ -253,7 +254,7 @@ abbrev pub form_with : UnitList → List (List ℕ) → Result (Option Command) 
 form_with units [] = Ok None
 form_with units (w ∷ ws) = if is_comment w then Ok None else form_by units (verb_of w) ws
 
--- the line's command by its form alone, if it has one: it isn't known which unit is begun, nor any name of its entries,
+-- the line's command by its form alone, if it has one: it isn't known which unit was begun, nor any name of its entries,
 -- procedures and functions
 abbrev pub form_of : UnitList → List ℕ → Result (Option Command) FaultKind
 form_of units line = form_with units (words line)

@@ -1,3 +1,4 @@
+-- SPDX-License-Identifier: MIT
 pub mod Commands
 pub mod Faults
 pub mod Spans

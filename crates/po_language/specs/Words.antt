@@ -1,3 +1,4 @@
+-- SPDX-License-Identifier: MIT
 -- The words of a line, and the forms that a word may have.
 use Rattle.std.specs.Prelude.{ℕ, ◌+◌, ◌*◌, ◌-◌, ◌^◌, ℤ, pos, neg_ℤ, Bool, true, false, not, ◌&&◌, ◌||◌, nat_le, nat_lt, ◌==◌, List, [], ◌∷◌, length, take, drop, slice_index, slice_range, Option, Some, None, if◌then◌else◌}
 use Rattle.std.specs.Option.{option_and_then, option_map}
@@ -41,11 +42,11 @@ is_name (b ∷ bs) = is_ascii_alphabetic b && nat_le (length bs) 31 && list_all 
 abbrev pub magnitude_of : List ℕ → Option ℕ
 magnitude_of word = if nat_le (length word) 10 then number_of word else None
 
--- the number as an integer of 32 bits
+-- the number as an integer of 32 bits, if they hold it
 abbrev pub positive_of : ℕ → Option ℤ
 positive_of n = if nat_le n 2147483647 then Some (pos n) else None
 
--- its negative as an integer of 32 bits
+-- its negative as an integer of 32 bits, if they hold it
 abbrev pub negative_of : ℕ → Option ℤ
 negative_of n = if nat_le n 2147483648 then Some (neg_ℤ (pos n)) else None
 
@@ -60,7 +61,7 @@ index_of (b ∷ bs) =
 abbrev pub is_before_index : ℕ → Bool
 is_before_index b = not (b == 40)
 
--- what stands between a first and a last parenthesis
+-- what is between a first and a last parenthesis
 abbrev pub bracketed : List ℕ → Option (List ℕ)
 bracketed rest =
     if nat_le 2 (length rest) && (slice_index rest 0 == 40 && slice_index rest (length rest - 1) == 41)
@@ -75,6 +76,6 @@ parts_with name (b ∷ bs) =
     then option_map (λ i. (name, Some i)) (option_and_then index_of (bracketed (b ∷ bs)))
     else None
 
--- the name that the word begins with, and the index in parentheses behind it
+-- the name that the word begins with, and the index in parentheses after it
 abbrev pub entry_parts : List ℕ → Option (List ℕ × Option ℤ)
 entry_parts word = parts_with (take (prefix_len is_before_index word) word) (drop (prefix_len is_before_index word) word)

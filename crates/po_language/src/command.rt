@@ -1,4 +1,5 @@
-//! The commands of a script, each of one line.
+// SPDX-License-Identifier: MIT
+//! The commands of a script, each on one line.
 
 use po_calls::Deadline;
 use po_queues::Order;
@@ -10,7 +11,7 @@ use thiserror::Error;
 pub struct UnitChoice {
     /// Its number in the list of units.
     pub number: u16,
-    /// Its size, or 0 where it has none.
+    /// Its size, or 0 if it has none.
     pub size: u16,
 }
 
@@ -41,18 +42,18 @@ pub enum Operation {
         deadline: Deadline,
     },
     /// Runs a protected procedure (9.5.1).
-    Run {
+    Procedure {
         op: u16,
         value: u64,
     },
-    /// Reads by a protected function (9.5.1).
-    Read {
+    /// Calls a protected function (9.5.1).
+    Function {
         op: u16,
         value: u64,
     },
-    /// Attempts to cancel the call with this number (9.5.3).
-    Abort(u64),
-    /// Raises the clock to this time, if it is lower.
+    /// Tries to cancel the call with this number (9.5.3).
+    Cancel(u64),
+    /// Raises the clock to this time, unless it is already later.
     Tick(u64),
     /// Finalizes the object (9.4).
     Finalize,
@@ -63,13 +64,13 @@ pub enum Operation {
 /// What is wrong with a line.
 #[derive(Clone, Copy, Debug, PartialEq, Eq, Error)]
 pub enum FaultKind {
-    /// A byte follows the most that a script may have.
+    /// There are more bytes than a script may have.
     #[error("script too long")]
     ScriptTooLong,
-    /// A byte follows the most that a line may have.
+    /// There are more bytes than a line may have.
     #[error("too long")]
     LineTooLong,
-    /// The first word is no command's.
+    /// The first word names no command.
     #[error("unknown command")]
     UnknownCommand,
     /// A command before the `unit` line.
@@ -81,7 +82,7 @@ pub enum FaultKind {
     /// A `unit` line that begins no unit.
     #[error("bad unit")]
     BadUnit,
-    /// Too few or too many words, or one that hasn't its form.
+    /// Too few or too many words, or one of the wrong form.
     #[error("bad argument")]
     BadArgument,
 }

@@ -1,3 +1,4 @@
+// SPDX-License-Identifier: MIT
 //! The command of a line.
 
 ghost use Rattle.std.specs.Prelude.{◌≡◌, IfOk, IfErr, IfSome};
@@ -8,7 +9,7 @@ ghost use Rattle.po_language.specs.Faults.{by_kind, word_kind};
 ghost use Rattle.po_language.specs.Spans.{IsSpanOf};
 
 use crate::command::{Command, UnitChoice};
-use crate::fault::{LineFault, Reason, WordFault};
+use crate::error::{LineError, Reason, WordError};
 use crate::operation_line::operation_of;
 use crate::span::span_of;
 use crate::unit_line::beginning_of;
@@ -41,25 +42,25 @@ pub enum Verb {
     Show,
 }
 
-/// What is known of the unit that is begun.
+/// What is known about the unit that was begun.
 #[derive(Clone, Copy, Debug, PartialEq, Eq)]
 enum Known {
-    /// None is begun.
+    /// None was begun.
     Nothing,
-    /// This one is.
+    /// This one was begun.
     Begun(UnitChoice),
-    /// Whether one is begun, and which, isn't known.
+    /// It isn't known whether one was begun, and which.
     Unclear,
 }
 
-/// Whether the first word of a line makes it a comment.
+/// Returns whether the first word of a line makes it a comment.
 fn is_comment(word: &[u8]) -> bool
     ensures { result ≡ is_comment word.now }
 {
     word.first() == Some(&b'#')
 }
 
-/// What the first word of a line asks for, if it is known.
+/// Returns what the first word of a line asks for, if it is known.
 fn verb_of(word: &[u8]) -> Option<Verb>
     ensures { result ≡ verb_of word.now }
 {
@@ -88,13 +89,13 @@ fn verb_of(word: &[u8]) -> Option<Verb>
     }
 }
 
-/// The command that the words of a line behind its first ask for, before a unit is begun.
-fn first_command<L: UnitList>(verb: Verb, arguments: &[u8]) -> Result<Command, WordFault>
+/// Returns the command that the words after a line's first ask for, before a unit is begun.
+fn first_command<L: UnitList>(verb: Verb, arguments: &[u8]) -> Result<Command, WordError>
     ensures exact { word_kind result ≡ first_command L.listed verb (words arguments.now) }
     ensures valid { IfOk result (CanBegin L.listed) }
 {
     if verb != Verb::Begin {
-        return Err(WordFault {
+        return Err(WordError {
             word: 0,
             reason: Reason::NoUnit,
         });
@@ -103,13 +104,13 @@ fn first_command<L: UnitList>(verb: Verb, arguments: &[u8]) -> Result<Command, W
     Ok(Command::Begin(beginning))
 }
 
-/// The command that the words of a line behind its first ask for, once the unit is begun.
-fn later_command(names: &UnitNames, verb: Verb, arguments: &[u8]) -> Result<Command, WordFault>
+/// Returns the command that the words after a line's first ask for, once the unit is begun.
+fn later_command(names: &UnitNames, verb: Verb, arguments: &[u8]) -> Result<Command, WordError>
     ensures exact { word_kind result ≡ later_command names.now verb (words arguments.now) }
     ensures operation { IfOk result IsOperation }
 {
     if verb == Verb::Begin {
-        return Err(WordFault {
+        return Err(WordError {
             word: 0,
             reason: Reason::SecondUnit,
         });
@@ -118,9 +119,9 @@ fn later_command(names: &UnitNames, verb: Verb, arguments: &[u8]) -> Result<Comm
     Ok(Command::Operate(operation))
 }
 
-/// The command that the words of a line behind its first ask for, where it isn't known which unit is begun: no name of an
-/// entry, a procedure or a function is.
-fn form_command<L: UnitList>(verb: Verb, arguments: &[u8]) -> Result<Command, WordFault>
+/// Returns the command that the words after a line's first ask for, if it isn't known which unit was begun. Then no name of an
+/// entry, a procedure or a function is known.
+fn form_command<L: UnitList>(verb: Verb, arguments: &[u8]) -> Result<Command, WordError>
     ensures exact { word_kind result ≡ form_command L.listed verb (words arguments.now) }
     ensures valid { IfOk result (CanBegin L.listed) }
 {
@@ -137,20 +138,20 @@ fn form_command<L: UnitList>(verb: Verb, arguments: &[u8]) -> Result<Command, Wo
     }
 }
 
-/// The fault of the line that is one at a word of it.
-fn placed(line: &[u8], fault: WordFault) -> LineFault
+/// Returns the fault of the line, given the fault at one of its words.
+fn placed(line: &[u8], fault: WordError) -> LineError
     ensures span { IsSpanOf line.now result.word result.span }
     ensures reason { result.reason ≡ fault.reason }
 {
-    LineFault {
+    LineError {
         reason: fault.reason,
         word: fault.word,
         span: span_of(line, fault.word),
     }
 }
 
-/// The command of the line, if it isn't skipped, by what is known of the unit that is begun.
-fn known_command<L: UnitList>(known: Known, line: &[u8]) -> Result<Option<Command>, WordFault>
+/// Returns the command of the line, if it isn't skipped, given what is known about the unit that was begun.
+fn known_command<L: UnitList>(known: Known, line: &[u8]) -> Result<Option<Command>, WordError>
     ensures exact { word_kind result ≡ known_command L.listed known (words line.now) }
     ensures valid { IfOk result (λ command. IfSome command (CanBegin L.listed)) }
 {
@@ -161,7 +162,7 @@ fn known_command<L: UnitList>(known: Known, line: &[u8]) -> Result<Option<Comman
         return Ok(None);
     }
     let Some(verb) = verb_of(first) else {
-        return Err(WordFault {
+        return Err(WordError {
             word: 0,
             reason: Reason::UnknownCommand,
         });
@@ -174,11 +175,11 @@ fn known_command<L: UnitList>(known: Known, line: &[u8]) -> Result<Option<Comman
     Ok(Some(command))
 }
 
-/// The command of the line, if it isn't skipped; `begun` is the unit of the list that an earlier line began.
+/// Returns the command of the line, if it isn't skipped. `begun` is the unit of the list that an earlier line began.
 pub fn command_of<L: UnitList>(
     begun: Option<UnitChoice>,
     line: &[u8],
-) -> Result<Option<Command>, LineFault>
+) -> Result<Option<Command>, LineError>
     ensures exact { by_kind result ≡ command_of L.listed begun line.now }
     ensures valid { IfOk result (λ command. IfSome command (CanBegin L.listed)) }
     ensures placed { IfErr result (λ fault. IsSpanOf line.now fault.word fault.span) }
@@ -193,9 +194,9 @@ pub fn command_of<L: UnitList>(
     }
 }
 
-/// The command of the line by its form alone, where it isn't known which unit is begun. The numbers in an operation of
-/// entries, procedures and functions mean nothing.
-pub fn form_of<L: UnitList>(line: &[u8]) -> Result<Option<Command>, LineFault>
+/// Returns the command of the line by its form alone, if it isn't known which unit was begun. In an operation, the numbers of
+/// entries, procedures and functions then mean nothing.
+pub fn form_of<L: UnitList>(line: &[u8]) -> Result<Option<Command>, LineError>
     ensures exact { by_kind result ≡ form_of L.listed line.now }
     ensures valid { IfOk result (λ command. IfSome command (CanBegin L.listed)) }
     ensures placed { IfErr result (λ fault. IsSpanOf line.now fault.word fault.span) }

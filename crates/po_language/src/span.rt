@@ -1,4 +1,5 @@
-//! Where a word stands in its line.
+// SPDX-License-Identifier: MIT
+//! The place of a word in its line.
 
 ghost use Rattle.std.specs.Prelude.{◌≡◌, drop};
 ghost use Rattle.po_language.specs.Spans.{IsSpanOf, IsSuffix};
@@ -9,13 +10,13 @@ use crate::words::cut_word;
 /// A run of bytes of a line.
 #[derive(Clone, Copy, Debug, PartialEq, Eq)]
 pub struct Span {
-    /// How many bytes stand before it.
+    /// How many bytes come before it.
     pub start: usize,
     /// How many bytes it has.
     pub length: usize,
 }
 
-/// What stands behind so many words of the line, or what is left where there are fewer.
+/// Returns what comes after this many words of the line, or what is left if there are fewer.
 fn behind_words(line: &[u8], number: usize) -> &[u8]
     ensures words { words result.now ≡ drop number (words line.now) }
     ensures suffix { IsSuffix line.now result.now }
@@ -30,7 +31,7 @@ fn behind_words(line: &[u8], number: usize) -> &[u8]
     rest
 }
 
-/// Where the line's word with this number stands, counted from 0; the end of the line where there is none.
+/// Returns the place of the line's word with this number, counted from 0; the end of the line if there is none.
 pub fn span_of(line: &[u8], number: usize) -> Span
     ensures { IsSpanOf line.now number result }
 {

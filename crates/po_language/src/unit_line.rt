@@ -1,3 +1,4 @@
+// SPDX-License-Identifier: MIT
 //! The words of a `unit` line.
 
 ghost use Rattle.std.specs.Prelude.{◌≡◌, IfSome, IfOk, IfErr, MatchResult, Some, None};
@@ -8,12 +9,12 @@ ghost use Rattle.po_classic_units.specs.Sizes.{IsSize};
 ghost use Rattle.po_language.specs.Commands.{HasSize, size_of, unit_of, order_of, with_order, limit_of, beginning_of};
 
 use crate::command::{Beginning, FaultKind, UnitChoice};
-use crate::fault::{UnitPart, WordFault};
+use crate::error::{UnitPart, WordError};
 use crate::unit_list::UnitList;
 use crate::words::{cut_word, next_word, no_word, number};
 use po_queues::Order;
 
-/// The size of a unit: a number from 1 to 1,024.
+/// Returns the size of a unit: a number from 1 to 1,024.
 fn size(word: &[u8]) -> Option<u16>
     ensures exact { result ≡ size_of word.now }
     ensures valid { IfSome result IsSize }
@@ -24,16 +25,16 @@ fn size(word: &[u8]) -> Option<u16>
     }
 }
 
-/// The unit that the words begin with, and the words behind it: its size is one of them where it has one.
-fn unit_of<L: UnitList>(arguments: &[u8]) -> Result<(UnitChoice, &[u8]), WordFault>
+/// Returns the unit that the words begin with, and the words after it. If the unit has a size, that is one of its words.
+fn unit_of<L: UnitList>(arguments: &[u8]) -> Result<(UnitChoice, &[u8]), WordError>
     ensures exact { MatchResult result
         (λ chosen. unit_of L.listed (words arguments.now) ≡ Some (chosen.0, words chosen.1.now))
         (λ _. unit_of L.listed (words arguments.now) ≡ None) }
     ensures valid { IfOk result (λ chosen. HasSize L.listed chosen.0) }
     ensures kind { IfErr result (λ fault. kind_of fault.reason ≡ FaultKind.BadUnit) }
 {
-    let no_name = WordFault::unit(1, UnitPart::Name);
-    let no_size = WordFault::unit(2, UnitPart::Size);
+    let no_name = WordError::unit(1, UnitPart::Name);
+    let no_size = WordError::unit(2, UnitPart::Size);
     let (name, rest) = next_word(arguments, no_name)?;
     let Some(number) = L::unit_number(name) else {
         return Err(no_name);
@@ -48,7 +49,7 @@ fn unit_of<L: UnitList>(arguments: &[u8]) -> Result<(UnitChoice, &[u8]), WordFau
     Ok((UnitChoice { number, size }, rest))
 }
 
-/// The service order of this name.
+/// Returns the service order of this name.
 fn order_of(word: &[u8]) -> Option<Order>
     ensures { result ≡ order_of word.now }
 {
@@ -63,7 +64,7 @@ fn order_of(word: &[u8]) -> Option<Order>
     }
 }
 
-/// The service order that the words begin with, textual where they begin with none, and the words behind it.
+/// Returns the service order that the words begin with, and the words after it. It is textual if they begin with none.
 fn with_order(arguments: &[u8]) -> (Order, &[u8])
     ensures { with_order (words arguments.now) ≡ (result.0, words result.1.now) }
 {
@@ -76,8 +77,8 @@ fn with_order(arguments: &[u8]) -> (Order, &[u8])
     }
 }
 
-/// The greatest queue length that the words state, of which the first has this number: none where there are no words.
-fn limit_of(first: usize, arguments: &[u8]) -> Result<Option<u64>, WordFault>
+/// Returns the greatest queue length that the words state, or none if there are no words. The first word has number `first`.
+fn limit_of(first: usize, arguments: &[u8]) -> Result<Option<u64>, WordError>
     ensures exact { result_ok result ≡ limit_of (words arguments.now) }
     ensures kind { IfErr result (λ fault. kind_of fault.reason ≡ FaultKind.BadUnit) }
 {
@@ -85,21 +86,21 @@ fn limit_of(first: usize, arguments: &[u8]) -> Result<Option<u64>, WordFault>
         return Ok(None);
     };
     if word != b"max".as_slice() {
-        return Err(WordFault::unit(first, UnitPart::OrderOrMax));
+        return Err(WordError::unit(first, UnitPart::OrderOrMax));
     }
     let second = first.saturating_add(1);
-    let no_limit = WordFault::unit(second, UnitPart::Limit);
+    let no_limit = WordError::unit(second, UnitPart::Limit);
     let (most, rest) = next_word(rest, no_limit)?;
     let Some(most) = number(most) else {
         return Err(no_limit);
     };
-    let end = WordFault::unit(second.saturating_add(1), UnitPart::End);
+    let end = WordError::unit(second.saturating_add(1), UnitPart::End);
     no_word(rest, end)?;
     Ok(Some(most))
 }
 
-/// The number of the first word behind an order, by how many bytes stand there and how many stand behind the unit, the
-/// last of whose words is the one before `first`.
+/// Returns the number of the first word after the order. The first word after the unit has number `first`; it is the order if
+/// fewer bytes are left after the order than after the unit.
 fn word_behind_order(first: usize, behind_unit: usize, behind_order: usize) -> usize {
     if behind_order < behind_unit {
         first.saturating_add(1)
@@ -108,8 +109,8 @@ fn word_behind_order(first: usize, behind_unit: usize, behind_order: usize) -> u
     }
 }
 
-/// What the words behind `unit` begin.
-pub(crate) fn beginning_of<L: UnitList>(arguments: &[u8]) -> Result<Beginning, WordFault>
+/// Returns what the words after `unit` begin.
+pub(crate) fn beginning_of<L: UnitList>(arguments: &[u8]) -> Result<Beginning, WordError>
     ensures exact { result_ok result ≡ beginning_of L.listed (words arguments.now) }
     ensures valid { IfOk result (λ beginning. HasSize L.listed beginning.unit) }
     ensures kind { IfErr result (λ fault. kind_of fault.reason ≡ FaultKind.BadUnit) }

@@ -1,3 +1,4 @@
+// SPDX-License-Identifier: MIT
 //! The words of a line, and the forms that a word may have.
 
 ghost use Rattle.std.specs.Prelude.{◌≡◌, ◌≢◌, ℕ, List, ◌∷◌, ◌++◌, [], MatchOption, IfSome, IfOk, OnOk, IfErr, ◌≤◌, ◌+◌, ◌*◌, ◌^◌, if◌then◌else◌, nat_lt, None, length};
@@ -5,9 +6,9 @@ ghost use Rattle.std.specs.List.{prefix_len, list_all};
 ghost use Rattle.std.specs.Char.{is_ascii_digit};
 ghost use Rattle.po_language.specs.Words.{words, is_space, is_word_byte, is_name_byte, is_before_index, number_of, digits_value, is_name, index_of, magnitude_of, positive_of, negative_of, entry_parts, bracketed};
 
-use crate::fault::WordFault;
+use crate::error::WordError;
 
-/// How many spaces stand first.
+/// Returns how many spaces come first.
 fn space_count(line: &[u8]) -> usize
     ensures value { result ≡ prefix_len is_space line.now }
     ensures within { result ≤ length line.now }
@@ -15,7 +16,7 @@ fn space_count(line: &[u8]) -> usize
     line.iter().take_while(|b| **b == b' ').count()
 }
 
-/// How many bytes stand before the first space.
+/// Returns how many bytes come before the first space.
 fn word_length(line: &[u8]) -> usize
     ensures value { result ≡ prefix_len is_word_byte line.now }
     ensures within { result ≤ length line.now }
@@ -23,7 +24,7 @@ fn word_length(line: &[u8]) -> usize
     line.iter().take_while(|b| **b != b' ').count()
 }
 
-/// The first word of the line, and what follows it.
+/// Returns the first word of the line, and what follows it.
 #[tactic(auto, using(crate::proofs::WordLemmas::first_word, crate::proofs::WordLemmas::no_word, std::proofs::lemmas::Grind::common_steps))]
 pub fn cut_word(line: &[u8]) -> Option<(&[u8], &[u8])>
     ensures words { MatchOption result (words line.now ≡ [])
@@ -37,8 +38,8 @@ pub fn cut_word(line: &[u8]) -> Option<(&[u8], &[u8])>
     Some(line.split_at(word_length(line)))
 }
 
-/// The first word of the line, and what follows it; this fault where there is none.
-pub(crate) fn next_word(line: &[u8], fault: WordFault) -> Result<(&[u8], &[u8]), WordFault>
+/// Returns the first word of the line and what follows it, or this fault if there is none.
+pub(crate) fn next_word(line: &[u8], fault: WordError) -> Result<(&[u8], &[u8]), WordError>
     ensures ok { IfOk result (λ cut. words line.now ≡ cut.0.now ∷ words cut.1.now) }
     ensures err { IfErr result (λ wanting. (words line.now ≡ []) × (wanting ≡ fault)) }
 {
@@ -48,8 +49,8 @@ pub(crate) fn next_word(line: &[u8], fault: WordFault) -> Result<(&[u8], &[u8]),
     }
 }
 
-/// The fault, where a word follows.
-pub(crate) fn no_word(line: &[u8], fault: WordFault) -> Result<(), WordFault>
+/// Fails with this fault if a word follows.
+pub(crate) fn no_word(line: &[u8], fault: WordError) -> Result<(), WordError>
     ensures ok { OnOk result (words line.now ≡ []) }
     ensures err { IfErr result (λ more. (words line.now ≢ []) × (more ≡ fault)) }
 {
@@ -59,14 +60,14 @@ pub(crate) fn no_word(line: &[u8], fault: WordFault) -> Result<(), WordFault>
     }
 }
 
-/// Whether each byte is a decimal digit.
+/// Returns whether each byte is a decimal digit.
 fn all_digits(word: &[u8]) -> bool
     ensures { result ≡ list_all is_ascii_digit word.now }
 {
     word.iter().all(|b| b.is_ascii_digit())
 }
 
-/// The number with one more digit, if 64 bits hold it.
+/// Returns the number with one more digit, if 64 bits hold it.
 fn push_digit(value: u64, digit: u64) -> Option<u64>
     ensures { let next = value * 10 + digit in
         result ≡ (if nat_lt next (2 ^ 64) then Some next else None) }
@@ -74,7 +75,7 @@ fn push_digit(value: u64, digit: u64) -> Option<u64>
     value.checked_mul(10)?.checked_add(digit)
 }
 
-/// What the digits say, if 64 bits hold it.
+/// Returns what the digits say, if 64 bits hold it.
 #[tactic(auto, using(crate::proofs::WordLemmas::too_high, std::proofs::lemmas::Grind::common_steps))]
 fn value(word: &[u8]) -> Option<u64>
     ensures { let said = digits_value word.now in
@@ -90,7 +91,7 @@ fn value(word: &[u8]) -> Option<u64>
     Some(value)
 }
 
-/// The number that the word writes: one to twenty digits.
+/// Returns the number that the word writes: one to twenty digits.
 pub fn number(word: &[u8]) -> Option<u64>
     ensures { result ≡ number_of word.now }
 {
@@ -100,14 +101,14 @@ pub fn number(word: &[u8]) -> Option<u64>
     value(word)
 }
 
-/// Whether each byte may stand in a name.
+/// Returns whether each byte may be part of a name.
 fn all_name_bytes(word: &[u8]) -> bool
     ensures { result ≡ list_all is_name_byte word.now }
 {
     word.iter().all(|b| b.is_ascii_alphanumeric() || *b == b'_')
 }
 
-/// Whether the word is a name.
+/// Returns whether the word is a name.
 pub fn is_name(word: &[u8]) -> bool
     ensures { result ≡ is_name word.now }
 {
@@ -119,7 +120,7 @@ pub fn is_name(word: &[u8]) -> bool
     }
 }
 
-/// The number of one to ten digits.
+/// Returns the number of one to ten digits.
 fn magnitude(word: &[u8]) -> Option<u64>
     ensures { result ≡ magnitude_of word.now }
 {
@@ -129,7 +130,7 @@ fn magnitude(word: &[u8]) -> Option<u64>
     number(word)
 }
 
-/// The number above 0, if 32 bits hold it.
+/// Returns the number, if 32 bits with a sign hold it.
 fn positive_of(magnitude: u64) -> Option<i32>
     ensures { result ≡ positive_of magnitude }
 {
@@ -139,7 +140,7 @@ fn positive_of(magnitude: u64) -> Option<i32>
     Some(magnitude as i32)
 }
 
-/// The number below 0, if 32 bits hold it.
+/// Returns the number's negative, if 32 bits with a sign hold it.
 fn negative_of(magnitude: u64) -> Option<i32>
     ensures { result ≡ negative_of magnitude }
 {
@@ -149,7 +150,7 @@ fn negative_of(magnitude: u64) -> Option<i32>
     Some(-(magnitude as i64) as i32)
 }
 
-/// The index that the word writes.
+/// Returns the index that the word writes.
 pub fn index(word: &[u8]) -> Option<i32>
     ensures { result ≡ index_of word.now }
 {
@@ -168,7 +169,7 @@ pub struct EntryWord<'a> {
     pub index: Option<i32>,
 }
 
-/// How many bytes stand before the first parenthesis.
+/// Returns how many bytes come before the first parenthesis.
 fn name_length(word: &[u8]) -> usize
     ensures value { result ≡ prefix_len is_before_index word.now }
     ensures within { result ≤ length word.now }
@@ -176,7 +177,7 @@ fn name_length(word: &[u8]) -> usize
     word.iter().take_while(|b| **b != b'(').count()
 }
 
-/// What stands between the parentheses.
+/// Returns what is between the parentheses.
 fn between(rest: &[u8]) -> Option<&[u8]>
     ensures { MatchOption result (bracketed rest.now ≡ None)
         (λ inner. bracketed rest.now ≡ Some inner.now) }
@@ -187,7 +188,7 @@ fn between(rest: &[u8]) -> Option<&[u8]>
     }
 }
 
-/// The parts of the word, if it names an entry: a name, and perhaps an index in parentheses.
+/// Returns the parts of the word, if it names an entry: a name, and perhaps an index in parentheses.
 pub fn entry_word(word: &[u8]) -> Option<EntryWord<'_>>
     ensures { MatchOption result (entry_parts word.now ≡ None)
         (λ parts. entry_parts word.now ≡ Some (parts.name.now, parts.index)) }

@@ -1,4 +1,4 @@
--- What is free and what is taken are together the size: the law of the allocator, of every legal history.
+-- What is free and what is taken add up to the size: the law of the allocator, of every legal history.
 use Rattle.std.proofs.Common.{◌≡◌, ℕ, zero, suc, ◌+◌, ◌-◌, ◌<◌, ◌≤◌, List, [], ◌∷◌, take, refl, subst, ap, sym, ◌∙◌, arith, Bool, true, false, nat_lt, nat_le, pos, Option, Some, None, Result, Ok, Err, if◌then◌else◌}
 use Rattle.std.specs.List.{All, sum, slice_get}
 use Rattle.std.proofs.lemmas.Bool.Decides.{nat_tests}
@@ -11,7 +11,7 @@ use Rattle.po_unit.proofs.NumberingLemmas.{numbered_from_slice_get, is_public-fr
 use Rattle.po_unit.specs.declared.outcome.Outcome.TheVariants.{Raise, Requeue}
 use Rattle.po_calls.specs.declared.call.Call.{Call}
 use Rattle.po_history.specs.declared.event.Event.{Event}
-use Rattle.po_history.specs.declared.event.Event.TheVariants.{Issue, Ran, Abort, Tick, Final, Serve, Break, Expire}
+use Rattle.po_history.specs.declared.event.Event.TheVariants.{Issue, Ran, Cancel, Tick, Final, Serve, Break, Expire}
 use Rattle.po_engine.specs.WaitingCalls.{is_on}
 use Rattle.po_engine.specs.ObjectState.{ObjectState, barrier_in}
 use Rattle.po_engine.specs.Step.{step, Needs, replay, IsLegal}
@@ -24,12 +24,12 @@ use Rattle.po_classic_units.specs.Allocator.{AllocatorState, IsNewAllocator, all
 use Rattle.po_laws.specs.AllocatorLaw.{AllocatorStaysWithin, values_released, with_release}
 use Rattle.po_laws.proofs.HistoryLemmas.{value_from, values_between, Idles, Runs, DoesAtBarrier, does, found_holds, legal_front, public_front, HoldsRequeued, HoldsIssued, all_wait}
 
--- a number of which there can be so many
+-- a number that there can be of the resource
 in_range : (most v : ℕ) → is_beyond most v ≡ false → (1 ≤ v) × (v ≤ most)
 in_range most zero within = cc
 in_range most (suc v) within = (omega arith, grind (arith, nat_tests))
 
--- a number of no entry isn't public
+-- a number that is no entry's isn't public
 none_public : (ds : List Decl) (e : ℕ) → slice_get (entry_references ds) e ≡ None → is_public ds e ≡ true → false ≡ true
 unfolding is_public
 none_public ds e none public = sym (ap (is_public_entry ds) none) ∙ public
@@ -62,7 +62,7 @@ public_at size e (Some r) there public =
     let ds = allocator_declarations size in
     let numbered = numbered_from_slice_get ds r e there in
     let visible = sym (is_public-from_decl ds r numbered.decl e there numbered.declared) ∙ public in
-    place_low size r.entry numbered.further e numbered.decl numbered.declared visible numbered.within numbered.number
+    place_low size r.declaration numbered.further e numbered.decl numbered.declared visible numbered.within numbered.number
 
 -- the public entries are Request and Claim
 public_low : (size e : ℕ) → is_public (allocator_declarations size) e ≡ true → e < 2
@@ -90,7 +90,7 @@ requeued_awaits : (a : AllocatorState) (x : Call ℕ) (c : List ℕ)
     → HoldsRequeued AwaitsGrant x (allocator_meaning.body a x.entry x.value c).1
 requeued_awaits a x c = body_awaits (nat_lt x.entry 2) (is_beyond a.size x.value) a x refl refl
 
--- The allocator comes from the old one when so many are granted and so many released.
+-- The allocator comes from the old one if this many are granted and this many released.
 record Moves (old new : AllocatorState) (granted released : ℕ) : Type 0 where
   size : new.size ≡ old.size
   balance : new.free + granted ≡ old.free + released
@@ -152,7 +152,7 @@ asks_moves s t (suc zero) v low runs =
     rw (runs.values, asked_none (is_beyond s.unit.size v) false v) (moves_nothing s.unit t.unit runs.unit)
 asks_moves s t (suc (suc e)) v low runs = absurd (omega arith)
 
--- and queue no call
+-- and they queue no call
 asks_queue : (size : ℕ) (s : State) (event : Event ℕ) → NamesPublic (allocator_declarations size) event
     → HoldsIssued AwaitsGrant allocator_meaning s event
 asks_queue size s (Issue n owner zero v d) public = tt
@@ -160,7 +160,7 @@ asks_queue size s (Issue n owner (suc zero) v d) public = tt
 asks_queue size s (Issue n owner (suc (suc e)) v d) public =
     let low = public_low size (suc (suc e)) public in absurd (omega arith)
 asks_queue size s (Ran owner op v reply) public = tt
-asks_queue size s (Abort n) public = tt
+asks_queue size s (Cancel n) public = tt
 asks_queue size s (Tick time) public = tt
 asks_queue size s Final public = tt
 asks_queue size s (Serve e) public = tt
@@ -173,13 +173,13 @@ grants_moves : (s t : State) (e v : ℕ) → Runs allocator_meaning s t e v → 
 grants_moves s t e v runs open_now some entry =
     rw (runs.unit, runs.values) (granted_moves s.unit e v open_now some entry)
 
--- the values released of one event more
+-- the values released, of one more event
 released_more : (event : Event ℕ) (values : List ℕ)
     → sum (with_release event values) ≡ sum (with_release event []) + sum values
 released_more (Issue n owner e v d) values = omega arith
 released_more (Ran owner op v (Ok w)) values = omega (arith, sum_by-cons (λ x. x) v values)
 released_more (Ran owner op v (Err k)) values = omega arith
-released_more (Abort n) values = omega arith
+released_more (Cancel n) values = omega arith
 released_more (Tick time) values = omega arith
 released_more Final values = omega arith
 released_more (Serve e) values = omega arith
@@ -201,8 +201,8 @@ module _ (limit : Option ℕ) (size : ℕ) where
   event_moves s (Ran owner op v reply) needs public all =
       let none = does allocator_meaning limit s (Ran owner op v reply) needs in
       rw none (released_moves (is_beyond (s.unit.size - s.unit.free) v) s.unit owner op v reply refl needs.2)
-  event_moves s (Abort n) needs public all =
-      idles_moves s (step allocator_meaning limit s (Abort n)) (does allocator_meaning limit s (Abort n) needs)
+  event_moves s (Cancel n) needs public all =
+      idles_moves s (step allocator_meaning limit s (Cancel n)) (does allocator_meaning limit s (Cancel n) needs)
   event_moves s (Tick time) needs public all =
       idles_moves s (step allocator_meaning limit s (Tick time)) (does allocator_meaning limit s (Tick time) needs)
   event_moves s Final needs public all =

@@ -10,16 +10,16 @@ use Rattle.po_engine.specs.Finding.{IsFound}
 use Rattle.po_engine.specs.Tickets.{is_live, waiting_among}
 use Rattle.po_engine.specs.WaitingCalls.{counts_of, has_number, is_on, mark}
 use Rattle.po_queues.specs.Turns.{below}
-use Rattle.po_history.specs.declared.event.Event.TheVariants.{Abort}
+use Rattle.po_history.specs.declared.event.Event.TheVariants.{Cancel}
 use Rattle.po_engine.specs.ObjectState.{ObjectState, barrier_in}
-use Rattle.po_engine.specs.Step.{abort, cancel, take_out}
+use Rattle.po_engine.specs.Step.{attempt_cancel, cancel, take_out}
 use Rattle.po_engine.proofs.Sums.{sum_by-cons, sum_by-mapped}
 use Rattle.po_driven.specs.AtRest.{told}
 use Rattle.po_driven.specs.DrivenView.{DrivenView, IsDriven}
 use Rattle.po_driven.specs.Happening.{Driving, happen}
 use Rattle.po_driven.specs.Noted.{Notes, attempted}
 use Rattle.po_driven.specs.Steps.{Attempts}
-use Rattle.po_driven.specs.TracedView.{led_by}
+use Rattle.po_driven.specs.DrivenCallsView.{led_by}
 use Rattle.po_driven.specs.declared.happening.Happening.TheVariants.{Cancelled, Marked}
 use Rattle.po_driven.specs.declared.phase.Phase.TheVariants.{Resting, Settling}
 use Rattle.po_driven.specs.declared.words.Cancellation.{Cancellation}
@@ -51,7 +51,7 @@ map_same f h is (x ∷ xs) = ap₂ (λ a l. a ∷ l) (is x) (map_same f h is xs)
 counts_marked : (total n : ℕ) (xs : List (Call ℕ)) → counts_of total (map (mark n) xs) ≡ counts_of total xs
 counts_marked total n xs = map_same (λ e. count_by (is_on e) (map (mark n) xs)) (λ e. count_by (is_on e) xs) (λ e. count_marked n e xs) (below total)
 
--- a call that is marked already stays as it is
+-- a call that is already marked stays as it is
 marked_call : (x : Call ℕ) → x.aborted ≡ true → record x { aborted = true } ≡ x
 marked_call x is = ap (λ b. record x { aborted = b }) (sym is)
 
@@ -61,7 +61,7 @@ unmarked_if n true x xs is le rest =
     absurd (omega (arith, one, le))
 unmarked_if n false x xs is le rest = ap (λ l. x ∷ l) (rest (omega (arith, sum_by-cons (λ z. cond (has_number n z) 1 0) x xs, le)))
 
--- where no call has the number, none is marked
+-- if no call has the number, none is marked
 unmarked : (n : ℕ) (xs : List (Call ℕ)) → count_by (has_number n) xs ≤ 0 → map (mark n) xs ≡ xs
 unmarked n [] le = refl
 unmarked n (x ∷ xs) le = unmarked_if n (has_number n x) x xs refl le (unmarked n xs)
@@ -74,7 +74,7 @@ marked_if n true x y xs is found aborted le rest =
     ap₂ (λ c l. c ∷ l) (marked_call x (ap (λ c. c.aborted) same ∙ aborted)) (unmarked n xs (omega (arith, one, le)))
 marked_if n false x y xs is found aborted le rest = ap (λ l. x ∷ l) (rest found (omega (arith, sum_by-cons (λ z. cond (has_number n z) 1 0) x xs, le)))
 
--- where the call with the number is marked already, another mark changes nothing
+-- if the call with the number is already marked, another mark changes nothing
 marked_twice : (n : ℕ) (xs : List (Call ℕ)) (y : Call ℕ) → find (has_number n) xs ≡ Some y → y.aborted ≡ true → count_by (has_number n) xs ≤ 1 → map (mark n) xs ≡ xs
 marked_twice n [] y found aborted le = refl
 marked_twice n (x ∷ xs) y found aborted le = marked_if n (has_number n x) x y xs refl found aborted le (λ f l. marked_twice n xs y f aborted l)
@@ -113,17 +113,17 @@ module _ {S : Type 0} (m : Meaning S ℕ) (s : ObjectState S ℕ) (u : S) (d n :
   found_if : (x : Call ℕ) → find (has_number k) now.waiting ≡ Some x → (x.without_abort && x.aborted) ≡ false → IsFound (λ y. (y.without_abort && y.aborted) ≡ false) (find (has_number k) now.waiting)
   found_if x found free = subst (λ r. IsFound (λ y. (y.without_abort && y.aborted) ≡ false) r) (sym found) free
 
-  made_leads : Attempts ticket expired d n Made → Leads m s (Abort k ∷ []) u n
+  made_leads : Attempts ticket expired d n Made → Leads m s (Cancel k ∷ []) u n
   made_leads a =
       let q = queued (λ x. x.without_abort ≡ false) a.call in let x = q.0 in
-      let same = subst (λ r. IsSame (abort there k r) (base u (record g { state = cancel g.state k r; serving = None }))) (sym q.1) (cancelled_if x.without_abort x refl q.2) in
-      subst (λ r. Leads m r (Abort k ∷ []) u n) (sym is.state) (
+      let same = subst (λ r. IsSame (attempt_cancel there k r) (base u (record g { state = cancel g.state k r; serving = None }))) (sym q.1) (cancelled_if x.without_abort x refl q.2) in
+      subst (λ r. Leads m r (Cancel k ∷ []) u n) (sym is.state) (
         ((begins m u d n f.entries f.limits f.driven a.setup after s.ended is.ended may.resting are may.alive, found_if x q.1 (ap (λ b. b && x.aborted) q.2)), tt),
         (tt, tt),
-        goes m u u d n refl f.entries f.limits f.driven a.setup after (abort there k (find (has_number k) now.waiting)) Settling (happen (Cancelled k) g) (a.made refl) (led_after d n (Cancelled k ∷ []) a.setup a.noted) same tt,
+        goes m u u d n refl f.entries f.limits f.driven a.setup after (attempt_cancel there k (find (has_number k) now.waiting)) Settling (happen (Cancelled k) g) (a.made refl) (led_after d n (Cancelled k ∷ []) a.setup a.noted) same tt,
       )
 
-  -- where the call is kept, the object rests as before
+  -- if the call is kept, the object rests as before
   module _ (a : Attempts ticket expired d n Kept) where
     resting : n.phase ≡ Resting
     resting = ap (λ v. v.phase) a.same ∙ may.resting
@@ -152,29 +152,29 @@ module _ {S : Type 0} (m : Meaning S ℕ) (s : ObjectState S ℕ) (u : S) (d n :
   barriers_marked e = ap (m.barrier u e) (counts_marked (m.entries u) k g.state.waiting)
 
   module _ (off : expired ≡ false) (a : Attempts ticket expired d n Kept) where
-    mark_leads : (b : Bool) (x : Call ℕ) → find (has_number k) now.waiting ≡ Some x → x.without_abort ≡ true → x.aborted ≡ b → Leads m s (if b then [] else Abort k ∷ []) u n
+    mark_leads : (b : Bool) (x : Call ℕ) → find (has_number k) now.waiting ≡ Some x → x.without_abort ≡ true → x.aborted ≡ b → Leads m s (if b then [] else Cancel k ∷ []) u n
     mark_leads true x found without_abort aborted =
         let led = led_after d n (Marked k ∷ []) a.setup (subst (λ b. Notes (attempted Kept k b) d n) off a.noted)
-        ∙ ap (λ r. record g { state = abort g.state k r; serving = None }) found ∙ marked_is x.without_abort x without_abort in
+        ∙ ap (λ r. record g { state = attempt_cancel g.state k r; serving = None }) found ∙ marked_is x.without_abort x without_abort in
         let twice = marked_twice k g.state.waiting x found aborted (once g k f.driven.traced.placed) in
         (tt, tt, kept_on a marked s led (subst (λ xs. IsSame s (record now { waiting = xs })) (sym twice) is) barriers_marked)
     mark_leads false x found without_abort aborted =
         let led = led_after d n (Marked k ∷ []) a.setup (subst (λ b. Notes (attempted Kept k b) d n) off a.noted)
-        ∙ ap (λ r. record g { state = abort g.state k r; serving = None }) found ∙ marked_is x.without_abort x without_abort in
-        subst (λ r. Leads m r (Abort k ∷ []) u n) (sym is.state) (
+        ∙ ap (λ r. record g { state = attempt_cancel g.state k r; serving = None }) found ∙ marked_is x.without_abort x without_abort in
+        subst (λ r. Leads m r (Cancel k ∷ []) u n) (sym is.state) (
           ((begins m u d n f.entries f.limits f.driven a.setup after s.ended is.ended may.resting are may.alive, found_if x found (ap₂ (λ b c. b && c) without_abort aborted)), tt),
           (tt, tt),
-          kept_on a marked (abort there k (find (has_number k) now.waiting)) led (subst (λ r. IsSame (abort there k r) (base u marked)) (sym found) (mark_same x.without_abort x without_abort)) barriers_marked,
+          kept_on a marked (attempt_cancel there k (find (has_number k) now.waiting)) led (subst (λ r. IsSame (attempt_cancel there k r) (base u marked)) (sym found) (mark_same x.without_abort x without_abort)) barriers_marked,
         )
 
-    aborted_leads : Leads m s (attempt_of Kept false k (find (has_number k) now.waiting)) u n
-    aborted_leads =
+    attempted_leads : Leads m s (attempt_of Kept false k (find (has_number k) now.waiting)) u n
+    attempted_leads =
         let q = queued (λ x. x.without_abort ≡ true) a.call in
         subst (λ r. Leads m s (attempt_of Kept false k r) u n) (sym q.1) (mark_leads q.0.aborted q.0 q.1 q.2 refl)
 
   kept_leads : (b : Bool) → expired ≡ b → Attempts ticket expired d n Kept → Leads m s (attempt_of Kept b k (find (has_number k) now.waiting)) u n
   kept_leads true on a = (tt, tt, expired_leads on a)
-  kept_leads false off a = aborted_leads off a
+  kept_leads false off a = attempted_leads off a
 
   pub attempt_leads : (what : Cancellation) → Attempts ticket expired d n what → Leads m s (attempt_of what expired k (find (has_number k) now.waiting)) u n
   attempt_leads Made a = made_leads a

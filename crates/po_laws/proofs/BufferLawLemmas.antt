@@ -1,11 +1,11 @@
--- A buffer holds what was put and isn't yet got: the law of the buffer, of every legal history.
+-- A buffer holds what was put but not got yet: the law of the buffer, of every legal history.
 use Rattle.std.proofs.Common.{◌≡◌, ℕ, zero, suc, ◌==◌, ◌<◌, ◌≤◌, List, [], ◌∷◌, ◌++◌, length, refl, subst, ap, sym, ◌∙◌, arith, Bool, true, false, nat_lt, Option, Ok, if◌then◌else◌, append_assoc, append-nil, length-append}
 use Rattle.std.specs.List.{All}
 use Rattle.std.proofs.lemmas.Bool.Decides.{nat_tests}
 use Rattle.std.proofs.lemmas.List.Elements.{All-nil}
 use Rattle.po_calls.specs.declared.call.Call.{Call}
 use Rattle.po_history.specs.declared.event.Event.{Event}
-use Rattle.po_history.specs.declared.event.Event.TheVariants.{Issue, Ran, Abort, Tick, Final, Serve, Break, Expire}
+use Rattle.po_history.specs.declared.event.Event.TheVariants.{Issue, Ran, Cancel, Tick, Final, Serve, Break, Expire}
 use Rattle.po_engine.specs.WaitingCalls.{is_on}
 use Rattle.po_engine.specs.ObjectState.{ObjectState}
 use Rattle.po_engine.specs.Step.{step, Needs, replay, IsLegal}
@@ -17,7 +17,7 @@ use Rattle.po_classic_units.specs.Buffer.{BufferState, IsNewBuffer, has_room, bu
 use Rattle.po_laws.specs.BufferLaw.{BufferIsFifo, values_put, values_got}
 use Rattle.po_laws.proofs.HistoryLemmas.{value_from, values_between, Idles, Runs, DoesAtBarrier, does, found_holds, legal_front}
 
--- The buffer comes from the old one when these values are put and those are got.
+-- The buffer comes from the old one if these values are put and those are got.
 record Moves (old new : BufferState) (puts gots : List ℕ) : Type 0 where
   order : old.values ++ puts ≡ gots ++ new.values
   capacity : new.capacity ≡ old.capacity
@@ -109,9 +109,9 @@ module _ (limit : Option ℕ) where
       let done = does buffer_meaning limit s (Issue n owner e v d) needs in
       issue_moves s t e v (buffer_barrier s.unit e) refl done needs.1
   event_moves s (Ran owner op v reply) needs low = moves_nothing s.unit s.unit refl
-  event_moves s (Abort n) needs low =
-      let idles = does buffer_meaning limit s (Abort n) needs in
-      moves_nothing s.unit (step buffer_meaning limit s (Abort n)).unit idles.unit
+  event_moves s (Cancel n) needs low =
+      let idles = does buffer_meaning limit s (Cancel n) needs in
+      moves_nothing s.unit (step buffer_meaning limit s (Cancel n)).unit idles.unit
   event_moves s (Tick time) needs low = moves_nothing s.unit s.unit refl
   event_moves s Final needs low = moves_nothing s.unit s.unit refl
   event_moves s (Serve e) needs low =

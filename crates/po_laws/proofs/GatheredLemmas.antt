@@ -6,7 +6,7 @@ use Rattle.po_unit.specs.Meaning.{Meaning}
 use Rattle.po_calls.specs.declared.call.Call.{Call}
 use Rattle.po_engine.specs.declared.ended.Ended.{Ended}
 use Rattle.po_history.specs.declared.event.Event.{Event}
-use Rattle.po_history.specs.declared.event.Event.TheVariants.{Issue, Ran, Abort, Tick, Final, Serve, Break, Expire}
+use Rattle.po_history.specs.declared.event.Event.TheVariants.{Issue, Ran, Cancel, Tick, Final, Serve, Break, Expire}
 use Rattle.po_engine.specs.WaitingCalls.{has_number, is_on, is_due}
 use Rattle.po_engine.specs.ObjectState.{ObjectState, IsAtRest}
 use Rattle.po_engine.specs.Step.{step, IsLegal, replay}
@@ -24,13 +24,13 @@ module _ {S V : Type 0} (m : Meaning S V) (limit : Option ℕ) where
   abbrev pub EndsAtRest : ObjectState S V → List (Event V) → Type 0
   EndsAtRest s events = IsLegal m limit s events × IsAtRest m (replay m limit s events)
 
-  -- the late part of such a history, from where the early one leads
+  -- the late part of such a history ends at rest, from the state to which the early part leads
   pub ends_from : (s : ObjectState S V) (early late : List (Event V)) → EndsAtRest s (early ++ late)
       → EndsAtRest (replay m limit s early) late
   ends_from s [] late ends = ends
   ends_from s (event ∷ early) late ends = ends_from (step m limit s event) early late (ends.0.1, ends.1)
 
-  -- where no call waits, none is found
+  -- if no call waits, none is found
   none_found : (P : Call V → Type 0) (test : Call V → Bool) (w : List (Call V)) → w ≡ [] → IsFound P (find test w) → ⊥
   none_found P test [] empty found = found
   none_found P test (x ∷ xs) empty found = cc
@@ -39,13 +39,13 @@ module _ {S V : Type 0} (m : Meaning S V) (limit : Option ℕ) where
   none_some test [] empty is = cc
   none_some test (x ∷ xs) empty is = cc
 
-  -- where no call waits, no inner event follows
+  -- if no call waits, no inner event follows
   pub begins_anew : (s : ObjectState S V) (events : List (Event V)) → s.waiting ≡ [] → IsLegal m limit s events
       → BeginsAnew events
   begins_anew s [] w legal = tt
   begins_anew s (Issue n owner e v d ∷ events) w legal = refl
   begins_anew s (Ran owner op v reply ∷ events) w legal = refl
-  begins_anew s (Abort n ∷ events) w legal = refl
+  begins_anew s (Cancel n ∷ events) w legal = refl
   begins_anew s (Tick t ∷ events) w legal = refl
   begins_anew s (Final ∷ events) w legal = refl
   begins_anew s (Serve e ∷ events) w legal = absurd (none_some (is_on e) s.waiting w legal.0.0)

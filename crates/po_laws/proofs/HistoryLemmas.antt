@@ -1,5 +1,5 @@
--- What the laws of the units share: how a history reads from the opening, and what one event does to the unit, to the
--- calls that complete and to the calls that wait.
+-- What the laws of the units share: how a history reads from the opening, and what one event does to the unit, to the calls
+-- that complete and to the calls that wait.
 use Rattle.std.proofs.Common.{◌≡◌, ℕ, ◌+◌, List, [], ◌∷◌, ◌++◌, map, drop, length, refl, ap, sym, subst, ◌∙◌, append-nil, append_assoc, Bool, true, false, not, ◌&&◌, cond, Option, Some, None, IsSome, Result, Ok, Err, if◌then◌else◌}
 use Rattle.std.specs.List.{find, count_by, All}
 use Rattle.std.proofs.Math.Seq.{drop-append_seam}
@@ -13,12 +13,12 @@ use Rattle.po_calls.specs.declared.call.Call.{Call}
 use Rattle.po_calls.specs.declared.end.End.TheVariants.{Completed, Raised, Cancelled, ProgramError}
 use Rattle.po_engine.specs.declared.ended.Ended.{Ended}
 use Rattle.po_history.specs.declared.event.Event.{Event}
-use Rattle.po_history.specs.declared.event.Event.TheVariants.{Issue, Ran, Abort, Tick, Final, Serve, Break, Expire}
+use Rattle.po_history.specs.declared.event.Event.TheVariants.{Issue, Ran, Cancel, Tick, Final, Serve, Break, Expire}
 use Rattle.po_engine.specs.WaitingCalls.{is_on, has_number, mark}
 use Rattle.po_core.specs.Headline.{Headline}
 use Rattle.po_engine.specs.ObjectState.{ObjectState, counts_in, barrier_in, IsAtRest}
 use Rattle.po_engine.specs.Ending.{ended_as}
-use Rattle.po_engine.specs.Step.{is_full, end_call, queue, enter, conclude, run_body, arrive, take_out, serve, cancel, abort, step, Needs, replay, IsLegal}
+use Rattle.po_engine.specs.Step.{is_full, end_call, queue, enter, conclude, run_body, arrive, take_out, serve, cancel, attempt_cancel, step, Needs, replay, IsLegal}
 use Rattle.po_core.specs.Public.{NamesPublic, AllPublic}
 use Rattle.po_core.specs.View.{View}
 use Rattle.po_core.specs.Cutting.{AreVolumes}
@@ -45,7 +45,7 @@ module _ {S V : Type 0} (m : Meaning S V) where
       → IsAtRest m (replay m view.setup.max_queue (opening view.setup) (whole view volumes))
   whole_rests view volumes are headline = (whole-history m view (whole view volumes) headline (volumes, are, refl)).rest
 
-  -- the first events of a legal history are one
+  -- the first events of a legal history are a legal history
   pub legal_front : (limit : Option ℕ) (s : ObjectState S V) (early late : List (Event V))
       → IsLegal m limit s (early ++ late)
       → IsLegal m limit s early
@@ -53,7 +53,7 @@ module _ {S V : Type 0} (m : Meaning S V) where
   legal_front limit s (event ∷ early) late legal =
       (legal.0, legal_front limit (step m limit s event) early late legal.1)
 
--- and where all events of a history name public entries, so do the first
+-- and if all events of a history name public entries, so do the first ones
 pub public_front : {V : Type 0} (shape : List Decl) (early late : List (Event V)) → AllPublic shape (early ++ late)
     → AllPublic shape early
 public_front {V} shape [] late all = All-nil (NamesPublic {V = V} shape)
@@ -61,7 +61,7 @@ public_front shape (event ∷ early) late all =
     All-cons (NamesPublic shape) event early (All-head (NamesPublic shape) event (early ++ late) all)
     (public_front shape early late (All-tail (NamesPublic shape) event (early ++ late) all))
 
--- what holds of all holds of the found one
+-- what holds of all items holds of the found one
 module _ {X : Type 0} (P : X → Type 0) (test : X → Bool) where
   found_here : (b : Bool) (x y : X) (xs : List X) → P x → cond b (Some x) (find test xs) ≡ Some y
       → (find test xs ≡ Some y → P y)
@@ -108,7 +108,7 @@ module _ {S V : Type 0} where
     pub unit : t.unit ≡ (m.body s.unit e v counts).0
     pub values : values_between s t ≡ value_from (m.body s.unit e v counts).1
 
-  -- what a call does that is concluded, after its body left the state
+  -- what a call does when it is concluded, after its body has left the state
   record Concludes (s t : ObjectState S V) (outcome : Outcome V) : Type 0 where
     unit : t.unit ≡ s.unit
     values : values_between s t ≡ value_from outcome
@@ -166,9 +166,9 @@ module _ {S V : Type 0} where
   cancel_idles s n None = idles_same s s refl refl
   cancel_idles s n (Some x) = idles_one s (cancel s n (Some x)) (ended_as Cancelled x) refl refl refl
 
-  abort_idles : (s : ObjectState S V) (n : ℕ) (o : Option (Call V)) → Idles s (abort s n o)
-  abort_idles s n None = idles_same s s refl refl
-  abort_idles s n (Some x) =
+  attempt_idles : (s : ObjectState S V) (n : ℕ) (o : Option (Call V)) → Idles s (attempt_cancel s n o)
+  attempt_idles s n None = idles_same s s refl refl
+  attempt_idles s n (Some x) =
       let marked : ObjectState S V = record s { waiting = map (mark n) s.waiting } in
       idles_if x.without_abort s marked (cancel s n (Some x)) (idles_same s marked refl refl) (cancel_idles s n (Some x))
 
@@ -179,12 +179,12 @@ module _ {S V : Type 0} where
     DoesAtBarrier s t e v (Ok false) = Idles s t
     DoesAtBarrier s t e v (Err k) = Idles s t
 
-    -- What an event does that leads from the one state to the other: it runs a body or a procedure, or nothing.
+    -- What an event that leads from one state to the other does: it runs a body or a procedure, or nothing.
     abbrev pub Does : ObjectState S V → ObjectState S V → Event V → Type 0
     Does s t (Issue n owner e v d) = DoesAtBarrier s t e v (barrier_in m s e)
     Does s t (Ran owner op v reply) = values_between s t ≡ []
     Does s t (Serve e) = (x : Call V) × (find (is_on e) s.waiting ≡ Some x) × Runs m s t e x.value
-    Does s t (Abort n) = Idles s t
+    Does s t (Cancel n) = Idles s t
     Does s t (Tick time) = Idles s t
     Does s t Final = Idles s t
     Does s t (Break e) = Idles s t
@@ -231,7 +231,7 @@ module _ {S V : Type 0} where
         arrives limit s (issued n owner e v d) (barrier_in m s e)
     does limit s (Ran owner op v reply) needs = values_same s (step m limit s (Ran owner op v reply)) refl
     does limit s (Serve e) needs = serves limit s e (find (is_on e) s.waiting) refl needs.0
-    does limit s (Abort n) needs = abort_idles s n (find (has_number n) s.waiting)
+    does limit s (Cancel n) needs = attempt_idles s n (find (has_number n) s.waiting)
     does limit s (Tick time) needs = idles_same s (step m limit s (Tick time)) refl refl
     does limit s Final needs = idles_all s (step m limit s Final) s.waiting refl refl
     does limit s (Break e) needs = idles_all s (step m limit s (Break e)) s.waiting refl refl
@@ -246,25 +246,25 @@ module _ {V : Type 0} (P : Call V → Type 0) where
   HoldsRequeued x (Requeue target with_abort v) =
       P (record x { entry = target; value = v; without_abort = not with_abort })
 
-  -- The condition holds of a new call, where what the barrier says queues it.
+  -- The condition holds of a new call, if what the barrier says queues it.
   abbrev pub HoldsAtBarrier : Call V → Result Bool ℕ → Type 0
   HoldsAtBarrier x (Ok true) = Unit {0}
   HoldsAtBarrier x (Ok false) = P x
   HoldsAtBarrier x (Err k) = Unit {0}
 
 module _ {S V : Type 0} (P : Call V → Type 0) where
-  -- The condition holds of the call that the event issues, where it is queued.
+  -- The condition holds of the call that the event issues, if it is queued.
   abbrev pub HoldsIssued : Meaning S V → ObjectState S V → Event V → Type 0
   HoldsIssued m s (Issue n owner e v d) = HoldsAtBarrier P (issued n owner e v d) (barrier_in m s e)
   HoldsIssued m s (Ran owner op v reply) = Unit {0}
-  HoldsIssued m s (Abort n) = Unit {0}
+  HoldsIssued m s (Cancel n) = Unit {0}
   HoldsIssued m s (Tick time) = Unit {0}
   HoldsIssued m s Final = Unit {0}
   HoldsIssued m s (Serve e) = Unit {0}
   HoldsIssued m s (Break e) = Unit {0}
   HoldsIssued m s (Expire n) = Unit {0}
 
-  -- A condition that keeps when a call is marked, and that each requeue meets, holds of all calls that wait.
+  -- A condition that is kept when a call is marked, and that each requeue meets, holds of all calls that wait.
   module _
       (m : Meaning S V)
       (limit : Option ℕ)
@@ -317,9 +317,9 @@ module _ {S V : Type 0} (P : Call V → Type 0) where
         All-map P (mark n) calls
         (All-weaker P (λ x. P (mark n x)) (λ x holds. mark_holds (has_number n x) x holds) calls all)
 
-    all_abort : (s : ObjectState S V) (n : ℕ) (o : Option (Call V)) → All P s.waiting → All P (abort s n o).waiting
-    all_abort s n None all = all
-    all_abort s n (Some x) all =
+    all_attempt : (s : ObjectState S V) (n : ℕ) (o : Option (Call V)) → All P s.waiting → All P (attempt_cancel s n o).waiting
+    all_attempt s n None all = all
+    all_attempt s n (Some x) all =
         all_if x.without_abort (record s { waiting = map (mark n) s.waiting }) (cancel s n (Some x))
         (all_mark n s.waiting all) (all_cancel s n (Some x) all)
 
@@ -328,7 +328,7 @@ module _ {S V : Type 0} (P : Call V → Type 0) where
     all_wait s (Issue n owner e v d) holds all =
         all_arrive (record s { next = s.next + 1 }) (issued n owner e v d) (barrier_in m s e) holds all
     all_wait s (Ran owner op v reply) holds all = all
-    all_wait s (Abort n) holds all = all_abort s n (find (has_number n) s.waiting) all
+    all_wait s (Cancel n) holds all = all_attempt s n (find (has_number n) s.waiting) all
     all_wait s (Tick time) holds all = all
     all_wait s Final holds all = All-nil P
     all_wait s (Serve e) holds all = all_serve s e (find (is_on e) s.waiting) all

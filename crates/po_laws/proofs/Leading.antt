@@ -20,14 +20,14 @@ use Rattle.po_driven.specs.DrivenView.{Awaits, DrivenView, IsDriven, MayIssue, T
 use Rattle.po_driven.specs.Happening.{Driving, cancellation_of, happen, replay as led_to}
 use Rattle.po_driven.specs.Noted.{Notes, finalized, serviced}
 use Rattle.po_driven.specs.Steps.{EndsBody, Evaluates, Finalizes, GoesOn, Issues}
-use Rattle.po_driven.specs.TracedView.{led_by}
+use Rattle.po_driven.specs.DrivenCallsView.{led_by}
 use Rattle.po_driven.specs.declared.action.Action.{Action}
 use Rattle.po_driven.specs.declared.action.Action.TheVariants.{Cancelled, Evaluate, NoMemory, ProgramError, Queued, Refused, Rest, Run}
 use Rattle.po_driven.specs.declared.happening.Happening.TheVariants.{Broken, Cancelled as WasCancelled, Finalized, Selected}
 use Rattle.po_driven.specs.declared.phase.Phase.{Phase}
 use Rattle.po_driven.specs.declared.phase.Phase.TheVariants.{Asked, Breaking, Resting, Running, Settling}
 use Rattle.po_driven.specs.declared.words.Barrier.TheVariants.{Closed, Open, Raised}
-use Rattle.po_driven.specs.declared.words.Step.{Step}
+use Rattle.po_driven.specs.declared.words.NamedCall.{NamedCall}
 use Rattle.po_laws.specs.Client.{IsCarriedOut, KeepsCallers, MayBegin, ended_with, entry_call, said}
 use Rattle.po_laws.specs.Serial.{IsSame, evaluation, expiration_of}
 use Rattle.po_laws.proofs.Words.{appended, base, end_all_same, end_same, oldest_same, run_same, same, with_ended}
@@ -52,18 +52,18 @@ module _ {S : Type 0} (m : Meaning S ℕ) (lawful : IsLawful m) (keeps : KeepsCa
   awaits_at p phase = subst (λ q. Awaits q d.calls.object d.closed) phase f.driven.waits.awaits
 
   -- a call arrives
-  pub issues_leads : (e v : ℕ) (t : Deadline) (step : Step) (a : Action) → IsCarriedOut a → MayIssue d e → Issues (entry_call e v t) (said (barrier_in m now e)) step d n a → Leads m s (Issue now.next 0 e v t ∷ []) u n
+  pub issues_leads : (e v : ℕ) (t : Deadline) (step : NamedCall) (a : Action) → IsCarriedOut a → MayIssue d e → Issues (entry_call e v t) (said (barrier_in m now e)) step d n a → Leads m s (Issue now.next 0 e v t ∷ []) u n
   issues_leads e v t step a carried may i =
       let is = same_at Resting may.resting in
       subst (λ r. Leads m r (Issue now.next 0 e v t ∷ []) u n) (sym is.state)
       (issue_leads m u d n f.entries f.limits f.driven i.setup after s.ended is.ended e v t step a carried may.resting (closed_at Resting may.resting) may i)
 
   -- the client asks for what is next
-  pub goes_on_leads : (step : Step) (a : Action) → WaitsForNext d.phase → GoesOn step d n a → Leads m s [] u n
+  pub goes_on_leads : (step : NamedCall) (a : Action) → WaitsForNext d.phase → GoesOn step d n a → Leads m s [] u n
   goes_on_leads step a waits k = (tt, tt, next_on m u u d n refl f.entries f.limits f.driven k.setup after s d.phase a step refl waits f.same k)
 
   -- a procedure runs
-  pub runs_leads : (op v : ℕ) (step : Step) (a : Action) → MayBegin d → op < m.procedures u → GoesOn step d n a
+  pub runs_leads : (op v : ℕ) (step : NamedCall) (a : Action) → MayBegin d → op < m.procedures u → GoesOn step d n a
       → Leads m s (Ran 0 op v (m.procedure u op v (counts_in m now)).1 ∷ []) (m.procedure u op v (counts_in m now)).0 n
   runs_leads op v step a may there k =
       let is = same_at Resting may.resting in let c = counts_in m now in let w = (m.procedure u op v c).0 in
@@ -74,7 +74,7 @@ module _ {S : Type 0} (m : Meaning S ℕ) (lawful : IsLawful m) (keeps : KeepsCa
       )
 
   -- the body of the call in service has run
-  module _ (x : Call ℕ) (serving : d.calls.object.serving ≡ Some x) (step : Step) (a : Action) (carried : IsCarriedOut a)
+  module _ (x : Call ℕ) (serving : d.calls.object.serving ≡ Some x) (step : NamedCall) (a : Action) (carried : IsCarriedOut a)
       (k : EndsBody (ended_with (m.body u x.entry x.value (counts_in m now)).1) step d n a) where
     abbrev left_by : S
     left_by = (m.body u x.entry x.value (counts_in m now)).0
@@ -108,7 +108,7 @@ module _ {S : Type 0} (m : Meaning S ℕ) (lawful : IsLawful m) (keeps : KeepsCa
   noted_final NoMemory breaks noted = absurd breaks
   noted_final Refused breaks noted = absurd breaks
 
-  pub finalizes_leads : (step : Step) (a : Action) → MayBegin d → Finalizes step d n a → Leads m s (Final ∷ []) u n
+  pub finalizes_leads : (step : NamedCall) (a : Action) → MayBegin d → Finalizes step d n a → Leads m s (Final ∷ []) u n
   finalizes_leads step a may k =
       let is = same_at Resting may.resting in let breaks = k.breaks may.resting in
       let h : Driving = record g { state = record g.state { finalized = true } } in
@@ -121,7 +121,7 @@ module _ {S : Type 0} (m : Meaning S ℕ) (lawful : IsLawful m) (keeps : KeepsCa
       )
 
   -- a barrier was evaluated
-  module _ (e : ℕ) (phase : d.phase ≡ Asked e) (step : Step) (a : Action) where
+  module _ (e : ℕ) (phase : d.phase ≡ Asked e) (step : NamedCall) (a : Action) where
     abbrev there : ObjectState S ℕ
     there = with_ended s.ended now
 

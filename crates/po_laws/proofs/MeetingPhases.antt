@@ -12,7 +12,7 @@ use Rattle.po_laws.proofs.MeetingStates.{m, State, OnWait, one_longer}
 use Rattle.po_laws.proofs.MeetingTrails.{AreLeaving, only_serves, leaving_on}
 use Rattle.po_laws.proofs.MeetingQueues.{IsGathering, Fills, FillsBy, gathering_step, filled_leaves, one_more_waits}
 
--- a serving before others is one behind them
+-- one more serving in front is one more at the end
 servings_push : (k : ℕ) → servings {V = ℕ} 0 k ++ Serve 0 ∷ [] ≡ servings 0 (suc k)
 servings_push zero = refl
 servings_push (suc k) = ap (λ l. Serve 0 ∷ l) (servings_push k)
@@ -21,7 +21,7 @@ pub is_new : (u : MeetingState) (size : ℕ) → u.size ≡ size → u.leaving �
 is_new u size h k = ap (λ n. record u { size = n }) h ∙ ap (λ b. record { size = size; leaving = b }) k
 
 module _ (limit : Option ℕ) (size : ℕ) (s : State) where
-  -- The events end with the call that made a meeting full, and so many servings behind it.
+  -- The events end with the call that made a meeting full, and this many servings after it.
   pub record Began (done : List (Event ℕ)) (served : ℕ) : Type 0 where
     pub before : List (Event ℕ)
     pub number : ℕ
@@ -40,7 +40,7 @@ module _ (limit : Option ℕ) (size : ℕ) (s : State) where
     pub left : served + length calls ≡ size
     pub within : served < size
 
-  -- What these events lead to.
+  -- What state these events lead to.
   abbrev pub Phase : List (Event ℕ) → Type 0
   Phase done = IsGathering size (replay m limit s done) ⊎ IsUnderway done
 
@@ -48,7 +48,7 @@ module _ (limit : Option ℕ) (size : ℕ) (s : State) where
       → replay m limit s (done ++ event ∷ []) ≡ step m limit (replay m limit s done) event
   one_on done event = replay-append m limit s done (event ∷ [])
 
-  -- from gathering on
+  -- after gathering
   filled : (done : List (Event ℕ)) (event : Event ℕ) → FillsBy limit size (replay m limit s done) event
       → IsUnderway (done ++ event ∷ [])
   filled done event f =
@@ -82,7 +82,7 @@ module _ (limit : Option ℕ) (size : ℕ) (s : State) where
         | inr f ↦ inr (filled done event f)
       ]
 
-  -- one serving more
+  -- one more serving
   began_on : (done : List (Event ℕ)) (served : ℕ) → Began done served → Began (done ++ Serve 0 ∷ []) (suc served)
   began_on done served b =
       let first : Event ℕ = Issue b.number b.owner 0 b.value b.deadline in

@@ -1,4 +1,4 @@
--- While fewer calls wait than a meeting is of, none completes, until one more makes it full.
+-- While fewer calls wait than a meeting's size, none completes, until one more makes it full.
 use Rattle.std.proofs.Common.{◌≡◌, ℕ, zero, suc, ◌+◌, ◌==◌, ◌<◌, ◌≤◌, List, [], ◌∷◌, ◌++◌, map, length, drop, refl, ap, sym, subst, ◌∙◌, arith, Bool, true, false, ◌||◌, Option, Some, None, Ok, Err, if◌then◌else◌, append-nil, ◌⊎◌, inl, inr}
 use Rattle.std.specs.List.{find, count_by}
 use Rattle.std.proofs.lemmas.Bool.{cases_eq}
@@ -11,10 +11,10 @@ use Rattle.po_calls.specs.declared.call.Deadline.{Deadline}
 use Rattle.po_engine.specs.declared.ended.Ended.{Ended}
 use Rattle.po_calls.specs.declared.end.End.TheVariants.{Cancelled, ProgramError}
 use Rattle.po_history.specs.declared.event.Event.{Event}
-use Rattle.po_history.specs.declared.event.Event.TheVariants.{Issue, Ran, Abort, Tick, Final, Serve, Break, Expire}
+use Rattle.po_history.specs.declared.event.Event.TheVariants.{Issue, Ran, Cancel, Tick, Final, Serve, Break, Expire}
 use Rattle.po_engine.specs.WaitingCalls.{is_on, has_number, mark}
 use Rattle.po_engine.specs.ObjectState.{barrier_in}
-use Rattle.po_engine.specs.Step.{step, arrive, queue, end_call, cancel, abort, is_full, Needs}
+use Rattle.po_engine.specs.Step.{step, arrive, queue, end_call, cancel, attempt_cancel, is_full, Needs}
 use Rattle.po_engine.specs.Ending.{ended_as}
 use Rattle.po_engine.specs.Finding.{without_first}
 use Rattle.po_engine.proofs.Absent.{All-without}
@@ -24,13 +24,13 @@ use Rattle.po_classic_units.specs.Meeting.{MeetingState, new_meeting}
 use Rattle.po_laws.proofs.MeetingStates.{m, State, OnWait, barrier_is, closed_below, not_both}
 use Rattle.po_laws.proofs.MeetingTrails.{Opens, AreLeaving}
 
--- No call is leaving, and fewer wait than a meeting is of.
+-- No call is leaving, and fewer wait than a meeting's size.
 pub record IsGathering (size : ℕ) (s : State) : Type 0 where
   pub unit : s.unit ≡ new_meeting size
   pub few : length s.waiting < size
   pub on_wait : OnWait s.waiting
 
--- From the old state to the new some calls end, and none completes.
+-- From the old state to the new one some calls end, and none completes.
 pub record CompletesNone (old new : State) : Type 0 where
   pub added : List (Ended ℕ)
   pub ended : new.ended ≡ old.ended ++ added
@@ -40,7 +40,7 @@ pub record CompletesNone (old new : State) : Type 0 where
 abbrev pub numbered : State → State
 numbered s = record s { next = s.next + 1 }
 
--- With the call that is issued so as many wait as a meeting is of.
+-- With the call that is issued now, as many wait as a meeting's size.
 pub record Fills (limit : Option ℕ) (size : ℕ) (s : State) (n owner v : ℕ) (d : Deadline) : Type 0 where
   pub gathering : IsGathering size s
   pub many : length s.waiting + 1 ≡ size
@@ -62,7 +62,7 @@ raised_none : (calls : List (Call ℕ)) → values_of (map (ended_as ProgramErro
 raised_none [] = refl
 raised_none (x ∷ xs) = raised_none xs
 
--- fewer calls wait, the rest is as it was
+-- at most as many calls wait, and the rest is as it was
 pub record IsThinned (old new : State) : Type 0 where
   pub unit : new.unit ≡ old.unit
   pub fewer : length new.waiting ≤ length old.waiting
@@ -80,7 +80,7 @@ same_waiting s t u w =
       on_wait = subst OnWait (sym w);
     }
 
--- fewer are left without the first that passes a test
+-- a list without its first call that passes a test isn't longer
 shorter_if : (b : Bool) (x : Call ℕ) (xs ys : List (Call ℕ)) → length ys ≤ length xs
     → length (if b then xs else x ∷ ys) ≤ length (x ∷ xs)
 shorter_if true x xs ys h = omega arith
@@ -112,26 +112,26 @@ marked n xs h =
     All-map (λ y. y.entry < 1) (mark n) xs
     (All-weaker (λ y. y.entry < 1) (λ y. (mark n y).entry < 1) (λ y k. marked_if (has_number n y) y k) xs h)
 
-abort_thins_if : (b : Bool) (s : State) (n : ℕ) (x : Call ℕ)
+attempt_thins_if : (b : Bool) (s : State) (n : ℕ) (x : Call ℕ)
     → IsThinned s (if b then record s { waiting = map (mark n) s.waiting } else cancel s n (Some x))
-abort_thins_if true s n x =
+attempt_thins_if true s n x =
     record { unit = refl; fewer = omega (arith, length-map s.waiting (mark n)); on_wait = marked n s.waiting }
-abort_thins_if false s n x = cancel_thins s n (Some x)
+attempt_thins_if false s n x = cancel_thins s n (Some x)
 
-abort_thins : (s : State) (n : ℕ) (o : Option (Call ℕ)) → IsThinned s (abort s n o)
-abort_thins s n None = same_waiting s s refl refl
-abort_thins s n (Some x) = abort_thins_if x.without_abort s n x
+attempt_thins : (s : State) (n : ℕ) (o : Option (Call ℕ)) → IsThinned s (attempt_cancel s n o)
+attempt_thins s n None = same_waiting s s refl refl
+attempt_thins s n (Some x) = attempt_thins_if x.without_abort s n x
 
-abort_silent_if : (b : Bool) (s : State) (n : ℕ) (x : Call ℕ)
+attempt_silent_if : (b : Bool) (s : State) (n : ℕ) (x : Call ℕ)
     → CompletesNone s (if b then record s { waiting = map (mark n) s.waiting } else cancel s n (Some x))
-abort_silent_if true s n x = same_ended s (record s { waiting = map (mark n) s.waiting }) refl
-abort_silent_if false s n x = cancel_silent s n (Some x)
+attempt_silent_if true s n x = same_ended s (record s { waiting = map (mark n) s.waiting }) refl
+attempt_silent_if false s n x = cancel_silent s n (Some x)
 
-abort_silent : (s : State) (n : ℕ) (o : Option (Call ℕ)) → CompletesNone s (abort s n o)
-abort_silent s n None = same_ended s s refl
-abort_silent s n (Some x) = abort_silent_if x.without_abort s n x
+attempt_silent : (s : State) (n : ℕ) (o : Option (Call ℕ)) → CompletesNone s (attempt_cancel s n o)
+attempt_silent s n None = same_ended s s refl
+attempt_silent s n (Some x) = attempt_silent_if x.without_abort s n x
 
--- a call that comes to a closed entry: it ends where the queue is full, and is queued otherwise
+-- a call that comes to a closed entry: it ends if the queue is full, and is queued otherwise
 abbrev pub entered : Bool → State → Call ℕ → State
 entered full s x = if full then end_call (numbered s) x ProgramError else queue (numbered s) x
 
@@ -201,13 +201,13 @@ module _ (limit : Option ℕ) (size : ℕ) where
   none_served : (s : State) (e : ℕ) → IsGathering size s → barrier_in m s e ≡ Ok true → ⊥
   none_served s e g h = not_both (barrier_in m s e) h (shut size s e g)
 
-  -- each event leaves fewer calls than a meeting is of, or makes it full
+  -- each event leaves fewer calls than a meeting's size, or makes it full
   pub gathering_step : (s : State) (event : Event ℕ) → IsGathering size s → Needs m s event
       → IsGathering size (step m limit s event) ⊎ FillsBy limit size s event
   gathering_step s (Issue n owner e v d) g need = issue_step s n owner e v d need.1 g
   gathering_step s (Ran owner op v reply) g need = absurd (omega (arith, need.1))
-  gathering_step s (Abort n) g need =
-      inl (thinned size s (step m limit s (Abort n)) (abort_thins s n (find (has_number n) s.waiting)) g)
+  gathering_step s (Cancel n) g need =
+      inl (thinned size s (step m limit s (Cancel n)) (attempt_thins s n (find (has_number n) s.waiting)) g)
   gathering_step s (Tick t) g need =
       inl (thinned size s (step m limit s (Tick t)) (same_waiting s (step m limit s (Tick t)) refl refl) g)
   gathering_step s Final g need = inl (none_waits s (step m limit s Final) refl refl g)
@@ -219,7 +219,7 @@ module _ (limit : Option ℕ) (size : ℕ) where
   silent : (s : State) (event : Event ℕ) → IsGathering size s → Needs m s event → CompletesNone s (step m limit s event)
   silent s (Issue n owner e v d) g need = issue_silent s n owner e v d need.1 g
   silent s (Ran owner op v reply) g need = absurd (omega (arith, need.1))
-  silent s (Abort n) g need = abort_silent s n (find (has_number n) s.waiting)
+  silent s (Cancel n) g need = attempt_silent s n (find (has_number n) s.waiting)
   silent s (Tick t) g need = same_ended s (step m limit s (Tick t)) refl
   silent s Final g need =
       record { added = map (ended_as ProgramError) s.waiting; ended = refl; none = raised_none s.waiting }
@@ -239,7 +239,7 @@ module _ (limit : Option ℕ) (size : ℕ) where
   or_true true = refl
   or_true false = refl
 
-  -- Wait is open for as many calls as a meeting is of
+  -- Wait is open for as many calls as a meeting's size
   opens_full : (u : MeetingState) (calls : List (Call ℕ)) → length calls ≡ u.size → 0 < length calls → Opens u calls
   opens_full u [] h lt = absurd (omega (arith, lt))
   opens_full u (x ∷ xs) h lt =

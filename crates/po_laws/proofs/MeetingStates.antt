@@ -6,7 +6,7 @@ use Rattle.std.proofs.lemmas.List.Elements.{All-head, All-tail}
 use Rattle.po_unit.specs.Meaning.{Meaning}
 use Rattle.po_calls.specs.declared.call.Call.{Call}
 use Rattle.po_history.specs.declared.event.Event.{Event}
-use Rattle.po_history.specs.declared.event.Event.TheVariants.{Issue, Ran, Abort, Tick, Final, Serve, Break, Expire}
+use Rattle.po_history.specs.declared.event.Event.TheVariants.{Issue, Ran, Cancel, Tick, Final, Serve, Break, Expire}
 use Rattle.po_engine.specs.WaitingCalls.{is_on, has_number, is_due}
 use Rattle.po_engine.specs.ObjectState.{ObjectState, barrier_in}
 use Rattle.po_engine.specs.Step.{step, IsLegal, replay}
@@ -55,7 +55,7 @@ all_on_wait (x ∷ xs) a =
 pub barrier_is : (s : State) (e : ℕ) → OnWait s.waiting → barrier_in m s e ≡ Ok (meeting_barrier s.unit (length s.waiting))
 barrier_is s e a = ap (λ k. Ok (meeting_barrier s.unit k)) (all_on_wait s.waiting a)
 
--- Wait is closed while fewer wait than a meeting is of
+-- Wait is closed while fewer wait than a meeting's size
 pub closed_below : (u : MeetingState) (size k : ℕ) → u ≡ new_meeting size → k < size → meeting_barrier u k ≡ false
 closed_below u size k h lt = ap (λ w. meeting_barrier w k) h ∙ differs k size lt
 
@@ -74,7 +74,7 @@ found_entry e (x ∷ xs) a is =
     found_if (is_on e x) e x (find (is_on e) xs) refl (All-head (λ y. y.entry < 1) x xs a) is
     (found_entry e xs (All-tail (λ y. y.entry < 1) x xs a))
 
--- where no call waits, none is found
+-- if no call waits, none is found
 found_none : (P : Call ℕ → Type 0) (test : Call ℕ → Bool) (w : List (Call ℕ)) → w ≡ [] → IsFound P (find test w) → ⊥
 found_none P test [] e h = h
 found_none P test (x ∷ xs) e h = cc
@@ -84,13 +84,13 @@ some_none test [] e h = cc
 some_none test (x ∷ xs) e h = cc
 
 module _ (limit : Option ℕ) where
-  -- where no call waits, no inner event follows
+  -- if no call waits, no inner event follows
   pub begins_anew : (s : State) (events : List (Event ℕ)) → s.waiting ≡ [] → IsLegal m limit s events
       → BeginsAnew events
   begins_anew s [] w l = tt
   begins_anew s (Issue n owner e v d ∷ es) w l = refl
   begins_anew s (Ran owner op v reply ∷ es) w l = refl
-  begins_anew s (Abort n ∷ es) w l = refl
+  begins_anew s (Cancel n ∷ es) w l = refl
   begins_anew s (Tick t ∷ es) w l = refl
   begins_anew s (Final ∷ es) w l = refl
   begins_anew s (Serve e ∷ es) w l = absurd (some_none (is_on e) s.waiting w l.0.0)
@@ -98,7 +98,7 @@ module _ (limit : Option ℕ) where
   begins_anew s (Expire n ∷ es) w l =
       absurd (found_none (λ x. is_due s.clock x ≡ true) (has_number n) s.waiting w l.0.1)
 
-  -- the rest of a legal history is legal from where it begins
+  -- the rest of a legal history is legal from the state in which it begins
   pub legal_back : (s : State) (es fs : List (Event ℕ)) → IsLegal m limit s (es ++ fs)
       → IsLegal m limit (replay m limit s es) fs
   legal_back s [] fs l = l

@@ -1,4 +1,4 @@
--- While calls are leaving a meeting, nothing but their servings can follow.
+-- While calls are leaving a meeting, only their servings can follow.
 use Rattle.std.proofs.Common.{◌≡◌, ℕ, ◌+◌, ◌==◌, ◌<◌, List, [], ◌∷◌, ◌++◌, map, length, refl, ap, sym, subst, ◌∙◌, arith, true, false, ◌||◌, Option, Some, Ok, Err, IsSome, append_assoc, nat_lt}
 use Rattle.std.specs.List.{find, count_by, All}
 use Rattle.std.proofs.lemmas.Bool.Decides.{nat_tests}
@@ -6,7 +6,7 @@ use Rattle.std.proofs.lemmas.List.{append-nil}
 use Rattle.std.proofs.lemmas.List.Elements.{All-head, All-tail}
 use Rattle.po_calls.specs.declared.call.Call.{Call}
 use Rattle.po_history.specs.declared.event.Event.{Event}
-use Rattle.po_history.specs.declared.event.Event.TheVariants.{Issue, Ran, Abort, Tick, Final, Serve, Break, Expire}
+use Rattle.po_history.specs.declared.event.Event.TheVariants.{Issue, Ran, Cancel, Tick, Final, Serve, Break, Expire}
 use Rattle.po_engine.specs.WaitingCalls.{is_on}
 use Rattle.po_engine.specs.ObjectState.{barrier_in, IsQuiet, IsAtRest}
 use Rattle.po_engine.specs.Step.{step, serve, Needs, IsLegal, replay}
@@ -27,7 +27,7 @@ pub record AreLeaving (size : ℕ) (s : State) (calls : List (Call ℕ)) : Type 
   pub on_wait : OnWait calls
   pub opens : Opens s.unit calls
 
--- From the old state to the new the first call is served and completes with its own value, and these calls are left.
+-- From the old state to the new one the first call is served and completes with its own value, and these calls are left.
 pub record IsServed (old new : State) (x : Call ℕ) (left : List (Call ℕ)) : Type 0 where
   pub unit : new.unit ≡ record old.unit { leaving = nat_lt 0 (length left) }
   pub waiting : new.waiting ≡ left
@@ -55,7 +55,7 @@ not_quiet size s x xs b q =
     not_both (barrier_in m s x.entry) (open_first size s x xs b x.entry)
     (All-head (λ y. barrier_in m s y.entry ≡ Ok false) x xs all)
 
--- where calls are leaving, only Wait can be served
+-- if calls are leaving, only Wait can be served
 pub only_serves : (size : ℕ) (s : State) (x : Call ℕ) (xs : List (Call ℕ)) (event : Event ℕ)
     → AreLeaving size s (x ∷ xs) → Needs m s event → event ≡ Serve 0
 only_serves size s x xs (Serve e) b h =
@@ -64,7 +64,7 @@ only_serves size s x xs (Break e) b h = let bad : barrier_in m s e ≡ Err h.1.0
 only_serves size s x xs (Expire n) b h = absurd (not_quiet size s x xs b h.0)
 only_serves size s x xs (Issue n owner e v d) b h = absurd (not_quiet size s x xs b h.0.rest.quiet)
 only_serves size s x xs (Ran owner op v reply) b h = absurd (not_quiet size s x xs b h.0.rest.quiet)
-only_serves size s x xs (Abort n) b h = absurd (not_quiet size s x xs b h.0.rest.quiet)
+only_serves size s x xs (Cancel n) b h = absurd (not_quiet size s x xs b h.0.rest.quiet)
 only_serves size s x xs (Tick t) b h = absurd (not_quiet size s x xs b h.rest.quiet)
 only_serves size s x xs Final b h = absurd (not_quiet size s x xs b h.rest.quiet)
 
@@ -97,7 +97,7 @@ module _ (limit : Option ℕ) where
         opens = subst (λ u. Opens u xs) (sym g.unit) (opens_left s.unit xs);
       }
 
-  -- The events begin with a serving of Wait, and legally go on up to rest.
+  -- The events begin with a serving of Wait, and go on legally up to rest.
   pub record BeginsWithServing (s : State) (events : List (Event ℕ)) : Type 0 where
     pub later : List (Event ℕ)
     pub first : events ≡ Serve 0 ∷ later
@@ -125,7 +125,7 @@ module _ (limit : Option ℕ) where
     pub emptied : (replay m limit s (servings 0 (length calls))).waiting ≡ []
     pub ended : (replay m limit s (servings 0 (length calls))).ended ≡ s.ended ++ map with_own_value calls
 
-  -- Where calls are leaving, a history that ends at rest lets all of them go.
+  -- If calls are leaving, a history that ends at rest lets all of them go.
   pub lets_go : (size : ℕ) (s : State) (calls : List (Call ℕ)) (events : List (Event ℕ)) → AreLeaving size s calls
       → IsLegal m limit s events → IsAtRest m (replay m limit s events) → LetsGo s calls events
   lets_go size s [] events b l r =

@@ -1,4 +1,4 @@
--- What is so of the serial object at each moment of a client's run.
+-- What holds of the serial object at each moment of a client's run.
 use Rattle.std.proofs.Common.{ℕ, zero, suc, ◌≡◌, ◌∙◌, ◌≤◌, ◌==◌, List, [], ◌∷◌, ◌++◌, replicate, Bool, true, false, ◌&&◌, ◌||◌, cond, if◌then◌else◌, Ok, Option, Some, None, nat_le, nat_lt, count_by, ap, ap₂, refl, sym, subst, arith, inl, inr, ◌⊎◌}
 use Rattle.std.specs.List.{All, find, slice_index}
 use Rattle.std.proofs.lemmas.Bool.{eqb-true}
@@ -17,7 +17,7 @@ use Rattle.po_driven.specs.DrivenView.{Awaits, DrivenView, IsDriven, KeepsSetup}
 use Rattle.po_driven.specs.Happening.{Driving, happen, opening, replay as led_to}
 use Rattle.po_driven.specs.Noted.{Notes, full_at, longest_on}
 use Rattle.po_driven.specs.OnePlace.{IsInOnePlace, places_with}
-use Rattle.po_driven.specs.TracedView.{led_by}
+use Rattle.po_driven.specs.DrivenCallsView.{led_by}
 use Rattle.po_driven.specs.declared.happening.Happening.{Happening}
 use Rattle.po_driven.specs.declared.phase.Phase.{Phase}
 use Rattle.po_driven.specs.declared.phase.Phase.TheVariants.{Asked, Breaking, Resting, Running, Settling}
@@ -29,7 +29,7 @@ led_all : (d : Driving) (hs more : List Happening) → led_to d (hs ++ more) ≡
 led_all d [] more = refl
 led_all d (h ∷ hs) more = led_all (happen h d) hs more
 
--- where this has happened, the calls are led on by it
+-- if this has happened, it leads the calls on
 pub led_after : (old new : DrivenView) (hs : List Happening) → KeepsSetup old new → Notes hs old new → led_by new.calls ≡ led_to (led_by old.calls) hs
 led_after old new hs k noted =
     ap₂ (λ n l. led_to (opening n) l) k.entries noted ∙ led_all (opening old.calls.object.state.unit) old.calls.happened hs
@@ -59,7 +59,7 @@ pub told_push : (closed : List ℕ) (e k : ℕ) → told (closed ++ e ∷ []) k 
 told_push [] e k h = inr (one_told e k (e == k) refl h)
 told_push (x ∷ closed) e k h = told_or (x == k) closed e k h (told_push closed e k)
 
--- where none counts as closed, no call is queued on one that does
+-- if none counts as closed, no call is queued on one that does
 pub none_told : (xs : List (Call ℕ)) → All (λ x. told [] x.entry ≡ true) xs → xs ≡ []
 none_told [] h = refl
 none_told (x ∷ xs) h = let bad : false ≡ true = All-head (λ y. told [] y.entry ≡ true) x xs h in absurd (cc)
@@ -68,7 +68,7 @@ none_if : (b : Bool) (x : Call ℕ) (rest : Option (Call ℕ)) → cond b (Some 
 none_if true x rest h = let bad : Some x ≡ None = h in absurd (cc)
 none_if false x rest h = (refl, h)
 
--- what isn't found is nowhere
+-- what isn't found isn't in the list
 pub nowhere : (p : Call ℕ → Bool) (xs : List (Call ℕ)) → find p xs ≡ None → All (λ x. p x ≡ false) xs
 nowhere p [] h = All-nil (λ x. p x ≡ false)
 nowhere p (x ∷ xs) h = let off = none_if (p x) x (find p xs) h in All-cons (λ y. p y ≡ false) x xs off.0 (nowhere p xs off.1)
@@ -91,8 +91,8 @@ module _ {S : Type 0} (m : Meaning S ℕ) where
   run_serving t None = t
   run_serving t (Some x) = run_body m None t x
 
-  -- the serial object, where the driven one waits for this: the body of the call in service has run, and where queued calls end one
-  -- after the other all have ended
+  -- the serial object when the driven one is in this phase: the body of the call in service has already run, and if queued
+  -- calls are ending one after another, all have already ended
   abbrev pub serial_of : Phase → S → Driving → ObjectState S ℕ
   serial_of Resting u d = base u d
   serial_of (Asked e) u d = base u d
@@ -104,7 +104,7 @@ module _ {S : Type 0} (m : Meaning S ℕ) where
   abbrev pub AreClosed : ObjectState S ℕ → List ℕ → Type 0
   AreClosed t closed = (e : ℕ) → told closed e ≡ true → barrier_in m t e ≡ Ok false
 
-  -- The same, where an object waits for this that was looked at since anything changed.
+  -- The same, in those phases in which the entries were examined since anything changed.
   abbrev pub IsToldSo : Phase → ObjectState S ℕ → List ℕ → Type 0
   IsToldSo Resting t closed = AreClosed t closed
   IsToldSo (Asked e) t closed = AreClosed t closed
@@ -130,21 +130,21 @@ module _ {S : Type 0} (m : Meaning S ℕ) where
     closed = subst (λ q. IsToldSo q (base u (led_by d.calls)) d.closed) (sym phase) (subst (λ k. IsToldSo p (base u k) d.closed) (sym led) closed);
   }
 
-  -- These events happen to the serial object, which then is in the state of the client's.
+  -- These events happen to the serial object, and lead it to the client's state.
   abbrev pub Leads : ObjectState S ℕ → List (Event ℕ) → S → DrivenView → Type 0
   Leads s events u d = IsLegal m None s events × AreNext m s events × Follows (replay m None s events) u d
 
   pub none_closed : (t : ObjectState S ℕ) (closed : List ℕ) → closed ≡ [] → AreClosed t closed
   none_closed t closed none = λ e h. let bad : false ≡ true = subst (λ l. told l e ≡ true) none h in absurd (cc)
 
-  -- all queued calls are on closed entries, where those entries count as closed
+  -- all queued calls are on closed entries, if they are on entries that count as closed
   pub quiet : (u : S) (d : DrivenView) (closed : List ℕ) → IsDriven d → AreClosed (base u (led_by d.calls)) closed → All (λ x. told closed x.entry ≡ true) d.calls.object.state.waiting → IsQuiet m (base u (led_by d.calls))
   quiet u d closed driven are all =
       let g = led_by d.calls in let t = base u g in
       subst (λ xs. All (λ x. barrier_in m t x.entry ≡ Ok false) xs) (ap (λ s. s.waiting) driven.traced.leads.state)
       (All-weaker (λ x. told closed x.entry ≡ true) (λ x. barrier_in m t x.entry ≡ Ok false) (λ x k. are x.entry k) d.calls.object.state.waiting all)
 
-  -- where the driven object rests, the serial one is at rest
+  -- if the driven object rests, the serial one is at rest
   pub rests : (u : S) (d : DrivenView) → IsDriven d → d.phase ≡ Resting → AreClosed (base u (led_by d.calls)) d.closed → IsAtRest m (base u (led_by d.calls))
   rests u d driven phase are =
       let g = led_by d.calls in
@@ -154,7 +154,7 @@ module _ {S : Type 0} (m : Meaning S ℕ) where
         none_due = nowhere (is_due g.state.clock) g.state.waiting (subst (λ s. find (is_due s.clock) s.waiting ≡ None) is idle.none_due);
       }
 
-  -- the unit's object at a moment has the calls to which what has happened leads
+  -- the unit's object at a moment has the calls to which everything that happened leads
   pub unit_object_is : (c : Moment S) → IsDriven c.object → unit_object m c ≡ base c.unit (led_by c.object.calls)
   unit_object_is c driven =
       let g = led_by c.object.calls in

@@ -1,4 +1,4 @@
--- A driven object that was just made is one.
+-- A driven object that was just made meets `IsDriven`.
 use Rattle.std.proofs.Common.{ℕ, ◌≡◌, ◌<◌, [], Bool, true, nat_le, nat_lt, ◌&&◌, if◌then◌else◌, refl, arith}
 use Rattle.std.proofs.lemmas.Bool.Decides.{nat_tests}
 use Rattle.std.proofs.lemmas.List.{length-replicate}
@@ -6,7 +6,7 @@ use Rattle.std.proofs.lemmas.List.Elements.{All-nil}
 use Rattle.po_calls.specs.declared.call.Call.{Call}
 use Rattle.po_driven.specs.AtRest.{told}
 use Rattle.po_driven.specs.DrivenView.{IsDriven, at_opening}
-use Rattle.po_driven.specs.TracedView.{opening_calls}
+use Rattle.po_driven.specs.DrivenCallsView.{opening_calls}
 
 nobody : (n : ℕ) → ◌≡◌ {A = ℕ} 0 (if nat_le 1 n && nat_lt n 1 then 1 else 0)
 nobody n = grind (arith, nat_tests)

@@ -22,7 +22,7 @@ module _ (P : ℕ → Type 0) (k : ℕ) where
   any_if true x xs is any here rest = subst P (eqb-true x.entry k is) here
   any_if false x xs is any here rest = rest any
 
-  -- what is so of the entries of all queued calls is so of an entry on which one is queued
+  -- what holds of the entries of all queued calls holds of an entry on which one is queued
   pub any_holds : (xs : List (Call ℕ)) → All (λ x. P x.entry) xs → list_any (is_on k) xs ≡ true → P k
   any_holds [] all any = let bad : false ≡ true = any in absurd (cc)
   any_holds (x ∷ xs) all any = any_if (x.entry == k) x xs refl any (All-head (λ y. P y.entry) x xs all) (any_holds xs (All-tail (λ y. P y.entry) x xs all))
@@ -40,7 +40,7 @@ module _ {S : Type 0} (m : Meaning S ℕ) (s : ObjectState S ℕ) where
   quiet_if k true closed = ap (λ o. turn k o) (closed refl)
   quiet_if k false closed = refl
 
-  -- an entry is passed that is closed, or on which no call is queued
+  -- an entry is passed over if it is closed, or no call is queued on it
   passed : (k : ℕ) → (list_any (is_on k) s.waiting ≡ true → barrier_in m s k ≡ Ok false) → turn_of m s k ≡ Quiet
   passed k closed = quiet_if k (list_any (is_on k) s.waiting) closed
 
@@ -59,7 +59,7 @@ module _ {S : Type 0} (m : Meaning S ℕ) (s : ObjectState S ℕ) where
     breaks_next j barrier =
         ap (λ l. option_or (event_of l) (option_map (λ x. Expire x.number) (find (is_due s.clock) s.waiting))) (next_is (Broken e) (ap (turn e) barrier) refl)
 
-  -- where all queued calls are on closed entries, the first call that is due is next
+  -- if all queued calls are on closed entries, the first call that is due is next
   pub expires_next : IsQuiet m s → (x : Call ℕ) → find (is_due s.clock) s.waiting ≡ Some x → pick m Textual None s ≡ Some (Expire x.number)
   expires_next calm x found =
       let none : next_turn m Textual None s ≡ Quiet = range_quiet (turn_of m s) 0 (m.entries s.unit) (λ k low lt. passed k (λ any. any_holds (λ j. barrier_in m s j ≡ Ok false) k s.waiting calm any)) in

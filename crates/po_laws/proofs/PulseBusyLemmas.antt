@@ -1,4 +1,4 @@
--- In the middle of a pulse nothing but its own servings can follow.
+-- In the middle of a pulse only its own servings can follow.
 use Rattle.std.proofs.Common.{◌≡◌, ℕ, ◌+◌, ◌==◌, List, [], ◌∷◌, ◌++◌, map, length, refl, subst, ap, sym, ◌∙◌, arith}
 use Rattle.std.proofs.Common.{Bool, true, false, Option, Some, Result, Ok, Err, if◌then◌else◌, IsSome, append_assoc}
 use Rattle.std.proofs.Common.{◌⊎◌, inl, inr, All, find, count_by}
@@ -9,7 +9,7 @@ use Rattle.po_calls.specs.declared.call.Call.{Call}
 use Rattle.po_engine.specs.declared.ended.Ended.{Ended}
 use Rattle.po_calls.specs.declared.end.End.TheVariants.{Completed}
 use Rattle.po_history.specs.declared.event.Event.{Event}
-use Rattle.po_history.specs.declared.event.Event.TheVariants.{Issue, Ran, Abort, Tick, Final, Serve, Break, Expire}
+use Rattle.po_history.specs.declared.event.Event.TheVariants.{Issue, Ran, Cancel, Tick, Final, Serve, Break, Expire}
 use Rattle.po_engine.specs.WaitingCalls.{is_on}
 use Rattle.po_engine.specs.ObjectState.{ObjectState, barrier_in, IsQuiet}
 use Rattle.po_engine.specs.Finding.{without_first}
@@ -169,7 +169,7 @@ next_event s calls signal (Break e) busy need = let bad : pulse_barrier_in s e �
 next_event s calls signal (Expire n) busy need = absurd (busy_not_quiet s calls signal busy need.0)
 next_event s calls signal (Issue n owner e v d) busy need = absurd (none_begins s calls signal busy need.0)
 next_event s calls signal (Ran owner op v reply) busy need = absurd (none_begins s calls signal busy need.0)
-next_event s calls signal (Abort n) busy need = absurd (none_begins s calls signal busy need.0)
+next_event s calls signal (Cancel n) busy need = absurd (none_begins s calls signal busy need.0)
 next_event s calls signal (Tick t) busy need = absurd (none_begins s calls signal busy need)
 next_event s calls signal Final busy need = absurd (none_begins s calls signal busy need)
 
@@ -214,7 +214,7 @@ module _ (limit : Option ℕ) where
   signal_goes s signal busy =
       first_goes s signal [] 2 (record { occurred = false }) busy.waiting busy.on_reset (λ count. refl)
 
-  -- behind a serving of Wait the other calls are still to go
+  -- after a serving of Wait the other calls are still to go
   pub stays_busy : (s : PulseObject) (x : Call ℕ) (xs : List (Call ℕ)) (signal : Call ℕ) → IsBusy s (x ∷ xs) signal
       → IsBusy (pulse_step s (Serve 0)) xs signal
   stays_busy s x xs signal busy =
@@ -226,7 +226,7 @@ module _ (limit : Option ℕ) where
         on_reset = busy.on_reset;
       }
 
-  -- behind the serving of Reset the pulse is over
+  -- after the serving of Reset the pulse is over
   pub gets_over : (s : PulseObject) (signal : Call ℕ) → IsBusy s [] signal → IsOver (pulse_step s (Serve 2))
   gets_over s signal busy =
       let gone = signal_goes s signal busy in

@@ -11,10 +11,10 @@ use Rattle.po_calls.specs.declared.call.Call.{Call}
 use Rattle.po_calls.specs.declared.call.Deadline.{Deadline}
 use Rattle.po_calls.specs.declared.end.End.TheVariants.{Completed, ProgramError}
 use Rattle.po_history.specs.declared.event.Event.{Event}
-use Rattle.po_history.specs.declared.event.Event.TheVariants.{Issue, Ran, Abort, Tick, Final, Serve, Break, Expire}
+use Rattle.po_history.specs.declared.event.Event.TheVariants.{Issue, Ran, Cancel, Tick, Final, Serve, Break, Expire}
 use Rattle.po_engine.specs.WaitingCalls.{has_number, is_on, mark}
 use Rattle.po_engine.specs.Finding.{without_first}
-use Rattle.po_engine.specs.Step.{conclude, enter, is_full, arrive, queue, cancel, abort, Needs, end_call}
+use Rattle.po_engine.specs.Step.{conclude, enter, is_full, arrive, queue, cancel, attempt_cancel, Needs, end_call}
 use Rattle.po_engine.proofs.Sums.{sum_by-cons}
 use Rattle.po_laws.specs.Completed.{values_of, completed_at}
 use Rattle.po_laws.specs.Gathered.{issued}
@@ -22,7 +22,7 @@ use Rattle.po_classic_units.specs.Pulse.{PulseState, pulse_meaning, signal}
 use Rattle.po_laws.proofs.PulseBusyLemmas.{PulseObject, IsOnWait, waits, pulse_barrier_in, pulse_step, IsBusy, IsOver}
 use Rattle.po_laws.proofs.PulseBusyLemmas.{waits-first, not_zero, found_entry}
 
--- the object, with the number of its next call used
+-- the object, after its next number is used
 abbrev numbered : PulseObject → PulseObject
 numbered s = record s { next = s.next + 1 }
 
@@ -34,7 +34,7 @@ pulsing s = record (numbered s) { unit = record { occurred = true } }
 abbrev pub requeued : ℕ → ℕ → ℕ → Deadline → Call ℕ
 requeued n owner v d = record (issued n owner 1 v d) { entry = 2; without_abort = true }
 
--- Calls on Wait, when one leaves, one is marked, and the count of those on Reset.
+-- Calls on Wait stay on Wait if one leaves or is marked, and none of them counts on Reset.
 wait_without : (test : Call ℕ → Bool) (xs : List (Call ℕ)) → All IsOnWait xs → All IsOnWait (without_first test xs)
 wait_without test [] all = all
 wait_without test (x ∷ xs) all =
@@ -64,7 +64,7 @@ none_on_reset (x ∷ xs) all =
     sum_by-cons (λ z. if is_on 2 z then 1 else 0) x xs ∙ rw (on, rest) refl
 
 module _ (limit : Option ℕ) where
-  -- The pulse hasn't occurred, only calls on Wait are queued, and none where no queue may have a call.
+  -- The pulse hasn't occurred. Only calls on Wait are queued, and none if no queue may have a call.
   pub record IsIdle (s : PulseObject) : Type 0 where
     pub occurred : s.unit.occurred ≡ false
     pub on_wait : All IsOnWait s.waiting
@@ -86,17 +86,17 @@ module _ (limit : Option ℕ) where
     room = λ full. ap (without_first (has_number n)) (idle.room full);
   }
 
-  pub idle_abort : (s : PulseObject) (n : ℕ) (o : Option (Call ℕ)) → IsIdle s → IsIdle (abort s n o)
-  idle_abort s n None idle = idle
-  idle_abort s n (Some x) idle = abort_if x.without_abort
+  pub idle_attempt : (s : PulseObject) (n : ℕ) (o : Option (Call ℕ)) → IsIdle s → IsIdle (attempt_cancel s n o)
+  idle_attempt s n None idle = idle
+  idle_attempt s n (Some x) idle = attempt_if x.without_abort
     where
-      abort_if : (b : Bool) → IsIdle (if b then record s { waiting = map (mark n) s.waiting } else cancel s n (Some x))
-      abort_if true = record {
+      attempt_if : (b : Bool) → IsIdle (if b then record s { waiting = map (mark n) s.waiting } else cancel s n (Some x))
+      attempt_if true = record {
         occurred = idle.occurred;
         on_wait = wait_mark n s.waiting idle.on_wait;
         room = λ full. ap (map (mark n)) (idle.room full);
       }
-      abort_if false = idle_cancel s n (Some x) idle
+      attempt_if false = idle_cancel s n (Some x) idle
 
   -- The new state is idle, and no call has completed since the old one.
   pub record StaysIdle (old new : PulseObject) : Type 0 where
@@ -151,7 +151,7 @@ module _ (limit : Option ℕ) where
       let other : (suc e == 0) ≡ false = grind (arith, nat_tests) in
       rw other refl
   none_completes s (Ran owner op v reply) idle need = refl
-  none_completes s (Abort n) idle need = refl
+  none_completes s (Cancel n) idle need = refl
   none_completes s (Tick t) idle need = refl
   none_completes s Final idle need = refl
   none_completes s (Serve e) idle need = absurd (no_serving s e idle need)
@@ -162,13 +162,13 @@ module _ (limit : Option ℕ) where
   abbrev concluded : PulseObject → Call ℕ → PulseState × Outcome ℕ → PulseObject
   concluded s x r = conclude limit (record (numbered s) { unit = r.0 }) x r.1
 
-  -- a Signal where no call waits completes
+  -- if no call waits, a Signal completes
   pub signal_none : (s : PulseObject) (n owner v : ℕ) (d : Deadline) → s.waiting ≡ []
       → pulse_step limit s (Issue n owner 1 v d) ≡ end_call (numbered s) (issued n owner 1 v d) (Completed v)
   signal_none s n owner v d w =
       ap (λ l. concluded s (issued n owner 1 v d) (signal s.unit v (waits l))) w
 
-  -- where a call waits, the queue of Reset has room for the Signal
+  -- if a call waits, the queue of Reset has room for the Signal
   room_on_reset : (s : PulseObject) (x : Call ℕ) (xs : List (Call ℕ)) → s.waiting ≡ x ∷ xs → IsIdle s
       → is_full limit (count_by (is_on 2) s.waiting) ≡ false
   room_on_reset s x xs w idle = ap (is_full limit) (none_on_reset s.waiting idle.on_wait) ∙ room (is_full limit 0) refl
@@ -177,7 +177,7 @@ module _ (limit : Option ℕ) where
       room true full = let empty = idle.room full in cc
       room false full = full
 
-  -- a Signal where calls wait makes the pulse occur, and is queued on Reset
+  -- if calls wait, a Signal makes the pulse occur, and is queued on Reset
   pub signal_some : (s : PulseObject) (n owner v : ℕ) (d : Deadline) (x : Call ℕ) (xs : List (Call ℕ))
       → s.waiting ≡ x ∷ xs → IsIdle s
       → pulse_step limit s (Issue n owner 1 v d) ≡ queue (pulsing s) (requeued n owner v d)

@@ -1,4 +1,4 @@
--- The law of the pulse: at each place of a history no pulse is underway, or one whose Signal stands before.
+-- The law of the pulse: at each place of a history either no pulse is underway, or one whose Signal came before.
 use Rattle.std.proofs.Common.{◌≡◌, ◌≢◌, ℕ, zero, suc, ◌<◌, List, [], ◌∷◌, ◌++◌, map, refl, subst, ap, sym, ◌∙◌, arith}
 use Rattle.std.proofs.Common.{true, Option, Err, append_assoc, append-nil, ◌⊎◌, inl, inr, All, find}
 use Rattle.std.proofs.lemmas.List.Elements.{All-nil, All-head, All-tail}
@@ -6,7 +6,7 @@ use Rattle.po_unit.specs.Numbering.{is_public, entry_references, entries_of}
 use Rattle.po_calls.specs.declared.call.Call.{Call}
 use Rattle.po_calls.specs.declared.call.Deadline.{Deadline}
 use Rattle.po_history.specs.declared.event.Event.{Event}
-use Rattle.po_history.specs.declared.event.Event.TheVariants.{Issue, Ran, Abort, Tick, Final, Serve, Break, Expire}
+use Rattle.po_history.specs.declared.event.Event.TheVariants.{Issue, Ran, Cancel, Tick, Final, Serve, Break, Expire}
 use Rattle.po_core.specs.Setup.{Setup}
 use Rattle.po_core.specs.Public.{NamesPublic, AllPublic}
 use Rattle.po_engine.specs.WaitingCalls.{has_number}
@@ -21,7 +21,7 @@ use Rattle.po_laws.proofs.GatheredLemmas.{EndsAtRest, servings-push, ends_from, 
 use Rattle.po_laws.proofs.PulseBusyLemmas.{PulseObject, IsOnWait, IsBusy, IsOver, pulse_barrier_in, pulse_step}
 use Rattle.po_laws.proofs.PulseBusyLemmas.{pulse_replay, none_begins, next_served, next_event, stays_busy, gets_over}
 use Rattle.po_laws.proofs.PulseBusyLemmas.{servings_left, busy_all_go}
-use Rattle.po_laws.proofs.PulseIdleLemmas.{IsIdle, idle_over, idle_cancel, idle_abort, issue_wait, no_serving}
+use Rattle.po_laws.proofs.PulseIdleLemmas.{IsIdle, idle_over, idle_cancel, idle_attempt, issue_wait, no_serving}
 use Rattle.po_laws.proofs.PulseIdleLemmas.{none_completes, signal_none, signal_some, signal_busy, requeued}
 
 -- Wait and Signal are public, and no other entry
@@ -32,7 +32,7 @@ public_entry_below (suc zero) public = omega arith
 public_entry_below (suc (suc zero)) public = cc
 public_entry_below (suc (suc (suc e))) public = cc
 
--- behind a serving of Wait that belongs to a Signal, the next one does
+-- after a serving of Wait that belongs to a Signal, the next serving belongs to it too
 belongs_on : (seen : List (Event ℕ)) → BelongsToSignal seen (Serve 0) → BelongsToSignal (seen ++ Serve 0 ∷ []) (Serve 0)
 belongs_on seen b =
     let own : Event ℕ = Issue b.number b.owner 1 b.value b.deadline in
@@ -50,7 +50,7 @@ belongs_on seen b =
     }
 
 module _ (limit : Option ℕ) where
-  -- A pulse is underway behind these events: a serving of Wait that comes now belongs to a Signal.
+  -- A pulse is underway after these events: a serving of Wait that comes now belongs to a Signal.
   record IsUnderway (seen : List (Event ℕ)) (s : PulseObject) : Type 0 where
     pub calls : List (Call ℕ)
     pub signal : Call ℕ
@@ -61,7 +61,7 @@ module _ (limit : Option ℕ) where
   abbrev Phase : List (Event ℕ) → PulseObject → Type 0
   Phase seen s = IsIdle limit s ⊎ IsUnderway seen s
 
-  -- The phase behind one more event.
+  -- The phase after one more event.
   issue_signal : (seen : List (Event ℕ)) (s : PulseObject) (n owner v : ℕ) (d : Deadline) (w : List (Call ℕ))
       → s.waiting ≡ w → IsIdle limit s
       → Phase (seen ++ Issue n owner 1 v d ∷ []) (pulse_step limit s (Issue n owner 1 v d))
@@ -93,7 +93,7 @@ module _ (limit : Option ℕ) where
   idle_step seen s (Issue n owner (suc (suc e)) v d) idle need public =
       let below = public_entry_below (suc (suc e)) public in absurd (omega arith)
   idle_step seen s (Ran owner op v reply) idle need public = absurd (omega (arith, need.1))
-  idle_step seen s (Abort n) idle need public = inl (idle_abort limit s n (find (has_number n) s.waiting) idle)
+  idle_step seen s (Cancel n) idle need public = inl (idle_attempt limit s n (find (has_number n) s.waiting) idle)
   idle_step seen s (Tick t) idle need public =
       inl (record { occurred = idle.occurred; on_wait = idle.on_wait; room = idle.room })
   idle_step seen s Final idle need public =
@@ -118,7 +118,7 @@ module _ (limit : Option ℕ) where
       subst (λ x. Phase (seen ++ x ∷ []) (pulse_step limit s x)) (sym is)
       (busy_step seen s under.calls under.signal under.busy under.belongs)
 
-  -- the phase behind the early part of a history
+  -- the phase after the early part of a history
   phase_after : (seen early late : List (Event ℕ)) (s : PulseObject) → Phase seen s
       → IsLegal pulse_meaning limit s (early ++ late) → AllPublic pulse_declarations (early ++ late)
       → Phase (seen ++ early) (pulse_replay limit s early)
@@ -147,11 +147,11 @@ module _ (limit : Option ℕ) where
       subst (BelongsToSignal seen) (sym is) (next_belongs seen s under.calls under.belongs completes)
 
 module _ (setup : Setup PulseState) where
-  -- Behind the early events the late ones are legal, and end at rest.
+  -- After the early events the late ones are legal, and end at rest.
   abbrev LateEnds : (early late : List (Event ℕ)) → Type 0
   LateEnds early late = EndsAtRest pulse_meaning setup.max_queue (state_after pulse_meaning setup early) late
 
-  -- Behind the early events no pulse is underway, or one is.
+  -- After the early events no pulse is underway, or one is.
   abbrev PhaseBehind : (early : List (Event ℕ)) → Type 0
   PhaseBehind early = Phase setup.max_queue early (state_after pulse_meaning setup early)
 
@@ -204,7 +204,7 @@ module _ (setup : Setup PulseState) where
   signal_releases early late n owner v d (inr under) ends =
       absurd (none_begins _ under.calls under.signal under.busy ends.0.0.0)
 
-  -- where a history is split, there is a phase, and the late part ends at rest
+  -- if a history is split, there is a phase, and the late part ends at rest
   split : (events early late : List (Event ℕ)) → IsNewPulse setup.opening
       → EndsAtRest pulse_meaning setup.max_queue (opening setup) events
       → AllPublic pulse_declarations events → events ≡ early ++ late → PhaseBehind early × LateEnds early late

@@ -5,9 +5,9 @@ use Rattle.po_history.specs.declared.event.Event.{Event}
 use Rattle.po_engine.specs.ObjectState.{IsAtRest, ObjectState, opening_state}
 use Rattle.po_engine.specs.Step.{IsLegal, replay, run_body}
 use Rattle.po_driven.specs.DrivenView.{IsDriven}
-use Rattle.po_driven.specs.TracedView.{led_by}
+use Rattle.po_driven.specs.DrivenCallsView.{led_by}
 use Rattle.po_driven.specs.declared.action.Action.{Action}
-use Rattle.po_driven.specs.declared.words.Step.{Step}
+use Rattle.po_driven.specs.declared.words.NamedCall.{NamedCall}
 use Rattle.po_laws.specs.Client.{IsCarriedOut, IsRun, KeepsCallers, Moment, Takes, Taken, Turn, cancels, ends_body, evaluates, finalizes, goes_on, issues, last, runs, unit_object}
 use Rattle.po_laws.specs.Serial.{AreNext, IsSame, IsSerial, events_of, history, opening_moment}
 use Rattle.po_laws.proofs.Words.{base}
@@ -29,8 +29,8 @@ module _ {S : Type 0} (m : Meaning S ℕ) where
   replay_all s (event ∷ events) more = replay_all (replay m None s (event ∷ [])) events more
 
   module _ (lawful : IsLawful m) (keeps : KeepsCallers m) where
-    -- each turn leads on, where the client's data are these
-    turn_on : (turn : Turn) (a : Action) (step : Step) (s : ObjectState S ℕ) (c n : Moment S) → Follows m s c.unit c.object → IsDriven n.object → IsCarriedOut a
+    -- each turn leads on, if the client has these data
+    turn_on : (turn : Turn) (a : Action) (step : NamedCall) (s : ObjectState S ℕ) (c n : Moment S) → Follows m s c.unit c.object → IsDriven n.object → IsCarriedOut a
         → Takes m turn a step (base c.unit (led_by c.object.calls)) c n → Leads m s (events_of m turn a c.object.phase (base c.unit (led_by c.object.calls))) n.unit n.object
     turn_on (issues e v t) a step s c n f after carried k =
         subst (λ w. Leads m s (events_of m (issues e v t) a c.object.phase (base c.unit (led_by c.object.calls))) w n.object) (sym k.2) (issues_leads m lawful keeps s c.unit c.object n.object f after e v t step a carried k.0 k.1)
@@ -74,7 +74,7 @@ module _ {S : Type 0} (m : Meaning S ℕ) where
     closed = none_closed m (base u (led_by (opening_moment m u most is_fixed).object.calls)) [] refl;
   }
 
-  -- what the state of the serial object is at a moment
+  -- the state of the serial object at a moment
   serial_at : (u : S) (c : Moment S) (events : List (Event ℕ)) → Leads m (opening_state u 1) events c.unit c.object → IsSerial m u c events
   serial_at u c events k =
       let f = k.2 in let g = led_by c.object.calls in let is = sym (unit_object_is m c f.driven) in let s = replay m None (opening_state u 1) events in record {

@@ -22,7 +22,7 @@ use Rattle.po_driven.specs.DrivenView.{DrivenView, Fresh, IsDriven, KeepsSetup, 
 use Rattle.po_driven.specs.Happening.{Driving, after_end, after_requeue, cancellation_of, happen, replay as led_to}
 use Rattle.po_driven.specs.Noted.{EndsWhereFull, Notes, issued, concluded, longest_on, serviced}
 use Rattle.po_driven.specs.Steps.{EndsBody, GoesOn, Issues}
-use Rattle.po_driven.specs.TracedView.{led_by}
+use Rattle.po_driven.specs.DrivenCallsView.{led_by}
 use Rattle.po_driven.specs.declared.action.Action.{Action}
 use Rattle.po_driven.specs.declared.action.Action.TheVariants.{Cancelled, Evaluate, NoMemory, ProgramError, Queued, Refused, Rest, Run}
 use Rattle.po_driven.specs.declared.happening.Happening.TheVariants.{Arrived, Broken, Ended as HasEnded, Requeued as WasRequeued, Served}
@@ -31,13 +31,13 @@ use Rattle.po_driven.specs.declared.phase.Phase.TheVariants.{Asked, Breaking, Re
 use Rattle.po_driven.specs.declared.words.Barrier.TheVariants.{Closed, Open, Raised}
 use Rattle.po_driven.specs.declared.words.BodyEnd.TheVariants.{Completed, Requeued}
 use Rattle.po_driven.specs.declared.words.Requeue.{Requeue}
-use Rattle.po_driven.specs.declared.words.Step.{Step}
+use Rattle.po_driven.specs.declared.words.NamedCall.{NamedCall}
 use Rattle.po_laws.specs.Client.{IsCarriedOut, KeepsValue, ended_with, entry_call, said}
 use Rattle.po_laws.specs.Serial.{IsSame, as_known}
 use Rattle.po_laws.proofs.Words.{base, known_all, last_same, oldest_same, other_end, queue_same, run_same, with_ended}
 use Rattle.po_laws.proofs.Moments.{AreClosed, Follows, IsToldSo, Leads, NoLimits, follows, led_after, longest_none, none_closed, none_told, rests, serial_of}
 
--- which answers there are to a call whose barrier is open, closed or raised
+-- which answers a call gets if its barrier is open, closed or raised
 open_runs : (a : Action) (e v : ℕ) (t : Deadline) (n : DrivenView) → IsCarriedOut a → AnswersCall a (entry_call e v t) Open n → a ≡ Run e
 open_runs Rest e v t n carried f = absurd f.1
 open_runs (Evaluate k) e v t n carried f = absurd f.1
@@ -79,7 +79,7 @@ module _ {S : Type 0} (m : Meaning S ℕ) where
   emptied_of t [] none = ap (λ l. record t { waiting = []; ended = l }) (append-nil t.ended)
   emptied_of t (x ∷ xs) none = absurd (cc)
 
-  -- where none is queued, none ends
+  -- if none is queued, none ends
   emptied : (t : ObjectState S ℕ) → t.waiting ≡ [] → end_all t IsProgramError ≡ t
   emptied t none = emptied_of t t.waiting none
 
@@ -90,7 +90,7 @@ module _ {S : Type 0} (m : Meaning S ℕ) where
     pub goes : (s : ObjectState S ℕ) (p : Phase) (h : Driving) → n.phase ≡ p → led_by n.calls ≡ h → IsSame s (serial_of m p v h) → IsToldSo m p (base v h) n.closed → Follows m s v n
     goes s p h phase led is closed = follows m s v n p h after (numbered ∙ entries ∙ sym setup.entries) (λ e. ap (λ l. slice_index l e) setup.limits ∙ limits e) phase led is closed
 
-    -- the queues are looked at anew
+    -- the queues are examined again
     settled : (s : ObjectState S ℕ) (h : Driving) (a : Action) → IsSame s (base v h) → led_by n.calls ≡ led_to h (serviced a d) → Tells a n → Fresh a n → LooksOn a d.calls.object.state.waiting n.closed → Follows m s v n
     settled s h Rest is led tells fresh looks = goes s Resting h tells led is (none_closed m (base v h) n.closed fresh)
     settled s h (Evaluate k) is led tells fresh looks = goes s (Asked k) h tells led is (none_closed m (base v h) n.closed fresh)
@@ -115,8 +115,8 @@ module _ {S : Type 0} (m : Meaning S ℕ) where
     broken s h NoMemory waiting is led tells fresh breaks = absurd breaks
     broken s h Refused waiting is led tells fresh breaks = absurd breaks
 
-    -- what is next
-    pub next_on : (s : ObjectState S ℕ) (p : Phase) (a : Action) (step : Step) → d.phase ≡ p → WaitsForNext d.phase → IsSame s (serial_of m p v g) → GoesOn step d n a → Follows m s v n
+    -- what comes next
+    pub next_on : (s : ObjectState S ℕ) (p : Phase) (a : Action) (step : NamedCall) → d.phase ≡ p → WaitsForNext d.phase → IsSame s (serial_of m p v g) → GoesOn step d n a → Follows m s v n
     next_on s Resting a step phase waits is k =
         settled s g a is (led_after d n (serviced a d) setup k.noted) k.tells k.fresh (k.looks_on (λ b. let bad : Resting ≡ Breaking = sym phase ∙ b in cc) (k.accepted waits))
     next_on s (Asked e) a step phase waits is k = absurd (subst WaitsForNext phase waits)
@@ -126,8 +126,8 @@ module _ {S : Type 0} (m : Meaning S ℕ) where
     next_on s Breaking a step phase waits is k =
         broken s g a (sym (ap (λ t. t.waiting) before.traced.leads.state)) is (led_after d n (serviced a d) setup k.noted) k.tells k.fresh (k.breaks phase)
 
-    -- the body of the call in service has ended so, on which the serial object has run it
-    module _ (x : Call ℕ) (serving : d.calls.object.serving ≡ Some x) (s : ObjectState S ℕ) (a : Action) (step : Step) (carried : IsCarriedOut a) where
+    -- the body of the call in service has ended, and the serial object has run it
+    module _ (x : Call ℕ) (serving : d.calls.object.serving ≡ Some x) (s : ObjectState S ℕ) (a : Action) (step : NamedCall) (carried : IsCarriedOut a) where
       held : g.serving ≡ Some x
       held = sym before.traced.leads.serving ∙ serving
 
@@ -192,7 +192,7 @@ module _ {S : Type 0} (m : Meaning S ℕ) where
       concluded_on (RequeueTo target with_abort w) kept is k =
           requeued_on target w with_abort kept a refl (k.moves (record { target = target; with_abort = with_abort; aborted = false; due = false }) x refl serving) is k
 
-  -- the same object in another state of those that have ended
+  -- the same object with another list of ended calls
   module _ (u : S) (d n : DrivenView) (entries : m.entries u ≡ d.calls.object.state.unit) (limits : NoLimits d) (before : IsDriven d) (setup : KeepsSetup d n) (after : IsDriven n)
       (left : List (Ended ℕ)) (h : known_all left ≡ known_all (led_by d.calls).state.ended) where
     abbrev now : ObjectState S ℕ
@@ -212,7 +212,7 @@ module _ {S : Type 0} (m : Meaning S ℕ) where
         }
 
     -- a call arrives
-    module _ (e v : ℕ) (t : Deadline) (step : Step) (a : Action) (carried : IsCarriedOut a) where
+    module _ (e v : ℕ) (t : Deadline) (step : NamedCall) (a : Action) (carried : IsCarriedOut a) where
       abbrev x : Call ℕ
       x = new_call now.next (entry_call e v t)
 

@@ -1,4 +1,5 @@
--- The words of a step lead from the same states to the same ones.
+-- What a step is made of (`end_call`, `queue`, `conclude` ..) leads from states that are the same to states that are the same
+-- (`IsSame`).
 use Rattle.std.proofs.Common.{ℕ, ◌≡◌, ◌∙◌, List, [], ◌∷◌, ◌++◌, map, Bool, true, false, not, ◌&&◌, if◌then◌else◌, Option, None, ap, ap₂, refl, sym, append_assoc}
 use Rattle.std.specs.List.{slice_get}
 use Rattle.std.proofs.lemmas.List.{map-append}
@@ -26,12 +27,12 @@ pub appended : (left right more : List (Ended ℕ)) → known_all left ≡ known
 appended left right more h = map-append known left more ∙ ap (λ a. a ++ known_all more) h ∙ sym (map-append known right more)
 
 module _ {S : Type 0} where
-  -- how a call ended is the client's own business
+  -- two ends that a driven object can't tell apart lead to the same state
   pub other_end : (s t : ObjectState S ℕ) (x : Call ℕ) (a b : End ℕ) → as_known a ≡ as_known b → IsSame s (end_call t x a) → IsSame s (end_call t x b)
   other_end s t x a b alike i = record { state = i.state; ended = i.ended ∙ push t.ended t.ended (ended_as a x) (ended_as b x) refl (ap (λ e. ended_as e x) alike) }
 
   module _ (left : List (Ended ℕ)) where
-    -- the state where these calls have ended
+    -- the state with these calls ended
     abbrev pub with_ended : ObjectState S ℕ → ObjectState S ℕ
     with_ended t = record t { ended = left }
 
@@ -61,7 +62,7 @@ module _ {S : Type 0} where
     pub end_all_same : (t : ObjectState S ℕ) → known_all left ≡ known_all t.ended → IsSame (end_all (with_ended t) ProgramError) (end_all t ProgramError)
     end_all_same t h = record { state = refl; ended = appended left t.ended (map (ended_as ProgramError) t.waiting) h }
 
-    -- the call that arrives ends last, where its barrier raised
+    -- the call that arrives ends last, if its barrier raised
     pub last_same : (t : ObjectState S ℕ) (x : Call ℕ) → known_all left ≡ known_all t.ended → IsSame (end_call (end_all (with_ended t) ProgramError) x ProgramError) (end_all (queue t x) ProgramError)
     last_same t x h = record {
       state = refl;
@@ -80,6 +81,6 @@ module _ {S : Type 0} where
   oldest_of u s (x ∷ xs) serving elsewhere =
       ap (λ l. record { unit = u; waiting = []; ended = l; next = s.next; clock = s.clock; finalized = s.finalized }) (append_assoc s.ended (ended_as ProgramError x ∷ []) (map (ended_as ProgramError) xs))
 
-  -- all queued calls end alike, whether one of them has ended already
+  -- all queued calls end in the same way, whether or not one of them has ended already
   pub oldest_same : (u : S) (d : Driving) → end_all (base u (record d { state = end_oldest d.state (slice_get d.state.waiting 0); serving = None })) ProgramError ≡ end_all (base u d) ProgramError
   oldest_same u d = oldest_of u d.state d.state.waiting None d.elsewhere

@@ -1,3 +1,4 @@
+-- SPDX-License-Identifier: MIT
 -- The law of the allocator: no more is taken than there is, and no more is given back than is taken.
 use Rattle.std.specs.Prelude.{ℕ, ◌≡◌, ◌≤◌, ◌+◌, List, [], ◌∷◌, ◌++◌, Ok, sum}
 use Rattle.po_history.specs.declared.event.Event.{Event}
@@ -7,7 +8,7 @@ use Rattle.po_core.specs.Public.{AllPublic}
 use Rattle.po_laws.specs.Completed.{opening, all_values}
 use Rattle.po_classic_units.specs.Allocator.{AllocatorState, allocator_meaning, allocator_declarations}
 
--- the value of a Release that replied with a value, before others
+-- these values, with that of the event in front if it is a Release that replied with a value
 abbrev pub with_release : Event ℕ → List ℕ → List ℕ
 with_release (Ran owner op v (Ok w)) values = v ∷ values
 with_release other values = values
@@ -26,7 +27,7 @@ pub record StaysWithin (size granted released : ℕ) : Type 0 where
   pub none_missing : released ≤ granted
   pub none_over : granted ≤ released + size
 
--- At every prefix of the history, where each call was issued on Request or Claim: Grant is private.
+-- This holds at every prefix of the history, if each call was issued on Request or Claim: Grant is private.
 abbrev pub AllocatorStaysWithin : Setup AllocatorState → List (Event ℕ) → Type 0
 AllocatorStaysWithin setup events =
     AllPublic (allocator_declarations setup.opening.size) events

@@ -1,3 +1,4 @@
+-- SPDX-License-Identifier: MIT
 -- The law of the buffer: first in, first out, within its capacity.
 use Rattle.std.specs.Prelude.{ℕ, ◌≡◌, ◌≤◌, ◌+◌, List, ◌++◌, length}
 use Rattle.po_history.specs.declared.event.Event.{Event}
@@ -13,13 +14,13 @@ values_put setup events = values_at buffer_meaning setup.max_queue 0 (opening se
 abbrev pub values_got : Setup BufferState → List (Event ℕ) → List ℕ
 values_got setup events = values_at buffer_meaning setup.max_queue 1 (opening setup) events
 
--- The values got are the first of the values put, and at most so many more are put than got.
+-- The values got are the first of the values put, and at most `capacity` more are put than got.
 pub record IsFifo (capacity : ℕ) (put got : List ℕ) : Type 0 where
   pub left : List ℕ
   pub first : put ≡ got ++ left
   pub few : length put ≤ length got + capacity
 
--- At every prefix of the history, whatever the service order and the greatest length of a queue.
+-- This holds at every prefix of the history, whatever the service order and the greatest length of a queue.
 abbrev pub BufferIsFifo : Setup BufferState → List (Event ℕ) → Type 0
 BufferIsFifo setup events =
     (early late : List (Event ℕ))

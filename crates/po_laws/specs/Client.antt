@@ -1,3 +1,4 @@
+-- SPDX-License-Identifier: MIT
 -- A client of a driven object whose data, barriers and bodies are a unit's, and what it does in turn (9.5.1 to 9.5.4).
 use Rattle.std.specs.Prelude.{ℕ, ◌≡◌, ◌<◌, List, [], ◌∷◌, Bool, true, false, Result, Ok, Err, Some}
 use Rattle.po_unit.specs.Meaning.{Meaning}
@@ -11,7 +12,7 @@ use Rattle.po_engine.specs.declared.arriving.Arriving.{Arriving}
 use Rattle.po_driven.specs.DrivenView.{DrivenView, IsDriven, MayIssue}
 use Rattle.po_driven.specs.Answering.{WaitsForNext}
 use Rattle.po_driven.specs.Steps.{Attempts, EndsBody, Evaluates, Finalizes, GoesOn, Issues}
-use Rattle.po_driven.specs.TracedView.{led_by}
+use Rattle.po_driven.specs.DrivenCallsView.{led_by}
 use Rattle.po_driven.specs.declared.action.Action.{Action}
 use Rattle.po_driven.specs.declared.action.Action.TheVariants.{NoMemory, Refused}
 use Rattle.po_driven.specs.declared.phase.Phase.TheVariants.{Asked, Resting}
@@ -20,7 +21,7 @@ use Rattle.po_driven.specs.declared.words.Barrier.TheVariants.{Closed, Open, Rai
 use Rattle.po_driven.specs.declared.words.BodyEnd.{BodyEnd}
 use Rattle.po_driven.specs.declared.words.BodyEnd.TheVariants.{Completed, Requeued}
 use Rattle.po_driven.specs.declared.words.Cancellation.{Cancellation}
-use Rattle.po_driven.specs.declared.words.Step.{Step}
+use Rattle.po_driven.specs.declared.words.NamedCall.{NamedCall}
 
 -- what the client says of a barrier (9.5.2, 9.5.3)
 abbrev pub said : Result Bool ℕ → Barrier
@@ -28,19 +29,19 @@ said (Ok true) = Open
 said (Ok false) = Closed
 said (Err k) = Raised
 
--- how the client says that a body ended: it hands an exception to the caller itself, as it does what a call brings back (9.5.2, 9.5.4)
+-- how the client says that a body ended: it hands an exception or a result to the caller itself (9.5.2, 9.5.4)
 abbrev pub ended_with : Outcome ℕ → BodyEnd
 ended_with (Complete v) = Completed
 ended_with (Raise k) = Completed
 ended_with (RequeueTo target with_abort v) = Requeued (record { target = target; with_abort = with_abort; aborted = false; due = false })
 
--- A call's value is what the client knows its caller by, so a requeue leaves it (9.5.4).
+-- The client knows a call's caller by the call's value, so a requeue keeps that value (9.5.4).
 abbrev pub KeepsValue : ℕ → Outcome ℕ → Type 0
 KeepsValue v (Complete w) = Unit {0}
 KeepsValue v (Raise k) = Unit {0}
 KeepsValue v (RequeueTo target with_abort w) = w ≡ v
 
--- It is so of each body of the unit.
+-- Each body of the unit keeps that value when it requeues.
 abbrev pub KeepsCallers : {S : Type 0} → Meaning S ℕ → Type 0
 KeepsCallers {S} m = (u : S) (e v : ℕ) (counts : List ℕ) → KeepsValue v (m.body u e v counts).1
 
@@ -65,13 +66,13 @@ pub data Turn : Type 0 where
   ends_body : Turn
   -- the client asks for what is next
   goes_on : Turn
-  -- an attempt is made to cancel the queued call of the ticket, since its time has come or since its caller was aborted, and this
-  -- comes of it (9.5.3, 9.7.2, 9.8)
+  -- an attempt is made to cancel the queued call of the ticket, since its time has come or since its caller was aborted, and
+  -- this is the result (9.5.3, 9.7.2, 9.8)
   cancels : Ticket → Bool → Cancellation → Turn
   -- the object is finalized (9.4)
   finalizes : Turn
 
--- The turn is carried out: one that is refused, or finds no memory, changes nothing, and is left out.
+-- The turn is carried out. A turn that is refused, or finds no memory, changes nothing and is left out.
 abbrev pub IsCarriedOut : Action → Type 0
 IsCarriedOut NoMemory = ⊥
 IsCarriedOut Refused = ⊥
@@ -83,14 +84,15 @@ pub record MayBegin (d : DrivenView) : Type 0 where
   pub alive : d.calls.object.state.finalized ≡ false
 
 module _ {S : Type 0} (m : Meaning S ℕ) where
-  -- the unit's object at this moment: the client's data, with the calls that are there
+  -- the unit's object at this moment: the client's data, with the calls that there are
   abbrev pub unit_object : Moment S → ObjectState S ℕ
   unit_object c =
       let s = c.object.calls.object.state in
       record { unit = c.unit; waiting = s.waiting; ended = (led_by c.object.calls).state.ended; next = s.next; clock = s.clock; finalized = s.finalized }
 
-  -- A turn leads from a moment to the next one, where this is answered: the unit's barriers and bodies are what the client says.
-  abbrev pub Takes : Turn → Action → Step → ObjectState S ℕ → Moment S → Moment S → Type 0
+  -- A turn leads from a moment to the next one, if the engine answers with this action: the client says what the unit's
+  -- barriers and bodies give.
+  abbrev pub Takes : Turn → Action → NamedCall → ObjectState S ℕ → Moment S → Moment S → Type 0
   Takes (issues e v deadline) action step now old new =
       MayIssue old.object e × Issues (entry_call e v deadline) (said (barrier_in m now e)) step old.object new.object action × (new.unit ≡ old.unit)
   Takes (runs op v) action step now old new =
@@ -112,11 +114,11 @@ module _ {S : Type 0} (m : Meaning S ℕ) where
 pub record Taken (S : Type 0) : Type 0 where
   pub turn : Turn
   pub action : Action
-  pub step : Step
+  pub step : NamedCall
   pub after : Moment S
 
 module _ {S : Type 0} (m : Meaning S ℕ) where
-  -- The turns lead on from this moment, one after the other.
+  -- The turns lead on from this moment, one after another.
   abbrev pub IsRun : Moment S → List (Taken S) → Type 0
   IsRun c [] = Unit {0}
   IsRun c (t ∷ ts) = IsDriven t.after.object × IsCarriedOut t.action × Takes m t.turn t.action t.step (unit_object m c) c t.after × IsRun t.after ts

@@ -1,3 +1,4 @@
+-- SPDX-License-Identifier: MIT
 -- The values with which calls complete, read off a history from the opening of an object.
 use Rattle.std.specs.Prelude.{ℕ, ◌==◌, List, [], ◌∷◌, ◌++◌, Bool, false, Option, if◌then◌else◌}
 use Rattle.po_unit.specs.Meaning.{Meaning}
@@ -11,7 +12,7 @@ use Rattle.po_engine.specs.ObjectState.{ObjectState, opening_state}
 use Rattle.po_engine.specs.Step.{step}
 use Rattle.po_core.specs.View.{newly_ended}
 
--- the value of a call that completes, before others
+-- these values, with that of the end in front if the call completed
 abbrev pub with_value : {V : Type 0} → End V → List V → List V
 with_value (Completed v) values = v ∷ values
 with_value other values = values
@@ -32,11 +33,11 @@ module _ {S V : Type 0} where
   abbrev pub opening : Setup S → ObjectState S V
   opening setup = opening_state setup.opening setup.first_number
 
-  -- the values with which calls complete by the event
+  -- the values with which the event completes calls
   abbrev pub completed_by : Meaning S V → Option ℕ → ObjectState S V → Event V → List V
   completed_by m limit s event = values_of (newly_ended m limit s (event ∷ []))
 
-  -- the values with which calls complete by the event, if it is one of the entry
+  -- the values with which the event completes calls, if it is one of the entry
   abbrev pub completed_at : Meaning S V → Option ℕ → ℕ → ObjectState S V → Event V → List V
   completed_at m limit e s event = if is_at e event then completed_by m limit s event else []
 

@@ -1,4 +1,5 @@
--- The trails of commands whose inner events all serve: what the laws of pulse and meeting speak of.
+-- SPDX-License-Identifier: MIT
+-- The trails of commands whose inner events are all servings: what the laws of pulse and meeting speak of.
 use Rattle.std.specs.Prelude.{ℕ, zero, suc, ◌≡◌, List, [], ◌∷◌, Bool, true, false}
 use Rattle.po_calls.specs.declared.call.Call.{Call}
 use Rattle.po_calls.specs.declared.call.Deadline.{Deadline}
@@ -15,17 +16,17 @@ is_inner (Break e) = true
 is_inner (Expire n) = true
 is_inner other = false
 
--- The trail before these events is over: a further command begins, or nothing follows.
+-- The trail before these events is over: another command begins, or nothing follows.
 abbrev pub BeginsAnew : {V : Type 0} → List (Event V) → Type 0
 BeginsAnew [] = Unit {0}
 BeginsAnew (event ∷ events) = is_inner event ≡ false
 
--- so many servings of the entry
+-- k servings of the entry, for the number k
 abbrev pub servings : {V : Type 0} → ℕ → ℕ → List (Event V)
 servings e zero = []
 servings e (suc k) = Serve e ∷ servings e k
 
--- the call that is issued so
+-- the call that is issued with these
 abbrev pub issued : {V : Type 0} → ℕ → ℕ → ℕ → V → Deadline → Call V
 issued n owner e v d = record { number = n; owner = owner; entry = e; value = v; without_abort = false; aborted = false; deadline = d }
 

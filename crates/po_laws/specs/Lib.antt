@@ -1,3 +1,4 @@
+-- SPDX-License-Identifier: MIT
 pub mod AllocatorLaw
 pub mod BufferLaw
 pub mod Client

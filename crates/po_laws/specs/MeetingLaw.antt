@@ -1,3 +1,4 @@
+-- SPDX-License-Identifier: MIT
 -- The law of the meeting: calls complete together, as many as its size, in order of arrival.
 use Rattle.std.specs.Prelude.{ℕ, ◌≡◌, ◌≢◌, ◌<◌, ◌+◌, List, [], ◌∷◌, ◌++◌, map, length}
 use Rattle.po_calls.specs.declared.call.Call.{Call}
@@ -11,8 +12,8 @@ use Rattle.po_receipts.specs.OneHistory.{state_after}
 use Rattle.po_laws.specs.Gathered.{BeginsAnew, servings, issued, with_own_value}
 use Rattle.po_classic_units.specs.Meeting.{MeetingState, meeting_meaning}
 
--- Behind the early events a call is issued, and its trail lets a meeting go: as many servings of Wait as the meeting is
--- of complete the calls that wait, in order of arrival, and the issued call last.
+-- After the early events a call is issued, and its trail lets a meeting go. As many servings of Wait as the meeting's size
+-- complete the calls that wait, in order of arrival, and the issued call last.
 pub record Gathers (setup : Setup MeetingState) (early late : List (Event ℕ)) (n owner v : ℕ) (d : Deadline) : Type 0 where
   -- the calls that wait
   pub calls : List (Call ℕ)
@@ -33,7 +34,7 @@ pub record BelongsToMeeting (setup : Setup MeetingState) (early late : List (Eve
   pub owner : ℕ
   pub value : ℕ
   pub deadline : Deadline
-  -- how many servings of the trail stand before the event
+  -- how many servings of the trail come before the event
   pub served : ℕ
   pub within : served < setup.opening.size
   pub follows : early ≡ before ++ Issue number owner 0 value deadline ∷ servings 0 served

@@ -1,6 +1,7 @@
-//! The laws of four units, of every history of an object of theirs.
+// SPDX-License-Identifier: MIT
+//! The laws of four units, which hold of every history of an object of these units.
 //!
-//! Each rests on the headline of the core and on the unit's meaning alone.
+//! Each depends only on the headline of the core and on the unit's meaning.
 
 ghost use Rattle.std.specs.Prelude.{◌++◌};
 ghost use Rattle.po_classic_units.specs.Allocator.{IsNewAllocator, allocator_meaning};
@@ -17,11 +18,11 @@ ghost use Rattle.po_laws.specs.PulseLaw.{PulseReleasesAll};
 use po_classic_units::{Allocator, Buffer, Meeting, Pulse};
 use po_core::{Core, Record, Volume};
 
-/// The law of the buffer, first in, first out: in the history of every object of a buffer that was made as a new one, at
-/// each point, the values that Gets completed with are the first of those that Puts completed with, in their order, and
-/// at most as many more Puts than Gets have completed as the buffer has room for.
+/// Proves the law of the buffer: first in, first out. It holds at each point of the history of every object that was opened
+/// with a new buffer. The values that Gets completed with are the first of those that Puts completed with, in their order. The
+/// Puts that have completed exceed the Gets by at most the buffer's capacity.
 ///
-/// The history is that of the volumes that were cut off, all of them in order, and the present events behind them.
+/// The history is the events of all volumes that were cut off, in their order, then the present events.
 pub fn buffer_law<R: Record<Buffer>>(core: &Core<Buffer, R>, volumes: &[Volume<u64>])
     requires new { IsNewBuffer core.now.object.setup.opening }
     requires volumes { AreVolumes buffer_meaning core.now.object volumes.now }
@@ -30,10 +31,10 @@ pub fn buffer_law<R: Record<Buffer>>(core: &Core<Buffer, R>, volumes: &[Volume<u
     core.headline();
 }
 
-/// The law of the allocator: in the history of every object of an allocator that was made as a new one, where `Grant` is
-/// private, at each point, what calls were granted less what was released is from 0 to the allocator's size.
+/// Proves the law of the allocator, at each point of the history of every object that was opened with a new allocator, if
+/// `Grant` is private: what calls were granted less what was released is from 0 to the allocator's size.
 ///
-/// The history is that of the volumes that were cut off, all of them in order, and the present events behind them.
+/// The history is the events of all volumes that were cut off, in their order, then the present events.
 pub fn allocator_law<R: Record<Allocator>>(core: &Core<Allocator, R>, volumes: &[Volume<u64>])
     requires new { IsNewAllocator core.now.object.setup.opening }
     requires volumes { AreVolumes allocator_meaning core.now.object volumes.now }
@@ -42,11 +43,10 @@ pub fn allocator_law<R: Record<Allocator>>(core: &Core<Allocator, R>, volumes: &
     core.headline();
 }
 
-/// The law of the pulse: in the history of every object of a pulse that was made as a new one, where `Reset` is private,
-/// each Signal lets all calls go that wait on `Wait`, in order, and then completes, and no call on `Wait` completes
-/// otherwise.
+/// Proves the law of the pulse, in the history of every object that was opened with a new pulse, if `Reset` is private: each
+/// Signal releases all calls that wait on `Wait`, in order, and then completes, and no call on `Wait` completes otherwise.
 ///
-/// The history is that of the volumes that were cut off, all of them in order, and the present events behind them.
+/// The history is the events of all volumes that were cut off, in their order, then the present events.
 pub fn pulse_law<R: Record<Pulse>>(core: &Core<Pulse, R>, volumes: &[Volume<u64>])
     requires new { IsNewPulse core.now.object.setup.opening }
     requires volumes { AreVolumes pulse_meaning core.now.object volumes.now }
@@ -55,10 +55,10 @@ pub fn pulse_law<R: Record<Pulse>>(core: &Core<Pulse, R>, volumes: &[Volume<u64>
     core.headline();
 }
 
-/// The law of the meeting: in the history of every object of a meeting that was made as a new one, calls complete
-/// together, as many as the meeting is of, in order of arrival, the one that was issued last coming last.
+/// Proves the law of the meeting, in the history of every object that was opened with a new meeting: calls complete together,
+/// as many as the meeting's size, in order of arrival, and the call that was issued last completes last.
 ///
-/// The history is that of the volumes that were cut off, all of them in order, and the present events behind them.
+/// The history is the events of all volumes that were cut off, in their order, then the present events.
 pub fn meeting_law<R: Record<Meeting>>(core: &Core<Meeting, R>, volumes: &[Volume<u64>])
     requires new { IsNewMeeting core.now.object.setup.opening }
     requires volumes { AreVolumes meeting_meaning core.now.object volumes.now }

@@ -1,4 +1,5 @@
-//! The same laws of objects that were closed, with a record in memory or none: of their whole histories.
+// SPDX-License-Identifier: MIT
+//! The same laws, of the whole histories of closed objects, with a record in memory or none.
 
 ghost use Rattle.po_classic_units.specs.Allocator.{IsNewAllocator, allocator_meaning};
 ghost use Rattle.po_classic_units.specs.Buffer.{IsNewBuffer, buffer_meaning};
@@ -14,7 +15,7 @@ use po_classic_units::{Allocator, Buffer, Meeting, Pulse};
 use po_core::{Core, Event, Record};
 use po_log::Seen;
 
-/// The law of the buffer, as `buffer_law` says it, of the whole history of an object.
+/// Proves the law of the buffer, as in `buffer_law`, of the whole history of an object.
 pub fn buffer_law_of_log<R: Record<Buffer>>(core: &Core<Buffer, R>, log: &Seen<Event<u64>>)
     requires new { IsNewBuffer core.now.object.setup.opening }
     requires whole { IsWholeLog buffer_meaning core.now.object log.now.items }
@@ -23,7 +24,7 @@ pub fn buffer_law_of_log<R: Record<Buffer>>(core: &Core<Buffer, R>, log: &Seen<E
     core.headline();
 }
 
-/// The law of the allocator, as `allocator_law` says it, of the whole history of an object.
+/// Proves the law of the allocator, as in `allocator_law`, of the whole history of an object.
 pub fn allocator_law_of_log<R: Record<Allocator>>(core: &Core<Allocator, R>, log: &Seen<Event<u64>>)
     requires new { IsNewAllocator core.now.object.setup.opening }
     requires whole { IsWholeLog allocator_meaning core.now.object log.now.items }
@@ -32,7 +33,7 @@ pub fn allocator_law_of_log<R: Record<Allocator>>(core: &Core<Allocator, R>, log
     core.headline();
 }
 
-/// The law of the pulse, as `pulse_law` says it, of the whole history of an object.
+/// Proves the law of the pulse, as in `pulse_law`, of the whole history of an object.
 pub fn pulse_law_of_log<R: Record<Pulse>>(core: &Core<Pulse, R>, log: &Seen<Event<u64>>)
     requires new { IsNewPulse core.now.object.setup.opening }
     requires whole { IsWholeLog pulse_meaning core.now.object log.now.items }
@@ -41,7 +42,7 @@ pub fn pulse_law_of_log<R: Record<Pulse>>(core: &Core<Pulse, R>, log: &Seen<Even
     core.headline();
 }
 
-/// The law of the meeting, as `meeting_law` says it, of the whole history of an object.
+/// Proves the law of the meeting, as in `meeting_law`, of the whole history of an object.
 pub fn meeting_law_of_log<R: Record<Meeting>>(core: &Core<Meeting, R>, log: &Seen<Event<u64>>)
     requires new { IsNewMeeting core.now.object.setup.opening }
     requires whole { IsWholeLog meeting_meaning core.now.object log.now.items }

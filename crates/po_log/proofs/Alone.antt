@@ -1,4 +1,4 @@
--- Of a name there is one keeper, whatever it keeps. Assumes `Logic`.
+-- Each name has one keeper, whatever it keeps. Assumes `Logic`.
 use Rattle.std.proofs.Common.{◌≡◌, ◌≢◌, ◌⊎◌, inl, inr, ℕ, List, true, false, eqb, map, subst}
 use Rattle.std.proofs.lemmas.Bool.Decides.{eqb_tells}
 use mathlib.Core.Option.{some}
@@ -15,7 +15,7 @@ use Rattle.logbook.specs.Kept.{logs}
 use Rattle.po_log.specs.Owned.{keeper_owns}
 
 module _ {M : Type 1} {𝓤 : Ura M} (𝓛 : Logic 𝓤) where
-  -- nothing stands beside the whole right to a log
+  -- the whole right to a log can't be owned twice
   one_whole : (η : ℕ) (l m : List Gv) (Z : SProp 𝓤) → ent 𝓤 (sep 𝓤 (sem 𝓛 (latest logs full_share η l)) (sem 𝓛 (latest logs full_share η m))) Z
   unfolding latest
   one_whole η l m Z = own_glued 𝓛 (growing logs) η (some full_share, l) (some full_share, m) Z (λ c h. absurd (not-OpDef-full_share full_share (sum_out (grows logs) (some full_share, l) (some full_share, m) c h).0.0))

@@ -7,7 +7,7 @@ pub length-coded : {X Y : Type 0} (f : X → Y) (xs : List X) → length (map f 
 length-coded f [] = refl
 length-coded f (x ∷ xs) = ap suc (length-coded f xs)
 
--- of two beginnings of one list the shorter is a beginning of the longer
+-- of two beginnings of one list, the shorter is a beginning of the longer
 pub prefix_shorter : {A : Type 0} (xs ys zs : List A) → IsPrefix xs zs → IsPrefix ys zs → length xs ≤ length ys → IsPrefix xs ys
 prefix_shorter [] ys zs p q le = (ys, refl)
 prefix_shorter (x ∷ xs) [] zs p q le = absurd (omega arith)

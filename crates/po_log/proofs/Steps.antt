@@ -23,7 +23,7 @@ pub tells : {M : Type 1} (𝓤 : Ura M) {A : Type 0} {Q : SProp 𝓤} → A → 
 tells 𝓤 {A} a others = via 𝓤 (sep 𝓤 (emp 𝓤) (emp 𝓤)) (emp∗ 𝓤 (emp 𝓤)) (mono∗ 𝓤 (fact_i 𝓤 A (emp 𝓤) a) others)
 
 module _ {E : Type 0} (c : E → Gv) where
-  -- neither is bound to a thread
+  -- neither what a keeper owns nor what was seen is bound to a thread
   pub keeper_keyless : (η : ℕ) (log : List E) → Keyless (keeper_owns c η log)
   unfolding keeper_owns latest
   keeper_keyless η log = tt
@@ -51,7 +51,7 @@ module _ {M : Type 1} {𝓤 : Ura M} (𝓛 : Logic 𝓤) {E : Type 0} (cv : Code
   unfolding keeper_owns
   goes_on η log more = via 𝓤 _ (latest_grows logs 𝓛 η (map cv.code log) (map cv.code (log ++ more)) (prefix_in cv log more)) (basic 𝓛 _)
 
-  -- a keeper may show each beginning of its log
+  -- a keeper may show any beginning of its log
   pub shows : (η : ℕ) (log seen : List E) → IsPrefix seen log → ent 𝓤 (sem 𝓛 (Keeps η log)) (sep 𝓤 (sem 𝓛 (Keeps η log)) (sem 𝓛 (Saw η seen)))
   unfolding keeper_owns seen_owns
   shows η log seen p = latest_shows logs 𝓛 full_share η (map cv.code log) (map cv.code seen) (subst (λ (l : List E). IsPrefix (map cv.code seen) (map cv.code l)) p.1 (prefix_in cv seen p.0))
@@ -63,12 +63,12 @@ module _ {M : Type 1} {𝓤 : Ura M} (𝓛 : Logic 𝓤) {E : Type 0} (cv : Code
       use2 𝓛 (given (IsPrefix (map cv.code l) (map cv.code log)) (‵ (latest logs full_share η (map cv.code log)) ⊛ ‵ (at_least logs η (map cv.code l)))) (latest_bounds logs 𝓛 full_share η (map cv.code log) (map cv.code l)) $
       learn ! (λ p. check ! (prefix_out cv l log p) $ done !)
 
-  -- what was seen may be had twice
+  -- what was seen may be owned twice
   pub twice : (η : ℕ) (log : List E) → ent 𝓤 (sem 𝓛 (Saw η log)) (sep 𝓤 (sem 𝓛 (Saw η log)) (sem 𝓛 (Saw η log)))
   unfolding seen_owns
   twice η log = at_least_dup logs 𝓛 η (map cv.code log)
 
-  -- two that were seen are beginnings of one list
+  -- two lists that were seen are beginnings of one list
   pub meets : (η : ℕ) (a b : List E) → ent 𝓤 (sep 𝓤 (sem 𝓛 (Saw η a)) (sem 𝓛 (Saw η b))) (ex 𝓤 (λ (t : List Gv). guard 𝓤 (length a ≤ length b → IsPrefix a b) (sem 𝓛 (at_least logs η t))))
   unfolding seen_owns
   meets η a b =

@@ -1,4 +1,4 @@
--- What the methods write into the ghost fields. These have no bytes, so this is all that the methods do.
+-- What the methods write into the ghost fields. The fields have no bytes, so this is all that the methods do.
 use Rattle.std.proofs.Common.{List, [], ◌∷◌}
 use mathlib.Core.List.{IsPrefix, append-nil}
 
@@ -7,11 +7,11 @@ module _ {X : Type 0} where
   abbrev pub note_adds : X → List X
   note_adds last = last ∷ []
 
-  -- what `reach` adds, where this is lacking
+  -- what `reach` adds, if this is missing
   abbrev pub reach_adds : List X → List X
   reach_adds lacking = lacking
 
-  -- what `follow` adds, where the list has gone on by this
+  -- what `follow` adds, if the list was extended by this
   abbrev pub follow_adds : List X → List X
   follow_adds more = more
 

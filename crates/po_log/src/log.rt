@@ -1,3 +1,4 @@
+// SPDX-License-Identifier: MIT
 //! A log that only grows. It takes no memory, and its methods do nothing at run time.
 
 ghost use Rattle.std.specs.Prelude.{◌≡◌, ◌≢◌, ◌≤◌, ℕ, List, [], ◌∷◌, ◌++◌, length};
@@ -8,15 +9,15 @@ ghost use Rattle.po_log.specs.Owned.{keeper_owns, seen_owns};
 use std::marker::{Model, PhantomData};
 use std::snapshot::Snapshot;
 
-/// Which list a value shows, as what has happened to it so far. Only clauses read it.
+/// The list that a value shows as what has happened to it so far. Only clauses read it.
 pub trait Shows<X, T> {
     ghost list: { X → List T };
 }
 
-/// The keeper of a log: `items` is all of the log, and `name` tells it from every other log.
+/// The keeper of a log: `items` is the whole log, and `name` distinguishes it from every other log.
 ///
-/// Of a name there is one keeper, so nobody else adds to the log. By itself a log says nothing of a program, as it may hold any
-/// items. It says what the invariant of the type that has the keeper says of `items`.
+/// Each name has one keeper, so nobody else adds to the log. By itself a log says nothing about a program, since it may hold
+/// any items. It gets its meaning from what the invariant of the type that has the keeper says about `items`.
 pub struct Keeper<T> {
     of: PhantomData<T>,
     pub ghost name: { ℕ },
@@ -29,8 +30,8 @@ impl<T> Model for Keeper<T> {
 
 /// What was seen of the log of that name: `items` is a beginning of the log, and stays one.
 ///
-/// It comes from the keeper, by `show`, or from another one, by `again`. Who has it knows what the log begins with, with neither
-/// the keeper nor its lock.
+/// It comes from the keeper, by `show`, or from another `Seen`, by `again`. Whoever has it knows what the log begins with, and
+/// needs neither the keeper nor its lock for that.
 pub struct Seen<T> {
     of: PhantomData<T>,
     pub ghost name: { ℕ },
@@ -47,7 +48,7 @@ impl<T> Model for Seen<T> {
 }
 
 impl<T> Keeper<T> {
-    /// A new log, with no items. No other keeper has its name, as `apart` tells.
+    /// Makes a new log, with no items. No other keeper has its name: `apart` proves that.
     pub fn open() -> Keeper<T>
         ensures { result.items ≡ [] }
     {
@@ -60,14 +61,14 @@ impl<T> Keeper<T> {
         ensures same_log { self.new.name ≡ self.old.name }
     {}
 
-    /// Lets the log go on until it is the list that a value shows, of which it must be a beginning. The log keeps its name.
+    /// Extends the log to the list that a value shows. The log has to be a beginning of that list. It keeps its name.
     pub fn reach<X, M: Shows<X, T>>(&mut self, now: &X)
         requires goes_on { IsPrefix self.old.items (M.list now.now) }
         ensures reached { self.new.items ≡ M.list now.now }
         ensures same_log { self.new.name ≡ self.old.name }
     {}
 
-    /// Adds to the log what the list that a value shows has gained at its end, from `before` to `now`. That list need not be the
+    /// Adds to the log what the list that a value shows has gained at its end from `before` to `now`. That list need not be the
     /// log. The log keeps its name.
     pub fn follow<X, M: Shows<X, T>>(&mut self, before: &Snapshot<X>, now: &X)
         requires goes_on { IsPrefix (M.list before.now.value) (M.list now.now) }
@@ -77,7 +78,7 @@ impl<T> Keeper<T> {
         ensures same_log { self.new.name ≡ self.old.name }
     {}
 
-    /// All of the log as it is now, for others to have. The log stays as it was.
+    /// Returns the whole log as it is now, for others to have. The log stays as it was.
     pub fn show(&mut self) -> Seen<T>
         ensures whole { result.items ≡ self.old.items }
         ensures same_log { result.name ≡ self.old.name }
@@ -86,14 +87,14 @@ impl<T> Keeper<T> {
         Seen { of: PhantomData }
     }
 
-    /// Tells that two keepers have two names, whatever their logs hold. Both logs stay as they were.
+    /// Proves that two keepers have different names, whatever their logs hold. Both logs stay as they were.
     pub fn apart<X>(&mut self, other: &mut Keeper<X>)
         ensures two_names { self.old.name ≢ other.old.name }
         ensures unchanged { self.new ≡ self.old }
         ensures other_unchanged { other.new ≡ other.old }
     {}
 
-    /// Tells that what was seen of this log, ever, is a beginning of it. The log stays as it was.
+    /// Proves that whatever was seen of this log, at any time, is a beginning of it. The log stays as it was.
     pub fn recall(&mut self, seen: &Seen<T>)
         requires same_log { seen.now.name ≡ self.old.name }
         ensures beginning { IsPrefix seen.now.items self.old.items }
@@ -102,14 +103,14 @@ impl<T> Keeper<T> {
 }
 
 impl<T> Seen<T> {
-    /// The same once more, for somebody else to have.
+    /// Returns the same once more, for somebody else to have.
     pub fn again(&self) -> Seen<T>
         ensures { result ≡ self.now }
     {
         Seen { of: PhantomData }
     }
 
-    /// Tells of two that were seen of one log: if this one is no longer than the other, it is a beginning of the other.
+    /// Compares two that were seen of one log: if this one is no longer than the other, it is a beginning of the other.
     pub fn meet(&self, other: &Seen<T>)
         requires same_log { other.now.name ≡ self.now.name }
         ensures beginning { length self.now.items ≤ length other.now.items → IsPrefix self.now.items other.now.items }
@@ -128,7 +129,7 @@ impl<T> Drop for Seen<T> {
     }
 }
 
-// What they own is about the log alone, and holds in each thread.
+// What they own is about the log alone, and holds in every thread.
 unsafe impl<T> Send for Keeper<T> {}
 
 unsafe impl<T> Sync for Keeper<T> {}

@@ -1,4 +1,4 @@
--- Who asked for the calls and procedures of a history: seats alone, after each command.
+-- Who asked for the calls and procedures of a history: only seats, after each command.
 use Rattle.std.proofs.Common.{◌≡◌, ◌⊎◌, inl, inr, ℕ, ◌+◌, ◌<◌, List, [], ◌∷◌, ◌++◌, refl, subst, sym, arith, Bool, true, false, Option, Some, None}
 use Rattle.std.specs.List.{All}
 use Rattle.std.specs.Option.{IfSome}
@@ -6,14 +6,14 @@ use Rattle.std.proofs.lemmas.List.Elements.{All-cons, All-tail, All-append, All-
 use Rattle.po_unit.specs.Meaning.{Meaning}
 use Rattle.po_calls.specs.declared.call.Call.{Call}
 use Rattle.po_history.specs.declared.event.Event.{Event}
-use Rattle.po_history.specs.declared.event.Event.TheVariants.{Issue, Ran, Abort, Tick, Final, Serve, Break, Expire}
+use Rattle.po_history.specs.declared.event.Event.TheVariants.{Issue, Ran, Cancel, Tick, Final, Serve, Break, Expire}
 use Rattle.po_history.specs.Histories.{VolumeView, joined}
 use Rattle.po_engine.specs.Finding.{IsFound}
 use Rattle.po_engine.specs.Step.{step}
 use Rattle.po_engine.specs.Pick.{last_from}
 use Rattle.po_core.specs.View.{View}
 use Rattle.po_core.specs.Tickets.{CoreView}
-use Rattle.po_core.specs.ProtectedAction.{IsProtectedAction, IsAbortOfCall}
+use Rattle.po_core.specs.ProtectedAction.{IsProtectedAction, IsAttemptOnCall}
 use Rattle.po_core.proofs.Counting.{is_neither, picks-neither}
 use Rattle.po_receipts.specs.Passes.{PassView}
 use Rattle.po_receipts.specs.Agreement.{history_of}
@@ -32,7 +32,7 @@ module _ {V : Type 0} (seats : ℕ) where
   neither_asked : (event : Event V) → is_neither event ≡ true → BySeat event
   neither_asked (Issue n owner e v d) h = absurd (let r : ⊥ = cc in r)
   neither_asked (Ran owner op v reply) h = absurd (let r : ⊥ = cc in r)
-  neither_asked (Abort n) h = tt
+  neither_asked (Cancel n) h = tt
   neither_asked (Tick t) h = tt
   neither_asked Final h = tt
   neither_asked (Serve e) h = tt
@@ -40,7 +40,7 @@ module _ {V : Type 0} (seats : ℕ) where
   neither_asked (Expire n) h = tt
 
 module _ {S V : Type 0} (m : Meaning S V) (seats : ℕ) where
-  -- seats alone ask in a protected action if one asked for its own event
+  -- only seats ask in a protected action, if a seat asked for its own event
   pub asked-action : (old new : View S V) (own : Event V) → IsProtectedAction m old new own → BySeat seats own → AskedBySeats seats old.events → AskedBySeats seats new.events
   asked-action old new own a by h =
       let limit = old.setup.max_queue in
@@ -48,37 +48,37 @@ module _ {S V : Type 0} (m : Meaning S V) (seats : ℕ) where
       let inner = All-weaker (λ e. is_neither e ≡ true) (BySeat seats) (neither_asked seats) a.inner neither in
       subst (AskedBySeats seats) (sym a.events) (All-append (BySeat seats) old.events (own ∷ a.inner) h (All-cons (BySeat seats) own a.inner by inner))
 
-  asked-mark : (old new : View S V) (n : ℕ) (x : Call V) (without_abort aborted : Bool) → x.without_abort ≡ without_abort → x.aborted ≡ aborted → IsAbortOfCall m old new n x → AskedBySeats seats old.events → AskedBySeats seats new.events
-  asked-mark old new n x false aborted s t a h = asked-action old new (Abort n) (a.cancelled s) tt h
-  asked-mark old new n x true false s t a h = asked-action old new (Abort n) (a.marked s t).0 tt h
+  asked-mark : (old new : View S V) (n : ℕ) (x : Call V) (without_abort aborted : Bool) → x.without_abort ≡ without_abort → x.aborted ≡ aborted → IsAttemptOnCall m old new n x → AskedBySeats seats old.events → AskedBySeats seats new.events
+  asked-mark old new n x false aborted s t a h = asked-action old new (Cancel n) (a.cancelled s) tt h
+  asked-mark old new n x true false s t a h = asked-action old new (Cancel n) (a.marked s t).0 tt h
   asked-mark old new n x true true s t a h = subst (λ (view : View S V). AskedBySeats seats view.events) (sym (a.kept s t)) h
 
   -- nobody asks in an attempt to cancel a call
-  pub asked-abort_of : (old new : View S V) (n : ℕ) (o : Option (Call V)) → IsFound (IsAbortOfCall m old new n) o → AskedBySeats seats old.events → AskedBySeats seats new.events
-  asked-abort_of old new n None a h = absurd a
-  asked-abort_of old new n (Some x) a h = asked-mark old new n x x.without_abort x.aborted refl refl a h
+  pub asked-attempt_of : (old new : View S V) (n : ℕ) (o : Option (Call V)) → IsFound (IsAttemptOnCall m old new n) o → AskedBySeats seats old.events → AskedBySeats seats new.events
+  asked-attempt_of old new n None a h = absurd a
+  asked-attempt_of old new n (Some x) a h = asked-mark old new n x x.without_abort x.aborted refl refl a h
 
-  -- who asked in the whole history asked since the last cut
+  -- if only seats asked in the whole history, only seats asked since the last cut
   pub asked-since : (view : View S V) (log : List (Event V)) → IsWholeLog m view log → AskedBySeats seats log → AskedBySeats seats view.events
   asked-since view log w h = All-right (BySeat seats) (joined w.0) view.events (subst (AskedBySeats seats) w.2 h)
 
-  -- in the whole history they ask as they do since the last cut
+  -- if a command keeps that since the last cut, it keeps it in the whole history
   pub asked-on : (old new : View S V) (log more after : List (Event V)) → IsWholeLog m old log → (AskedBySeats seats old.events → AskedBySeats seats new.events) → old.events ++ more ≡ new.events → after ≡ log ++ more → AskedBySeats seats log → AskedBySeats seats after
   asked-on old new log more after w ask goes all h =
       let now = subst (AskedBySeats seats) (sym goes) (ask (asked-since old log w h)) in
       subst (AskedBySeats seats) (sym all) (All-append (BySeat seats) log more h (All-right (BySeat seats) old.events more now))
 
--- so many seats, by the ledger's parts
+-- the number of seats, by the ledger's parts
 pub asked-of : {V : Type 0} (parts seats more : ℕ) (events : List (Event V)) → seats + 1 ≡ parts → parts ≡ more + 1 → AskedBySeats seats events → AskedBySeats more events
 asked-of parts seats more events is same h = subst (λ n. AskedBySeats n events) (let e : seats ≡ more = omega arith in e) h
 
 module _ {S V : Type 0} (core : CoreView S V) (passes : List (PassView V)) where
-  -- without volumes nobody else asked; with them, no pass has a call pending
+  -- without volumes nobody else asked; with volumes, no pass has a call pending
   pub alone : {A : Type 0} (volumes : List (VolumeView V)) → (volumes ≡ []) ⊎ (A × NonePending passes) → HasNoOthers core.object.events passes → NonePending passes ⊎ HasNoOthers (history_of core volumes) passes
   alone volumes (inl none) h = inr (subst (λ l. HasNoOthers (history_of core l) passes) (sym none) h)
   alone volumes (inr cut) h = inl cut.1
 
--- of the two conditions of volumes, the first
+-- the first of the two conditions on volumes
 pub first_of : {A B C : Type 0} → A ⊎ (B × C) → A ⊎ B
 first_of (inl a) = inl a
 first_of (inr both) = inr both.0

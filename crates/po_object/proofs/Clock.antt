@@ -1,4 +1,4 @@
--- The clock of an object never falls, so a tick raises it to the time that it names at least.
+-- The clock of an object never falls, so a tick raises it at least to the time that it names.
 use Rattle.std.proofs.Common.{◌≡◌, ℕ, ◌+◌, ◌≤◌, List, [], ◌∷◌, refl, ap, arith, Bool, true, false, not, ◌&&◌, Option, Some, None, Result, Ok, Err, if◌then◌else◌, map}
 use Rattle.std.specs.List.{count_by, find}
 use Rattle.po_unit.specs.Meaning.{Meaning}
@@ -7,10 +7,10 @@ use Rattle.po_unit.specs.declared.outcome.Outcome.TheVariants.{Complete, Raise, 
 use Rattle.po_calls.specs.declared.call.Call.{Call}
 use Rattle.po_calls.specs.declared.end.End.TheVariants.{Cancelled, ProgramError}
 use Rattle.po_history.specs.declared.event.Event.{Event}
-use Rattle.po_history.specs.declared.event.Event.TheVariants.{Issue, Ran, Abort, Tick, Final, Serve, Break, Expire}
+use Rattle.po_history.specs.declared.event.Event.TheVariants.{Issue, Ran, Cancel, Tick, Final, Serve, Break, Expire}
 use Rattle.po_engine.specs.WaitingCalls.{is_on, has_number, mark}
 use Rattle.po_engine.specs.ObjectState.{ObjectState, counts_in, barrier_in}
-use Rattle.po_engine.specs.Step.{step, replay, enter, end_call, queue, conclude, run_body, arrive, serve, cancel, abort, advance, take_out, is_full}
+use Rattle.po_engine.specs.Step.{step, replay, enter, end_call, queue, conclude, run_body, arrive, serve, cancel, attempt_cancel, advance, take_out, is_full}
 use Rattle.po_core.specs.View.{View}
 use Rattle.po_core.specs.ProtectedAction.{IsProtectedAction}
 
@@ -43,15 +43,15 @@ module _ {S V : Type 0} (m : Meaning S V) (limit : Option ℕ) where
   clock-cancel p n None = refl
   clock-cancel p n (Some x) = refl
 
-  clock-abort : (p : ObjectState S V) (n : ℕ) (o : Option (Call V)) → (abort p n o).clock ≡ p.clock
-  clock-abort p n None = refl
-  clock-abort p n (Some x) = clock-if x.without_abort p (record p { waiting = map (mark n) p.waiting }) (cancel p n (Some x)) refl refl
+  clock-attempt : (p : ObjectState S V) (n : ℕ) (o : Option (Call V)) → (attempt_cancel p n o).clock ≡ p.clock
+  clock-attempt p n None = refl
+  clock-attempt p n (Some x) = clock-if x.without_abort p (record p { waiting = map (mark n) p.waiting }) (cancel p n (Some x)) refl refl
 
   -- no event lets the clock fall
   step-clock : (p : ObjectState S V) (e : Event V) → p.clock ≤ (step m limit p e).clock
   step-clock p (Issue n owner e v d) = omega (arith, clock-arrive (record p { next = p.next + 1 }) (record { number = n; owner = owner; entry = e; value = v; without_abort = false; aborted = false; deadline = d }) (barrier_in m p e))
   step-clock p (Ran owner op v reply) = omega arith
-  step-clock p (Abort n) = omega (arith, clock-abort p n (find (has_number n) p.waiting))
+  step-clock p (Cancel n) = omega (arith, clock-attempt p n (find (has_number n) p.waiting))
   step-clock p (Tick t) = omega arith
   step-clock p Final = omega arith
   step-clock p (Serve e) = omega (arith, clock-serve p e (find (is_on e) p.waiting))
@@ -63,7 +63,7 @@ module _ {S V : Type 0} (m : Meaning S V) (limit : Option ℕ) where
   replay-clock p [] = omega arith
   replay-clock p (e ∷ es) = omega (arith, step-clock p e, replay-clock (step m limit p e) es)
 
--- after a tick the clock is at the time that it names, or past it
+-- after a tick the clock is at or past the time that the tick names
 pub clock-tick : {S V : Type 0} (m : Meaning S V) (old new : View S V) (t : ℕ) → IsProtectedAction m old new (Tick t) → t ≤ new.state.clock
 clock-tick m old new t a =
     let limit = old.setup.max_queue in

@@ -3,10 +3,10 @@ use Rattle.std.proofs.Common.{◌≡◌, ℕ, ◌+◌, ap, sym, arith, subst, re
 use Rattle.po_unit.specs.Meaning.{Meaning}
 use Rattle.po_calls.specs.declared.call.Call.{Call}
 use Rattle.po_calls.specs.declared.call.Deadline.{Deadline}
-use Rattle.po_history.specs.declared.event.Event.TheVariants.{Issue, Ran, Abort, Tick, Final}
+use Rattle.po_history.specs.declared.event.Event.TheVariants.{Issue, Ran, Cancel, Tick, Final}
 use Rattle.po_engine.specs.Finding.{IsFound}
 use Rattle.po_core.specs.View.{View}
-use Rattle.po_core.specs.ProtectedAction.{IsProtectedAction, IsAbortOfCall, without_event}
+use Rattle.po_core.specs.ProtectedAction.{IsProtectedAction, IsAttemptOnCall, without_event}
 use Rattle.po_core.specs.Cutting.{cut}
 use Rattle.po_core.proofs.Counting.{action-next, action-ran}
 use Rattle.po_object.specs.Counted.{IsCounted}
@@ -30,10 +30,10 @@ module _ {S V : Type 0} (m : Meaning S V) where
     ran = omega (arith, action-ran m old new (Tick t) a, h.ran);
   }
 
-  counted-abort : (old new : View S V) (n calls procedures : ℕ) → IsProtectedAction m old new (Abort n) → IsCounted old calls procedures → IsCounted new calls procedures
-  counted-abort old new n calls procedures a h = record {
-    issued = omega (arith, action-next m old new (Abort n) a, h.issued, ap (λ made. made.first_number) a.setup);
-    ran = omega (arith, action-ran m old new (Abort n) a, h.ran);
+  counted-attempt : (old new : View S V) (n calls procedures : ℕ) → IsProtectedAction m old new (Cancel n) → IsCounted old calls procedures → IsCounted new calls procedures
+  counted-attempt old new n calls procedures a h = record {
+    issued = omega (arith, action-next m old new (Cancel n) a, h.issued, ap (λ made. made.first_number) a.setup);
+    ran = omega (arith, action-ran m old new (Cancel n) a, h.ran);
   }
 
   counted-base : (view : View S V) (calls procedures : ℕ) → IsCounted view calls procedures → IsCounted (cut m view) calls procedures
@@ -46,27 +46,27 @@ module _ {S V : Type 0} (m : Meaning S V) where
   counted-kept : (view : View S V) (calls procedures : ℕ) → IsCounted view calls procedures → IsCounted (without_event view) calls procedures
   counted-kept view calls procedures h = record { issued = h.issued; ran = h.ran }
 
-  counted-mark : (old new : View S V) (n calls procedures : ℕ) (x : Call V) (without_abort aborted : Bool) → x.without_abort ≡ without_abort → x.aborted ≡ aborted → IsAbortOfCall m old new n x → IsCounted old calls procedures → IsCounted new calls procedures
-  counted-mark old new n calls procedures x false aborted s t a h = counted-abort old new n calls procedures (a.cancelled s) h
-  counted-mark old new n calls procedures x true false s t a h = counted-abort old new n calls procedures (a.marked s t).0 h
+  counted-mark : (old new : View S V) (n calls procedures : ℕ) (x : Call V) (without_abort aborted : Bool) → x.without_abort ≡ without_abort → x.aborted ≡ aborted → IsAttemptOnCall m old new n x → IsCounted old calls procedures → IsCounted new calls procedures
+  counted-mark old new n calls procedures x false aborted s t a h = counted-attempt old new n calls procedures (a.cancelled s) h
+  counted-mark old new n calls procedures x true false s t a h = counted-attempt old new n calls procedures (a.marked s t).0 h
   counted-mark old new n calls procedures x true true s t a h =
       subst (λ view. IsCounted view calls procedures) (sym (a.kept s t)) (counted-kept old calls procedures h)
 
   -- an attempt to cancel a call changes neither count
-  pub counted-abort_of : (old new : View S V) (n calls procedures : ℕ) (o : Option (Call V)) → IsFound (IsAbortOfCall m old new n) o → IsCounted old calls procedures → IsCounted new calls procedures
-  counted-abort_of old new n calls procedures None a h = absurd a
-  counted-abort_of old new n calls procedures (Some x) a h =
+  pub counted-attempt_of : (old new : View S V) (n calls procedures : ℕ) (o : Option (Call V)) → IsFound (IsAttemptOnCall m old new n) o → IsCounted old calls procedures → IsCounted new calls procedures
+  counted-attempt_of old new n calls procedures None a h = absurd a
+  counted-attempt_of old new n calls procedures (Some x) a h =
       counted-mark old new n calls procedures x x.without_abort x.aborted refl refl a h
 
-  mark-setup : (old new : View S V) (n : ℕ) (x : Call V) (without_abort aborted : Bool) → x.without_abort ≡ without_abort → x.aborted ≡ aborted → IsAbortOfCall m old new n x → new.setup ≡ old.setup
+  mark-setup : (old new : View S V) (n : ℕ) (x : Call V) (without_abort aborted : Bool) → x.without_abort ≡ without_abort → x.aborted ≡ aborted → IsAttemptOnCall m old new n x → new.setup ≡ old.setup
   mark-setup old new n x false aborted s t a = (a.cancelled s).setup
   mark-setup old new n x true false s t a = (a.marked s t).0.setup
   mark-setup old new n x true true s t a = ap (λ view. view.setup) (a.kept s t)
 
   -- nor does it change the declarations
-  pub abort-shape : (old new : View S V) (n : ℕ) (o : Option (Call V)) → IsFound (IsAbortOfCall m old new n) o → new.setup.shape ≡ old.setup.shape
-  abort-shape old new n None a = absurd a
-  abort-shape old new n (Some x) a = ap (λ made. made.shape) (mark-setup old new n x x.without_abort x.aborted refl refl a)
+  pub attempt-shape : (old new : View S V) (n : ℕ) (o : Option (Call V)) → IsFound (IsAttemptOnCall m old new n) o → new.setup.shape ≡ old.setup.shape
+  attempt-shape old new n None a = absurd a
+  attempt-shape old new n (Some x) a = ap (λ made. made.shape) (mark-setup old new n x x.without_abort x.aborted refl refl a)
 
   -- a finalization changes neither count
   pub counted-final : (old new : View S V) (calls procedures : ℕ) → IsProtectedAction m old new Final → IsCounted old calls procedures → IsCounted new calls procedures

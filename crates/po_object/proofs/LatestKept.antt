@@ -1,4 +1,4 @@
--- What is known of the calls of seats is true at first, stays true, and finds the call of a seat.
+-- What is known of the seats' calls is true at first, stays true, and finds the call of a seat.
 use Rattle.std.proofs.Common.{◌≡◌, ◌≢◌, ℕ, zero, suc, ◌+◌, ◌<◌, ◌≤◌, ◌==◌, List, length, get_or, set, refl, subst, ap, sym, ◌∙◌, arith, inl, inr, Bool, true, false, cond, ◌&&◌, nat_le, nat_lt, Option, Some, None, is_some, if◌then◌else◌}
 use Rattle.std.specs.List.{find, All, count_by}
 use Rattle.std.specs.Option.{option_map}
@@ -13,7 +13,7 @@ use Rattle.po_calls.specs.declared.end.End.{End}
 use Rattle.po_calls.specs.declared.end.CallStatus.TheVariants.{Unknown, Waiting}
 use Rattle.po_calls.specs.declared.ticket.Ticket.{Ticket}
 use Rattle.po_history.specs.declared.event.Event.{Event}
-use Rattle.po_history.specs.declared.event.Event.TheVariants.{Issue, Abort}
+use Rattle.po_history.specs.declared.event.Event.TheVariants.{Issue, Cancel}
 use Rattle.po_engine.specs.declared.ended.Ended.{Ended}
 use Rattle.po_engine.specs.WaitingCalls.{is_of, has_number}
 use Rattle.po_engine.specs.Ending.{has_ended}
@@ -22,7 +22,7 @@ use Rattle.po_engine.specs.Tickets.{number_at, SetsTicket, is_number, is_live, s
 use Rattle.po_engine.proofs.Lists.{found_passes}
 use Rattle.po_engine.specs.ObjectState.{ObjectState}
 use Rattle.po_core.specs.View.{View, IsInOnePlace}
-use Rattle.po_core.specs.ProtectedAction.{IsProtectedAction, IsAbortOf, IsAbortOfCall}
+use Rattle.po_core.specs.ProtectedAction.{IsProtectedAction, IsAttemptOf, IsAttemptOnCall}
 use Rattle.po_core.proofs.Counting.{action-next}
 use Rattle.po_core.proofs.Finds.{All-found, find_agree, none-found, none-passes}
 use Rattle.po_core.proofs.Remaining.{OfIssued, of-action, waiting-issued}
@@ -37,7 +37,7 @@ use Rattle.po_object.proofs.Waits.{counted-too}
 abbrev pub IsTrueOfEach : List Latest → ℕ → ℕ → Type 0
 IsTrueOfEach calls number owner = (seat : ℕ) → IsTrueOf (latest_of calls seat) seat number owner
 
--- the noted tickets are live where they are of the call with this number
+-- the noted tickets are live if they are of the call with this number
 abbrev pub IsTicketOfEach : List (Option ℕ) → List Latest → ℕ → Type 0
 IsTicketOfEach tickets calls number = (seat : ℕ) → IsTicketOf tickets (latest_of calls seat) number
 
@@ -56,7 +56,7 @@ module _ {S V : Type 0} (m : Meaning S V) (calls : List Latest) (old new : CoreV
     live = subst (λ tickets. All (λ x. IsTicketOfEach tickets calls x.number) new.object.state.waiting) (sym kept) (of-action (λ number owner. IsTicketOfEach old.tickets calls number) m old.object new.object own a ticket_of h.live);
   }
 
-  -- what is known is of the state and the tickets alone
+  -- what is known depends only on the state and the tickets
   pub known-same : new.object.state ≡ old.object.state → KnowsLatest calls old → KnowsLatest calls new
   known-same state h = record {
     issued = λ seat. subst (λ s. IsIssued s.next (latest_of calls seat)) (sym state) (h.issued seat);
@@ -64,18 +64,18 @@ module _ {S V : Type 0} (m : Meaning S V) (calls : List Latest) (old new : CoreV
     live = subst (λ tickets. All (λ x. IsTicketOfEach tickets calls x.number) new.object.state.waiting) (sym kept) (subst (λ s. All (λ x. IsTicketOfEach old.tickets calls x.number) s.waiting) (sym state) h.live);
   }
 
-  known_marks : (n : ℕ) (x : Call V) (without_abort aborted : Bool) → x.without_abort ≡ without_abort → x.aborted ≡ aborted → IsAbortOfCall m old.object new.object n x → KnowsLatest calls old → KnowsLatest calls new
-  known_marks n x false aborted s t a h = known-action (Abort n) (a.cancelled s) tt tt h
-  known_marks n x true false s t a h = known-action (Abort n) (a.marked s t).0 tt tt h
+  known_marks : (n : ℕ) (x : Call V) (without_abort aborted : Bool) → x.without_abort ≡ without_abort → x.aborted ≡ aborted → IsAttemptOnCall m old.object new.object n x → KnowsLatest calls old → KnowsLatest calls new
+  known_marks n x false aborted s t a h = known-action (Cancel n) (a.cancelled s) tt tt h
+  known_marks n x true false s t a h = known-action (Cancel n) (a.marked s t).0 tt tt h
   known_marks n x true true s t a h = known-same (ap (λ view. view.state) (a.kept s t)) h
 
-  known_abort : (n : ℕ) (o : Option (Call V)) → IsFound (IsAbortOfCall m old.object new.object n) o → KnowsLatest calls old → KnowsLatest calls new
-  known_abort n None a h = absurd a
-  known_abort n (Some x) a h = known_marks n x x.without_abort x.aborted refl refl a h
+  known_attempt : (n : ℕ) (o : Option (Call V)) → IsFound (IsAttemptOnCall m old.object new.object n) o → KnowsLatest calls old → KnowsLatest calls new
+  known_attempt n None a h = absurd a
+  known_attempt n (Some x) a h = known_marks n x x.without_abort x.aborted refl refl a h
 
   -- what is known stays true over an attempt to cancel a call
-  pub known-abort_of : (n : ℕ) → IsAbortOf m old.object new.object n → KnowsLatest calls old → KnowsLatest calls new
-  known-abort_of n a h = known_abort n (find (has_number n) old.object.state.waiting) a h
+  pub known-attempt_of : (n : ℕ) → IsAttemptOf m old.object new.object n → KnowsLatest calls old → KnowsLatest calls new
+  known-attempt_of n a h = known_attempt n (find (has_number n) old.object.state.waiting) a h
 
 number_of_found : {V : Type 0} (n : ℕ) (x : Call V) → has_number n x ≡ true → x.number ≡ n
 number_of_found n x is = grind (arith, nat_tests)
@@ -138,16 +138,16 @@ module _ {S V : Type 0} (core : CoreView S V) (ticket : Ticket) where
   its_end : (end : End V) → Some end ≡ end_of_ticket core ticket → (is_live core.tickets ticket ≡ true) × (is_some (find (has_ended ticket.number) core.object.state.ended) ≡ true)
   its_end end h = ended_by (is_live core.tickets ticket) (find (has_ended ticket.number) core.object.state.ended) (find (has_number ticket.number) core.object.state.waiting) end h
 
-  -- a ticket whose end is there is of an uncollected call
+  -- a ticket whose end is known is of an uncollected call
   pub ended-ticket : (end : End V) → Some end ≡ end_of_ticket core ticket → number_at core.tickets ticket.key ≡ Some ticket.number
   ended-ticket end h = number_by (number_at core.tickets ticket.key) ticket.number (its_end end h).0
 
-  -- which doesn't wait
+  -- and that call doesn't wait
   not_it : (end : End V) (n : ℕ) → Some end ≡ end_of_ticket core ticket → find (has_ended n) core.object.state.ended ≡ None → n ≢ ticket.number
   not_it end n h none same =
       let bad : false ≡ true = ap is_some (sym none) ∙ (ap (λ k. is_some (find (has_ended k) core.object.state.ended)) same ∙ (its_end end h).1) in cc
 
-  -- a live ticket of a call that waits is that of a call that waits
+  -- if a call waits and a live ticket has its number, the ticket is of a waiting call
   pub waits-at : (first : ℕ) (p : Call V → Bool) (x : Call V) → IsInOnePlace first core.object.state → is_live core.tickets ticket ≡ true → find p core.object.state.waiting ≡ Some x → x.number ≡ ticket.number → status_of_ticket core ticket ≡ Waiting
   waits-at first p x placed live found same =
       let s = core.object.state in
@@ -159,11 +159,11 @@ module _ {S V : Type 0} (core : CoreView S V) (ticket : Ticket) where
   waits_as first p None is placed live number = cc
   waits_as first p (Some x) is placed live number = let same : x.number ≡ ticket.number = cc in waits-at first p x placed live is same
 
-  -- the call of a live ticket that was found waiting isn't refused its cancellation
+  -- the cancellation of a waiting call isn't refused, if it was found by a live ticket
   pub cancels : (first : ℕ) (p : Call V → Bool) → IsInOnePlace first core.object.state → is_live core.tickets ticket ≡ true → Some ticket.number ≡ option_map (λ x. x.number) (find p core.object.state.waiting) → cancel_refusal (status_of_ticket core ticket) ≡ None
   cancels first p placed live number = ap cancel_refusal (waits_as first p (find p core.object.state.waiting) refl placed live number)
 
--- what holds by the number of a call holds of the call
+-- what holds of the number of a call holds of the call
 pub found-by : {V : Type 0} (n : ℕ) (P : ℕ → Type 0) (o : Option (Call V)) → Some n ≡ option_map (λ x. x.number) o → P n → IsFound (λ x. P x.number) o
 found-by n P None is p = cc
 found-by n P (Some x) is p = let same : n ≡ x.number = cc in subst P same p
@@ -171,7 +171,7 @@ found-by n P (Some x) is p = let same : n ≡ x.number = cc in subst P same p
 some_same : (a b : ℕ) → Some a ≡ Some b → a ≡ b
 some_same a b e = cc
 
--- a ticket stays live where that of another call is taken
+-- a ticket stays live if the ticket of another call is taken
 ticket_left : (l : Latest) (old new : List (Option ℕ)) (ticket : Ticket) (number : ℕ) → number_at old ticket.key ≡ Some ticket.number → number ≢ ticket.number → SetsTicket old new ticket.key None → IsTicketOf old l number → IsTicketOf new l number
 ticket_left Never old new ticket number there other sets h = tt
 ticket_left (Only t) old new ticket number there other sets h = λ is. elim (cases_eq t.key ticket.key) [
@@ -180,7 +180,7 @@ ticket_left (Only t) old new ticket number there other sets h = λ is. elim (cas
 ]
 ticket_left Several old new ticket number there other sets h = tt
 
--- what is known stays true where an end is collected
+-- what is known stays true if an end is collected
 pub known-collected : {S V : Type 0} (calls : List Latest) (first : ℕ) (old new : CoreView S V) (ticket : Ticket) (end : End V) → new.object ≡ old.object → Some end ≡ end_of_ticket old ticket → SetsTicket old.tickets new.tickets ticket.key None → IsInOnePlace first old.object.state → KnowsLatest calls old → KnowsLatest calls new
 known-collected {S} {V} calls first old new ticket end same ended sets placed h = record {
   issued = λ seat. subst (λ (view : View S V). IsIssued view.state.next (latest_of calls seat)) (sym same) (h.issued seat);
@@ -197,16 +197,16 @@ module _ {S V : Type 0} (calls : List Latest) (core : CoreView S V) (seat : ℕ)
       let x = get_or core.object.state.waiting k d in
       subst (λ i. IsTrueOf i seat x.number x.owner) (sym is) (h.waiting k d within seat)
 
-  -- a seat that has issued no call has none that waits
+  -- a seat that has issued no call has no waiting call
   pub never-waits : Never ≡ latest_of calls seat → find (is_of seat) core.object.state.waiting ≡ None
   never-waits is = none-found (is_of seat) core.object.state.waiting (known_of Never is)
 
   module _ (t : Ticket) (is : Only t ≡ latest_of calls seat) where
-    -- the call of a seat is found by the number of its latest one
+    -- the call of a seat is found by the number of the seat's latest call
     found_by_number : find (is_of seat) core.object.state.waiting ≡ find (has_number t.number) core.object.state.waiting
     found_by_number = find_agree (is_of seat) (has_number t.number) core.object.state.waiting (known_of (Only t) is)
 
-    -- it waits where its ticket is that of a call that waits
+    -- it waits if its ticket is of a waiting call
     pub only-waits : status_of_ticket core t ≡ Waiting → (is_live core.tickets t ≡ true) × (Some t.number ≡ option_map (λ x. x.number) (find (is_of seat) core.object.state.waiting))
     only-waits at =
         let w = waits_by (is_live core.tickets t) (find (has_ended t.number) core.object.state.ended) (find (has_number t.number) core.object.state.waiting) at in
@@ -221,11 +221,11 @@ module _ {S V : Type 0} (calls : List Latest) (core : CoreView S V) (seat : ℕ)
         let ticket = subst (λ l. IsTicketOf core.tickets l x.number) (sym is) (All-found (has_number t.number) (λ y. IsTicketOfEach core.tickets calls y.number) core.object.state.waiting x found h.live seat) in
         absurd (not (waits-at core t first (has_number t.number) x placed (live_of t core.tickets (ticket (sym same))) found same))
 
-    -- and else none of the seat waits
+    -- otherwise no call of the seat waits
     pub only-ended : (first : ℕ) → IsInOnePlace first core.object.state → status_of_ticket core t ≢ Waiting → find (is_of seat) core.object.state.waiting ≡ None
     only-ended first placed not = found_by_number ∙ gone first (find (has_number t.number) core.object.state.waiting) refl placed not
 
--- what is known of a seat that issues a call
+-- what is known of a seat after it has issued a call
 abbrev pub latest_after : Bool → Ticket → Latest
 latest_after idle t = if idle then Only t else Several
 
@@ -265,7 +265,7 @@ ticket_here : (idle : Bool) (t : Ticket) (tickets : List (Option ℕ)) (number :
 ticket_here true t tickets number there = λ same. there
 ticket_here false t tickets number there = tt
 
--- a ticket that was live for the call stays so where one more is set
+-- a ticket that was live for the call stays so if one more is set
 ticket_stays : (l : Latest) (old new : List (Option ℕ)) (key n number : ℕ) → number_at old key ≡ None → SetsTicket old new key (Some n) → IsTicketOf old l number → IsTicketOf new l number
 ticket_stays Never old new key n number vacant sets h = tt
 ticket_stays (Only t) old new key n number vacant sets h = λ is. elim (cases_eq t.key key) [
@@ -274,14 +274,14 @@ ticket_stays (Only t) old new key n number vacant sets h = λ is. elim (cases_eq
 ]
 ticket_stays Several old new key n number vacant sets h = tt
 
--- a call that is issued is of no earlier ticket
+-- no earlier ticket is of a call that is now issued
 ticket_other : (l : Latest) (tickets : List (Option ℕ)) (next n : ℕ) → n ≡ next → IsIssued next l → IsTicketOf tickets l n
 ticket_other Never tickets next n is h = tt
 ticket_other (Only t) tickets next n is h = λ same. absurd (omega (arith, same, is, h))
 ticket_other Several tickets next n is h = tt
 
 module _ (calls : List Latest) (seat : ℕ) (ticket : Ticket) (idle : Bool) (inside : seat < length calls) where
-  -- with one more call of the seat
+  -- what is known, with one more call of the seat
   abbrev after : List Latest
   after = set calls seat (latest_after idle ticket)
 
@@ -292,7 +292,7 @@ module _ (calls : List Latest) (seat : ℕ) (ticket : Ticket) (idle : Bool) (ins
   ]
 
   module _ {S V : Type 0} (old new : CoreView S V) (h : KnowsLatest calls old) where
-    -- what is then known is true of the waiting calls, of which none is of the seat if it is idle
+    -- what is then known is true of the waiting calls, and none of these is of the seat if it is idle
     known_before : (idle ≡ true → find (is_of seat) old.object.state.waiting ≡ None) → All (λ x. x.number < ticket.number) old.object.state.waiting → All (λ x. IsTrueOfEach after x.number x.owner) old.object.state.waiting
     known_before free below k d within =
         let x = get_or old.object.state.waiting k d in

@@ -5,7 +5,7 @@ use Rattle.std.specs.List.{slice_get}
 use Rattle.std.proofs.lemmas.Bool.Decides.{nat_tests}
 use Rattle.po_unit.specs.declared.decl.Decl.{Decl}
 use Rattle.po_unit.specs.declared.decl.EntryRef.{EntryRef}
-use Rattle.po_unit.specs.declared.fault.IndexFault.{IndexFault}
+use Rattle.po_unit.specs.declared.error.IndexError.{IndexError}
 use Rattle.po_unit.specs.Numbering.{flat_number}
 use Rattle.po_engine.specs.Tickets.{uncollected}
 use Rattle.po_core.specs.declared.refusal.Refusal.{Refusal}
@@ -16,7 +16,7 @@ use Rattle.po_core.specs.Refusals.{MayRefuse, if_full, if_finalized, if_private,
 use Rattle.po_object.specs.Reservations.{HasRoomFor}
 use Rattle.po_object.specs.Refused.{IsOutOfMemory, IsCallRefusal, IsTickRefusal, IsTickRefusalOf}
 
--- memory may be wanting
+-- memory may run out
 pub out-of-memory : (bounded : Bool) → bounded ≡ false → IsOutOfMemory bounded OutOfMemory
 out-of-memory bounded is = subst (λ b. IsOutOfMemory b OutOfMemory) (sym is) refl
 
@@ -38,7 +38,7 @@ module _ {S V : Type 0} (core : CoreView S V) where
   either o bounded is room None r may = inl (subst (λ x. IsOutOfMemory bounded x) (sym may.1) (out-of-memory bounded (sym is ∙ grows o room may.0)))
   either o bounded is room (Some why) r may = inr (ap (λ x. Some x) (sym may))
 
-  -- it is of the command, or memory was wanting
+  -- it is that of the command, or memory has run out
   pub refused-either : (o : Option ℕ) (filed bounded : Bool) → is_some o ≡ filed → filed ≡ bounded → HasRoomFor core o → (refusal : Option Refusal) (r : Refusal) → MayRefuse core.capacity refusal r → IsOutOfMemory bounded r ⊎ (refusal ≡ Some r)
   refused-either o filed bounded same is room refusal r may = either o bounded (same ∙ is) room refusal r may
 
@@ -46,7 +46,7 @@ module _ {S V : Type 0} (core : CoreView S V) where
   or_none None full is = is
   or_none (Some why) full is = refl
 
-  -- and so it is of a call of a free pass
+  -- and so is that of a call of a free pass
   pub call-refused : (o : Option ℕ) (filed bounded : Bool) → is_some o ≡ filed → filed ≡ bounded → HasRoomFor core o → IfSome o (λ n. 1 ≤ n) → (refusal : Option Refusal) (r : Refusal) → MayRefuse core.capacity (or_else refusal (if_full core.capacity core.tickets)) r → IsOutOfMemory bounded r ⊎ (refusal ≡ Some r)
   call-refused o filed bounded same is room some refusal r may =
       refused-either o filed bounded same is room refusal r (subst (λ why. MayRefuse core.capacity why r) (or_none refusal (if_full core.capacity core.tickets) (has-place o room some)) may)
@@ -55,7 +55,7 @@ module _ {S V : Type 0} (core : CoreView S V) where
   allowed_or None full is = refl
   allowed_or (Some why) full is = cc
 
-  -- a call that is accepted isn't refused
+  -- if a call is accepted, its own refusals don't hold
   pub call-allowed : (refusal : Option Refusal) → or_else refusal (if_full core.capacity core.tickets) ≡ None → refusal ≡ None
   call-allowed refusal is = allowed_or refusal (if_full core.capacity core.tickets) is
 
@@ -63,7 +63,7 @@ module _ {S V : Type 0} (core : CoreView S V) where
   tick_or None other is = refl
   tick_or (Some why) other is = cc
 
-  -- a tick that is accepted wasn't refused for being finalized
+  -- if a tick is accepted, the object isn't finalized
   pub tick-allowed : tick_refusal core ≡ None → finalized_refusal core.object ≡ None
   tick-allowed is = tick_or (finalized_refusal core.object) (if_uncounted core.capacity (next_place core.object)) is
 
@@ -92,19 +92,19 @@ module _ {S V : Type 0} (core : CoreView S V) where
       spent true h = inr (ap (λ x. Some x) (sym h))
       spent false h = let bad : None ≡ Some most = sym h.0 in cc
 
-  -- and which it meets, by what the object is
+  -- and which one it meets, by the object's state
   pub tick-refused-of : (bounded : Bool) → is_some core.capacity ≡ bounded → (r : Refusal) → MayRefuse core.capacity (tick_refusal core) r → IsTickRefusalOf bounded core.object r
   tick-refused-of bounded is r may = subst (λ b. IsTickRefusalOf b core.object r) is (tick_of core.capacity (finalized_refusal core.object) (next_place core.object) r may)
 
 -- a refusal that isn't that of the entry is the other one
-entry-or : (public : Bool) (f : Result ℕ IndexFault) (other : Option Refusal) (r : Refusal)
+entry-or : (public : Bool) (f : Result ℕ IndexError) (other : Option Refusal) (r : Refusal)
     → (if public then if_unindexed f other else Some PrivateEntry) ≡ Some r
     → ((if public then if_unindexed f None else Some PrivateEntry) ≡ Some r) ⊎ (((if public then if_unindexed f None else Some PrivateEntry) ≡ None) × (other ≡ Some r))
 entry-or false f other r is = inl is
 entry-or true (Ok n) other r is = inr (refl, is)
 entry-or true (Err fault) other r is = inl is
 
-private-or : (o : Option Decl) (f : Result ℕ IndexFault) (other : Option Refusal) (r : Refusal) → if_private o (if_unindexed f other) ≡ Some r
+private-or : (o : Option Decl) (f : Result ℕ IndexError) (other : Option Refusal) (r : Refusal) → if_private o (if_unindexed f other) ≡ Some r
     → (if_private o (if_unindexed f None) ≡ Some r) ⊎ ((if_private o (if_unindexed f None) ≡ None) × (other ≡ Some r))
 private-or None f other r is = inl is
 private-or (Some d) f other r is = entry-or d.public f other r is
@@ -121,7 +121,7 @@ call-refusal {S} {V} bounded view shape entry r same (inl none) = inl none
 call-refusal {S} {V} bounded view shape entry r same (inr is) =
     let other = if_finalized view.state (if nat_le 18_446_744_073_709_551_615 view.state.next then Some NumbersSpent else None) in
     let here : entry_refusal shape entry other ≡ Some r = subst (λ (decls : List Decl). entry_refusal decls entry other ≡ Some r) same is in
-    elim (private-or (slice_get shape entry.entry) (flat_number shape entry) other r here) [
+    elim (private-or (slice_get shape entry.declaration) (flat_number shape entry) other r here) [
       | inl own ↦ inr (inl own)
       | inr rest ↦ inr (inr (rest.0, by-state view.state.finalized (nat_le 18_446_744_073_709_551_615 view.state.next) r rest.1))
     ]

@@ -13,12 +13,12 @@ use Rattle.po_core.specs.View.{View, next_place}
 use Rattle.po_core.specs.Headline.{Headline}
 use Rattle.po_core.specs.declared.refusal.Refusal.{Refusal}
 use Rattle.po_core.specs.declared.refusal.Refusal.TheVariants.{NoSuchOperation, NumbersSpent, OutOfMemory}
-use Rattle.po_core.specs.Refusals.{entry_refusal, or_else, if_finalized, issue_refusal, run_refusal, read_refusal, finalized_refusal, cut_refusal}
-use Rattle.po_receipts.specs.OneHistory.{IsWholeLog, HoldsAt, IsReadAt, view_after}
+use Rattle.po_core.specs.Refusals.{entry_refusal, or_else, if_finalized, issue_refusal, procedure_refusal, function_refusal, finalized_refusal, cut_refusal}
+use Rattle.po_receipts.specs.OneHistory.{IsWholeLog, HoldsAt, IsFunctionAt, view_after}
 use Rattle.po_receipts.proofs.OneHistory.{whole-leads, log-counted, held-on, read-on}
 use Rattle.po_object.specs.Refused.{IsOutOfMemory, IsTickRefusalOf}
 
--- where nothing is made of it, nothing is there
+-- if the result is nothing, there was nothing
 pub unqueued : {X Y : Type 0} (f : X → Y) (o : Option X) → None ≡ option_map f o → o ≡ None
 unqueued f None is = refl
 unqueued f (Some x) is = cc
@@ -39,37 +39,37 @@ module _ {S V : Type 0} (m : Meaning S V) (made : Option (Setup S)) (view : View
       (subst (λ (s : ObjectState S V). IsOutOfMemory bounded r ⊎ (entry_refusal view.setup.shape entry (if_finalized s (if nat_le 18_446_744_073_709_551_615 s.next then Some NumbersSpent else None)) ≡ Some r)) now refused)
 
   -- a procedure
-  pub run-refused : (bounded : Bool) (op : ℕ) (r : Refusal) → IsOutOfMemory bounded r ⊎ (run_refusal m view op ≡ Some r)
-      → IsFound (λ setup. HoldsAt m setup (λ v. IsOutOfMemory bounded r ⊎ (run_refusal m v op ≡ Some r)) seen after) made
+  pub run-refused : (bounded : Bool) (op : ℕ) (r : Refusal) → IsOutOfMemory bounded r ⊎ (procedure_refusal m view op ≡ Some r)
+      → IsFound (λ setup. HoldsAt m setup (λ v. IsOutOfMemory bounded r ⊎ (procedure_refusal m v op ≡ Some r)) seen after) made
   run-refused bounded op r refused =
-      held-on m made view (λ v. IsOutOfMemory bounded r ⊎ (run_refusal m v op ≡ Some r)) seen log after is h w later all
+      held-on m made view (λ v. IsOutOfMemory bounded r ⊎ (procedure_refusal m v op ≡ Some r)) seen log after is h w later all
       (subst (λ (t : ObjectState S V × ℕ). IsOutOfMemory bounded r ⊎ ((if nat_le (m.procedures t.0.unit) op then Some NoSuchOperation else if_finalized t.0 (if nat_le 18_446_744_073_709_551_615 t.1 then Some NumbersSpent else None)) ≡ Some r)) (λ i. (now i, here i)) refused)
 
   -- a function
-  pub read-refused : (op : ℕ) (r : Refusal) → read_refusal m view op ≡ Some r → IsFound (λ setup. HoldsAt m setup (λ v. read_refusal m v op ≡ Some r) seen after) made
+  pub read-refused : (op : ℕ) (r : Refusal) → function_refusal m view op ≡ Some r → IsFound (λ setup. HoldsAt m setup (λ v. function_refusal m v op ≡ Some r) seen after) made
   read-refused op r refused =
-      held-on m made view (λ v. read_refusal m v op ≡ Some r) seen log after is h w later all
+      held-on m made view (λ v. function_refusal m v op ≡ Some r) seen log after is h w later all
       (subst (λ (s : ObjectState S V). (if nat_le (m.functions s.unit) op then Some NoSuchOperation else if_finalized s None) ≡ Some r) now refused)
 
-  -- whatever the function answered
+  -- whatever the function returned
   pub read-given : (op : ℕ) (value : V) (r : Result (Result V ℕ) Refusal) → IfOk r (λ reply. reply ≡ m.function view.state.unit op value (counts_in m view.state)) → OnOk r (op < m.functions view.state.unit)
-      → IfOk r (λ reply. IsFound (λ setup. IsReadAt m setup op value reply seen after) made)
+      → IfOk r (λ reply. IsFound (λ setup. IsFunctionAt m setup op value reply seen after) made)
   read-given op value (Ok reply) at has = read-on m made view op value reply seen log after is h w later all has at
   read-given op value (Err why) at has = tt
 
-  pub read-refused-by : (op : ℕ) (r : Result (Result V ℕ) Refusal) → MatchResult r (λ _. read_refusal m view op ≡ None) (λ why. read_refusal m view op ≡ Some why)
-      → IfErr r (λ why. IsFound (λ setup. HoldsAt m setup (λ v. read_refusal m v op ≡ Some why) seen after) made)
+  pub read-refused-by : (op : ℕ) (r : Result (Result V ℕ) Refusal) → MatchResult r (λ _. function_refusal m view op ≡ None) (λ why. function_refusal m view op ≡ Some why)
+      → IfErr r (λ why. IsFound (λ setup. HoldsAt m setup (λ v. function_refusal m v op ≡ Some why) seen after) made)
   read-refused-by op (Ok reply) refused = tt
   read-refused-by op (Err why) refused = read-refused op why refused
 
-  -- both to one that has seen nothing before, by some history
+  -- both, for a caller that has seen nothing before, by some history
   pub first-given : (op : ℕ) (value : V) (r : Result (Result V ℕ) Refusal) → IfOk r (λ reply. reply ≡ m.function view.state.unit op value (counts_in m view.state)) → OnOk r (op < m.functions view.state.unit)
-      → IfOk r (λ reply. (l : List (Event V)) × IsFound (λ setup. IsReadAt m setup op value reply seen l) made)
+      → IfOk r (λ reply. (l : List (Event V)) × IsFound (λ setup. IsFunctionAt m setup op value reply seen l) made)
   first-given op value (Ok reply) at has = (after, read-given op value (Ok reply) at has)
   first-given op value (Err why) at has = tt
 
-  pub first-refused : (op : ℕ) (r : Result (Result V ℕ) Refusal) → MatchResult r (λ _. read_refusal m view op ≡ None) (λ why. read_refusal m view op ≡ Some why)
-      → IfErr r (λ why. (l : List (Event V)) × IsFound (λ setup. HoldsAt m setup (λ v. read_refusal m v op ≡ Some why) seen l) made)
+  pub first-refused : (op : ℕ) (r : Result (Result V ℕ) Refusal) → MatchResult r (λ _. function_refusal m view op ≡ None) (λ why. function_refusal m view op ≡ Some why)
+      → IfErr r (λ why. (l : List (Event V)) × IsFound (λ setup. HoldsAt m setup (λ v. function_refusal m v op ≡ Some why) seen l) made)
   first-refused op (Ok reply) refused = tt
   first-refused op (Err why) refused = (after, read-refused op why refused)
 

@@ -1,4 +1,4 @@
--- There is memory for one call more of each free pass: at first, after each command, and where a call is refused.
+-- There is memory for one more call of each free pass: at first, after each command, and if a call is refused.
 use Rattle.std.proofs.Common.{◌≡◌, ℕ, ◌+◌, ◌≤◌, ◌<◌, Bool, true, false, refl, sym, ap, subst, ◌∙◌, arith, Option, Some, None, is_some}
 use Rattle.std.specs.Option.{option_map}
 use Rattle.std.specs.Prelude.{IfSome}
@@ -8,7 +8,7 @@ use Rattle.po_engine.proofs.TicketCounts.{none-held, one-more, one-less}
 use Rattle.po_core.specs.Tickets.{CoreView, AreIssued}
 use Rattle.po_object.specs.Reservations.{reserved, HasRoomFor}
 
--- the number of places is counted, or not, as before
+-- the places are counted, or not, as before
 pub stays-free : (old new : Option ℕ) → old ≡ option_map (λ n. n + 1) new → is_some new ≡ is_some old
 stays-free old None is = ap is_some (sym is)
 stays-free old (Some n) is = ap is_some (sym is)
@@ -26,14 +26,14 @@ module _ {S V : Type 0} (old new : CoreView S V) (ticket : Ticket) where
       let more = one-more old.tickets new.tickets ticket.key ticket.number vacant sets in
       (r.0, (capacity ∙ r.1.0, omega (arith, r.1.1, more)))
 
-  -- after a call was collected, whose pass has its place again
+  -- after a call was collected, and its pass has its place again
   pub room-collected : (before after : Option ℕ) → after ≡ option_map (λ n. n + 1) before → new.capacity ≡ old.capacity → number_at old.tickets ticket.key ≡ Some ticket.number → SetsTicket old.tickets new.tickets ticket.key None → HasRoomFor old before → HasRoomFor new after
   room-collected None after is capacity there sets room = subst (HasRoomFor new) (sym is) (capacity ∙ room)
   room-collected (Some n) after is capacity there sets room =
       let less = one-less old.tickets new.tickets ticket.key ticket.number there sets in
       subst (HasRoomFor new) (sym is) (room.0, (capacity ∙ room.1.0, omega (arith, room.1.1, less)))
 
--- where tickets and capacity are the same
+-- if tickets and capacity are the same
 pub room-same : {S V : Type 0} (old new : CoreView S V) (o : Option ℕ) → new.tickets ≡ old.tickets → new.capacity ≡ old.capacity → HasRoomFor old o → HasRoomFor new o
 room-same old new None tickets capacity room = capacity ∙ room
 room-same old new (Some n) tickets capacity room = (room.0, (capacity ∙ room.1.0, subst (λ list. uncollected list + n ≤ room.0) (sym tickets) room.1.1))
@@ -42,7 +42,7 @@ none_at : (o : Option ℕ) → ((n : ℕ) → o ≡ Some n → ⊥) → o ≡ No
 none_at None h = refl
 none_at (Some n) h = absurd (h n refl)
 
--- where none was issued, none is uncollected
+-- if no call was issued, none is uncollected
 pub none-open : {S V : Type 0} (core : CoreView S V) → core.object.state.next ≡ core.object.setup.first_number → AreIssued core → uncollected core.tickets ≡ 0
 none-open core none issued = none-held core.tickets (λ k. none_at (number_at core.tickets k) (λ n is. let i = issued k n is in omega (arith, i.0, i.1, none)))
 
@@ -59,7 +59,7 @@ room-first core o same none room = room_by core o core.capacity refl same none r
 some_same : (a b : ℕ) → Some a ≡ Some b → a ≡ b
 some_same a b e = cc
 
--- Room is reserved for one pass after the other: so many have one, and so many parts are left.
+-- Room is reserved for one pass after another: `before` passes have room, and the other parts are left.
 module _ (bounded : Bool) (all : ℕ) where
   both_by : (b : Bool) (before : ℕ) (free rest : Option ℕ) → free ≡ reserved b before → option_map (λ n. n + before) rest ≡ reserved b all → is_some rest ≡ is_some free
   both_by false before free None free_is rest_is = ap is_some (sym free_is)
@@ -76,7 +76,7 @@ module _ (bounded : Bool) (all : ℕ) where
   left_by false before (Some n) is low = cc
   left_by true before (Some n) is low = let same : n + before ≡ all = some_same (n + before) all is in omega (arith, same, low)
 
-  -- there is a part for the next
+  -- there is a part for the next pass
   pub reserve-left : (before : ℕ) (rest : Option ℕ) → option_map (λ n. n + before) rest ≡ reserved bounded all → before + 1 < all → IfSome rest (λ n. 1 < n)
   reserve-left before rest is low = left_by bounded before rest is low
 
@@ -84,11 +84,11 @@ module _ (bounded : Bool) (all : ℕ) where
   more_by false before = refl
   more_by true before = refl
 
-  -- one pass more has its place
+  -- one more pass has its place
   pub reserve-more : (before : ℕ) (free later : Option ℕ) → free ≡ reserved bounded before → later ≡ option_map (λ n. n + 1) free → later ≡ reserved bounded (before + 1)
   reserve-more before free later is more = more ∙ (ap (option_map (λ n. n + 1)) is ∙ more_by bounded before)
 
-  -- and one part less is left
+  -- and one part fewer is left
   pub reserve-rest : (before : ℕ) (rest later : Option ℕ) → rest ≡ option_map (λ n. n + 1) later → option_map (λ n. n + before) rest ≡ reserved bounded all → option_map (λ n. n + (before + 1)) later ≡ reserved bounded all
   reserve-rest before rest None less is = ap (option_map (λ n. n + before)) (sym less) ∙ is
   reserve-rest before rest (Some n) less is =
@@ -99,7 +99,7 @@ module _ (bounded : Bool) (all : ℕ) where
   own_by false before = refl
   own_by true before = refl
 
-  -- it has one place
+  -- the pass has one place
   pub reserve-own : (before : ℕ) (free own : Option ℕ) → free ≡ reserved bounded before → own ≡ option_map (λ n. 1) free → own ≡ reserved bounded 1
   reserve-own before free own is one = one ∙ (ap (option_map (λ n. 1)) is ∙ own_by bounded before)
 
@@ -115,7 +115,7 @@ module _ (bounded : Bool) (all : ℕ) where
   is_by false = refl
   is_by true = refl
 
-  -- places are counted exactly where the number of calls is fixed
+  -- places are counted exactly if the number of calls is fixed
   pub is-reserved : (free : Option ℕ) → free ≡ reserved bounded all → is_some free ≡ bounded
   is-reserved free is = ap is_some is ∙ is_by bounded
 
@@ -123,11 +123,11 @@ module _ (bounded : Bool) (all : ℕ) where
   room_of false capacity room = tt
   room_of true capacity room = room
 
-  -- where there is memory for a call of each pass
+  -- if there is memory for a call of each pass
   pub room-reserved : (free capacity : Option ℕ) → free ≡ reserved bounded all → IfSome capacity (λ most. all ≤ most) → IfSome free (λ n. IfSome capacity (λ most. n ≤ most))
   room-reserved free capacity is room = subst (λ o. IfSome o (λ n. IfSome capacity (λ most. n ≤ most))) (sym is) (room_of bounded capacity room)
 
--- where the number of calls isn't fixed
+-- if the number of calls isn't fixed
 pub room-unbounded : (seats : ℕ) (capacity : Option ℕ) (bounded : Bool) → is_some capacity ≡ bounded → bounded ≡ false → IfSome capacity (λ most. seats ≤ most)
 room-unbounded seats None bounded is grows = tt
 room-unbounded seats (Some most) bounded is grows = let bad : true ≡ false = is ∙ grows in cc

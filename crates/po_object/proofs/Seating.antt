@@ -1,4 +1,4 @@
--- The passes of the seats: handed out, counted, and put by rising seat.
+-- The passes of the seats: handed out, counted, and sorted by rising seat.
 use Rattle.std.proofs.Common.{subst, ◌≡◌, ◌≢◌, ◌<◌, ◌≤◌, ◌+◌, ℕ, zero, suc, inl, inr, Bool, true, false, cond, ◌==◌, List, [], ◌∷◌, ◌++◌, length, slice_get, set, get_or, count_by, filter, sum_by, take, Some, None, refl, sym, ◌∙◌, ap, arith, length-append, append-nil}
 use Rattle.std.specs.List.{find}
 use Rattle.std.proofs.lemmas.Bool.{cases_lt}
@@ -61,7 +61,7 @@ module _ {A : Type 0} where
   one-listed (x ∷ []) e = (x, refl)
   one-listed (x ∷ y ∷ xs) e = absurd (omega (arith, e))
 
-  -- where one element passes, it is the one that is kept
+  -- if exactly one element passes, it is the only one that is kept
   one-kept : (f : A → Bool) (xs : List A) → count_by f xs ≡ 1 → (q : A) × (filter f xs ≡ q ∷ [])
   one-kept f xs e = one-listed (filter f xs) (omega (arith, length-filter f xs, e))
 
@@ -83,7 +83,7 @@ module _ {A : Type 0} where
   found-passes f [] q e = let r : None ≡ Some q = e in absurd (let s : ⊥ = cc in s)
   found-passes f (x ∷ xs) q e = found-passes_here f (f x) x q xs refl e (λ e'. found-passes f xs q e')
 
--- k, if the seat is below n, and else none
+-- k if the seat is below n, otherwise 0
 weigh : ℕ → ℕ → ℕ → ℕ
 weigh zero s k = 0
 weigh (suc n) s k = weigh n s k + cond (s == n) k 0
@@ -102,7 +102,7 @@ weigh-one : (n s : ℕ) → weigh n s 1 ≤ 1
 weigh-one n s = elim (cases_lt s n) [ inl l ↦ omega (arith, weigh-within n s 1 l) | inr g ↦ omega (arith, weigh-past n s 1 g) ]
 
 module _ {V : Type 0} where
-  -- one fresh pass more
+  -- one more fresh pass
   pub fresh-more : (n : ℕ) (ps : List (PassView V)) → AreFresh n ps → AreFresh (n + 1) (ps ++ fresh n ∷ [])
   fresh-more n ps h = (omega (arith, length-append ps (fresh n ∷ []), h.0), λ i lt. elim (cases_lt i n) [ inl l ↦ get-left ps _ i _ (h.1 i l) | inr g ↦ (let e : i ≡ length ps = omega (arith, g, lt, h.0) in let f : i ≡ n = omega (arith, g, lt) in ap (slice_get (ps ++ fresh n ∷ [])) e ∙ get-end ps (fresh n) ∙ ap (λ k. Some (fresh k)) (sym f)) ])
 
@@ -173,7 +173,7 @@ module _ {V : Type 0} where
         | inr y ↦ h s q l (sym (append-nil _) ∙ ap (λ b. filter (is_at s) ps ++ cond b (p ∷ []) []) (sym y.0) ∙ sym f ∙ e)
       ]
 
-  -- where each seat has exactly one pass, they stand by rising seat
+  -- if each seat has exactly one pass, the placed passes are in order of rising seat
   pub placed-by_seat : (n : ℕ) (ps qs : List (PassView V)) → length qs ≡ n → OneEach n ps → ArePlaced n ps qs → AreBySeat n ps qs
   placed-by_seat n ps qs len one h = (
     len,
@@ -182,7 +182,7 @@ module _ {V : Type 0} where
         h s k.0 l k.1 ∙ sym (kept-found (is_at s) ps k.0 [] k.1),
   )
 
-  -- and each stands at the place of its seat
+  -- and each is at the place of its seat
   pub at-seats : (n : ℕ) (ps qs : List (PassView V)) → AreBySeat n ps qs → (s : ℕ) (q : PassView V) → slice_get qs s ≡ Some q → q.seat ≡ s
   at-seats n ps qs h s q e =
       let within = slice_get_within qs s q e in
@@ -204,14 +204,14 @@ module _ {V : Type 0} where
       let longer : sum_by w (take (suc k) qs) ≡ sum_by w (take k qs ++ kept.0 ∷ []) = ap (λ xs. sum_by w xs) (take-get qs k kept.0 here) in
       omega (arith, before, this, longer, sum_by-append w (take k qs) (kept.0 ∷ []), sum_by-cons w kept.0 [])
 
-  -- what the passes have in sum is what they have by rising seat
+  -- the sum over the passes is the sum over them by rising seat
   pub sum-by_seat : (w : PassView V → ℕ) (n : ℕ) (ps qs : List (PassView V)) → length ps ≡ n → length qs ≡ n → OneEach n ps → ArePlaced n ps qs → sum_by w ps ≡ sum_by w qs
   sum-by_seat w n ps qs some len one h =
       sym (all-below w n ps (omega (arith, below-each n ps one, some)))
       ∙ sum-placed w n n ps qs (omega arith) one h
       ∙ ap (λ xs. sum_by w xs) (take-whole qs n (sym len))
 
-  -- one seat more that has exactly one pass
+  -- one more seat that has exactly one pass
   pub one_each-more : (n : ℕ) (ps : List (PassView V)) → OneEach n ps → count_by (is_at n) ps ≡ 1 → OneEach (n + 1) ps
   one_each-more n ps h e s l = elim (cases_lt s n) [ inl a ↦ h s a | inr b ↦ (let same : s ≡ n = omega (arith, b, l) in ap (λ k. count_by (is_at k) ps) same ∙ e) ]
 
@@ -226,7 +226,7 @@ module _ {V : Type 0} where
       let one : cond (f p) 1 0 ≤ suc zero = elim (f p) as (λ b. cond b 1 0 ≤ suc zero) [ true ↦ omega arith | false ↦ omega arith ] in
       omega (arith, first, rest, one)
 
-  -- a pass more is counted at its seat
+  -- one more pass is counted at its seat
   pub counts-more : (n : ℕ) (ps : List (PassView V)) (counts : List ℕ) (p : PassView V) → p.seat < n → AreCounts n ps counts → AreCounts n (ps ++ p ∷ []) (set counts p.seat (get_or counts p.seat 0 + 1))
   counts-more n ps counts p within h = (
     length-set counts p.seat (get_or counts p.seat 0 + 1) ∙ h.0,
@@ -256,7 +256,7 @@ module _ {V : Type 0} where
         ],
   )
 
-  -- a seat of the first passes has at most as many of them as these are
+  -- of the first i passes, a seat has at most i
   pub counts-most : (n i s : ℕ) (ps : List (PassView V)) (counts : List ℕ) → s < n → AreCounts n (take i ps) counts → get_or counts s 0 ≤ i
   counts-most n i s ps counts l h = omega (arith, h.1 s l, count-most (is_at s) (take i ps), take-short ps i)
 
@@ -269,6 +269,6 @@ module _ {V : Type 0} where
         | inr g ↦ subst (λ cs. AreCounts n ps cs) (sym (past (omega (arith, len, same, g, h.0)))) (counts-past n (take i xs) counts p g h)
       ])
 
-  -- what is counted at a seat is how many passes are of it
+  -- the count at a seat is how many passes are of it
   pub seat-count : (n s : ℕ) (ps : List (PassView V)) (counts : List ℕ) (x : ℕ) → AreCounts n ps counts → s < n → x ≡ get_or counts s x → count_by (is_at s) ps ≡ x
   seat-count n s ps counts x h l read = omega (arith, h.1 s l, read, get_or_default_zero counts s x (omega (arith, h.0, l)))

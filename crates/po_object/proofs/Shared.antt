@@ -1,4 +1,4 @@
--- An object may be shared between threads: its lock, the waiting places, the divisions of the ledgers, and the room.
+-- An object may be shared between threads: its lock, its seats, the cut ledgers, and the room.
 use denote.RattleType.{RattleType}
 use denote.Struct.Declared
 use denote.Param.Send as Send
@@ -26,10 +26,10 @@ use Rattle.po_object.specs.contracts.locked_core.LockedCore as LockedCore
 use Rattle.po_object.specs.contracts.object.Object as Object
 use Rattle.po_object.specs.contracts.object.Object.TheInside as Inside
 use Rattle.po_object.specs.contracts.seat.Seat as Seat
-use Rattle.po_object.specs.contracts.steps.Unasked as Unasked
+use Rattle.po_object.specs.contracts.steps.NoHook as NoHook
 use Rattle.po_receipts.specs.contracts.closed_pass.ClosedPass as ClosedPass
 use Rattle.po_object.proofs.seat.Seat.TheSendSync as seat
-use Rattle.po_object.proofs.steps.Unasked.TheSendSync as unasked
+use Rattle.po_object.proofs.steps.NoHook.TheSendSync as unasked
 use Rattle.po_object.proofs.ledgers.SeatParts.TheSendSync as division
 use Rattle.po_receipts.proofs.closed_pass.ClosedPass.TheSendSync as spent
 use Rattle.std.proofs.sync.RwLock.TheSendSync as lock
@@ -86,7 +86,7 @@ locked_sync U C P F R Q V g e j l g' g'' g''' k r n s m t o p w v =
       ),
     )))
 
--- an object that asks any steps which may be shared
+-- an object that asks any steps that may be shared
 pub object_with_sync : (U C P F R Q S V : RattleType) (g : Ghosts C.Denot) (g' : Ghosts P.Denot) (g'' : Unit.Ghosts U.Denot V.Denot) (e : PartialEq.Ghosts V.Denot) (j : Story.Ghosts C.Denot U.Denot V.Denot) (l : CallLedger.Ghosts C.Denot V.Denot) (g''' : Ghosts F.Denot) (k : Record.Ghosts R.Denot U.Denot V.Denot) (r : Receipts.Ghosts Q.Denot V.Denot) → IsSend U → IsSync U → IsSend R → IsSync R → IsSend Q → IsSync Q → IsSend V → IsSync V → IsSync S → IsSync (Object.the_row U C P F R Q S V g g' g'' e j l g''' k r)
 object_with_sync U C P F R Q S V g g' g'' e j l g''' k r n s m t o p w v x =
     Send.view_sync (Inside.the_row U C P F R Q S V g g' g'' e j l g''' k r) _ _ _ _
@@ -117,7 +117,7 @@ object_with_sync U C P F R Q S V g g' g'' e j l g''' k r n s m t o p w v x =
       ),
     )))
 
--- an object that asks no one
-pub object_sync : (U C P F R Q V : RattleType) (g : Ghosts C.Denot) (g' : Ghosts P.Denot) (g'' : Unit.Ghosts U.Denot V.Denot) (e : PartialEq.Ghosts V.Denot) (j : Story.Ghosts C.Denot U.Denot V.Denot) (l : CallLedger.Ghosts C.Denot V.Denot) (g''' : Ghosts F.Denot) (k : Record.Ghosts R.Denot U.Denot V.Denot) (r : Receipts.Ghosts Q.Denot V.Denot) → IsSend U → IsSync U → IsSend R → IsSync R → IsSend Q → IsSync Q → IsSend V → IsSync V → IsSync (Object.the_row U C P F R Q Unasked.the_row V g g' g'' e j l g''' k r)
+-- an object that asks nothing
+pub object_sync : (U C P F R Q V : RattleType) (g : Ghosts C.Denot) (g' : Ghosts P.Denot) (g'' : Unit.Ghosts U.Denot V.Denot) (e : PartialEq.Ghosts V.Denot) (j : Story.Ghosts C.Denot U.Denot V.Denot) (l : CallLedger.Ghosts C.Denot V.Denot) (g''' : Ghosts F.Denot) (k : Record.Ghosts R.Denot U.Denot V.Denot) (r : Receipts.Ghosts Q.Denot V.Denot) → IsSend U → IsSync U → IsSend R → IsSync R → IsSend Q → IsSync Q → IsSend V → IsSync V → IsSync (Object.the_row U C P F R Q NoHook.the_row V g g' g'' e j l g''' k r)
 object_sync U C P F R Q V g g' g'' e j l g''' k r n s m t o p w v =
-    object_with_sync U C P F R Q Unasked.the_row V g g' g'' e j l g''' k r n s m t o p w v unasked.the_sync
+    object_with_sync U C P F R Q NoHook.the_row V g g' g'' e j l g''' k r n s m t o p w v unasked.the_sync

@@ -1,4 +1,4 @@
--- What a closed object has in sum, and where its passes stand.
+-- The totals of a closed object, and the places of its passes.
 use Rattle.std.proofs.Common.{subst, sym, ◌≡◌, ℕ, ◌≤◌, List, [], ◌∷◌, ◌++◌, length, sum_by, slice_get, get_or, ◌∙◌, arith, Bool, true, false, cond, Option, Some}
 use Rattle.std.specs.List.{All, find}
 use Rattle.std.proofs.lemmas.List.Elements.{All-nil, All-cons, All-append, All-head, All-tail}
@@ -19,7 +19,7 @@ use Rattle.po_object.specs.Closing.{IsClosed}
 use Rattle.po_object.proofs.Seating.{placed-by_seat, at-seats, sum-by_seat}
 
 module _ {V : Type 0} (end_of : List (Event V) → ℕ → Option (End V)) where
-  -- one pass more whose caller was told of the log
+  -- one more pass that knows what happened in the log
   pub told-more : (was log : List (Event V)) (ps : List (PassView V)) (p : PassView V) → was ≡ log → IsToldOf end_of was p → All (IsToldOf end_of log) ps → All (IsToldOf end_of log) (ps ++ p ∷ [])
   told-more was log ps p same told h = All-append (IsToldOf end_of log) ps (p ∷ []) h (All-cons (IsToldOf end_of log) p [] (subst (λ l. IsToldOf end_of l p) same told) (All-nil (IsToldOf end_of log)))
 
@@ -27,14 +27,14 @@ found-all : {X : Type 0} (P : X → Type 0) (f : X → Bool) (b : Bool) (x q : X
 found-all P f true x q xs h e rest = let same : x ≡ q = cc in subst P same h
 found-all P f false x q xs h e rest = rest e
 
--- what is found among the passes was told of the log
+-- the pass that is found among these knows what happened in the log
 told-found : {V : Type 0} (f : PassView V → Bool) (end_of : List (Event V) → ℕ → Option (End V)) (log : List (Event V)) (ps : List (PassView V)) (q : PassView V) → find f ps ≡ Some q → All (IsToldOf end_of log) ps → IsToldOf end_of log q
 told-found f end_of log [] q e h = absurd (let r : ⊥ = cc in r)
 told-found f end_of log (p ∷ ps) q e h =
     found-all (IsToldOf end_of log) f (f p) p q ps (All-head (IsToldOf end_of log) p ps h) e (λ e'. told-found f end_of log ps q e' (All-tail (IsToldOf end_of log) p ps h))
 
 module _ {S V : Type 0} where
-  -- the totals of the ledgers are what the passes have in sum, and so what the passes by rising seat have
+  -- the totals of the ledgers are the sums over the passes, and so the sums over the passes by rising seat
   pub closing-totals : (core : CoreView S V) (n calls procedures : ℕ) (ps qs : List (PassView V)) → length ps ≡ n → length qs ≡ n → OneEach n ps → ArePlaced n ps qs → IsCounted core.object calls procedures → calls ≡ sum_by (λ p. p.calls) ps → procedures ≡ sum_by (λ p. p.procedures) ps → HasClosingTotals core qs
   closing-totals core n calls procedures ps qs some len one placed counted made ran = record {
     calls = omega (arith, counted.issued, made, sum-by_seat (λ p. p.calls) n ps qs some len one placed);

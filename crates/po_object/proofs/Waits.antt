@@ -1,4 +1,4 @@
--- What one test finds, another counts too.
+-- If one test finds an item that another passes, the other counts at least one.
 use Rattle.std.proofs.Common.{◌≡◌, ◌+◌, ◌≤◌, List, [], ◌∷◌, refl, ap, sym, ◌∙◌, arith, cond, Bool, true, false, Some}
 use Rattle.std.specs.List.{find, count_by}
 use Rattle.std.proofs.lemmas.List.Sums.{sum_by-cons}

@@ -1,3 +1,4 @@
+-- SPDX-License-Identifier: MIT
 -- What a closed object shows (this project's own).
 use Rattle.std.specs.Prelude.{ℕ, ◌≡◌, ◌≤◌, List, All, length, slice_get, Some}
 use mathlib.Core.List.{IsPrefix}
@@ -16,7 +17,7 @@ pub record ClosedView (S V : Type 0) : Type 0 where
   pub log : List (Event V)
 
 module _ {S V : Type 0} (m : Meaning S V) where
-  -- The passes stand at the places of their seats, and the closing totals are theirs. The log is the whole history, in which
+  -- The passes are at the places of their seats, and the closing totals are theirs. The log is the whole history, in which
   -- nobody else asked for a call or a procedure; each pass has seen a beginning of it. If no call is pending, the receipts of
   -- each seat are those that are due to it.
   pub record IsClosed (closed : ClosedView S V) : Type 0 where

@@ -1,3 +1,4 @@
+-- SPDX-License-Identifier: MIT
 pub mod Closing
 pub mod Counted
 pub mod Faults

@@ -1,5 +1,6 @@
--- Which refusals a call of an object may meet (this project's own). What lies behind the lock isn't known, but for the
--- declarations of its entries, and whether the number of calls is fixed.
+-- SPDX-License-Identifier: MIT
+-- Which refusals a call of an object may meet (this project's own). What is behind the lock isn't known, except the
+-- declarations of the object's entries and whether the number of calls is fixed.
 use Rattle.std.specs.Prelude.{◌≡◌, ◌⊎◌, Bool, true, false, List, Some, None, if◌then◌else◌}
 use Rattle.po_unit.specs.declared.decl.Decl.{Decl}
 use Rattle.po_unit.specs.declared.decl.EntryRef.{EntryRef}
@@ -8,12 +9,12 @@ use Rattle.po_core.specs.Refusals.{entry_refusal, or_else, finalized_refusal, if
 use Rattle.po_core.specs.declared.refusal.Refusal.{Refusal}
 use Rattle.po_core.specs.declared.refusal.Refusal.TheVariants.{NoSuchOperation, Finalized, NumbersSpent, OutOfMemory}
 
--- Memory is wanting. That is no refusal where the number of calls is fixed.
+-- Memory has run out. That is no refusal if the number of calls is fixed.
 abbrev pub IsOutOfMemory : Bool → Refusal → Type 0
 IsOutOfMemory false r = r ≡ OutOfMemory
 IsOutOfMemory true r = ⊥
 
--- of a call on an entry: that of the entry, whatever the object's state, else of the state, or memory is wanting
+-- of a call on an entry: that of the entry, whatever the object's state; otherwise that of the state; or memory has run out
 abbrev pub IsCallRefusal : Bool → List Decl → EntryRef → Refusal → Type 0
 IsCallRefusal bounded shape entry r =
     IsOutOfMemory bounded r
@@ -33,7 +34,7 @@ abbrev pub IsTickRefusal : Bool → Refusal → Type 0
 IsTickRefusal false r = (r ≡ OutOfMemory) ⊎ (r ≡ Finalized)
 IsTickRefusal true r = (r ≡ NumbersSpent) ⊎ (r ≡ Finalized)
 
--- of a tick, by what the object is then
+-- of a tick, by the object's state at that moment
 abbrev pub IsTickRefusalOf : {S V : Type 0} → Bool → View S V → Refusal → Type 0
 IsTickRefusalOf bounded view r =
     IsOutOfMemory bounded r ⊎ (or_else (finalized_refusal view) (if bounded then if_spent view else None) ≡ Some r)

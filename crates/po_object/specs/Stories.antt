@@ -1,3 +1,4 @@
+-- SPDX-License-Identifier: MIT
 -- What a ledger of calls says of the object that is opened with it (this project's own).
 use Rattle.std.specs.Prelude.{ℕ, ◌≡◌, List, Option, Some}
 use Rattle.po_unit.specs.Meaning.{Meaning}
@@ -7,10 +8,10 @@ use Rattle.po_core.specs.Setup.{Setup}
 use Rattle.po_receipts.specs.OneHistory.{end_in}
 
 module _ {S V : Type 0} (m : Meaning S V) (setup : Setup S) where
-  -- how the call with this number has ended by so much of the history of an object that was made so, if it has
+  -- how the call with this number has ended by the end of these events, in an object with this setup, if it has
   abbrev pub ends_by : List (Event V) → ℕ → Option (End V)
   ends_by log number = end_in m setup log number
 
-  -- It says with what the object is made, and how calls end there.
+  -- The ledger says what the object is made with, and how calls end there.
   abbrev pub IsStory : Option (Setup S) → (List (Event V) → ℕ → Option (End V)) → Type 0
   IsStory made end_of = (made ≡ Some setup) × (end_of ≡ ends_by)

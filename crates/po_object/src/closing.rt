@@ -1,3 +1,4 @@
+// SPDX-License-Identifier: MIT
 //! How an object is closed, and what is left of it.
 
 ghost use Rattle.std.specs.Prelude.{◌≡◌, ◌↔◌, true, All, Some, ◌+◌, ◌^◌, ◌<◌, ◌≤◌, IfOk, IfErr, IfSome, IfNone, OnOk, length, vec_len, slice_index, slice_set, sum_by};
@@ -8,11 +9,11 @@ ghost use Rattle.po_receipts.specs.Answers.{AnswersAreOwn, HasClosingTotals, Has
 ghost use Rattle.po_receipts.specs.OneHistory.{IsWholeHistory, IsWholeLog, state_after};
 ghost use Rattle.po_receipts.specs.Told.{IsToldOf};
 
-use crate::fault::CloseFault;
+use crate::error::CloseError;
 use crate::front::Log;
 use crate::ledgers::{CallLedger, SeatParts, Story};
 use crate::object::Object;
-use crate::steps::Steps;
+use crate::steps::Hook;
 use crate::{LockedCore, Pass};
 use po_core::{Core, Event, Record, Recorded, Unrecorded};
 use po_history::Trace;
@@ -22,7 +23,8 @@ use po_unit::Unit;
 use std::marker::Model;
 use std::sync::ledger::{Ledger, Share};
 
-/// An object that was closed: nobody can call it any more. Contracts see it as its core, its passes and its whole history.
+/// An object that was closed, so that no one can call it any more. Contracts see it as its core, its passes and its whole
+/// history.
 #[derive(Drop)]
 pub struct Closed<
     U: Unit,
@@ -48,54 +50,56 @@ impl<U: Unit, R: Record<U>, Q: Receipts<U::Value>> Model for Closed<U, R, Q> {
 }
 
 impl<U: Unit, R: Record<U>, Q: Receipts<U::Value>> Closed<U, R, Q> {
-    /// The core.
+    /// Returns the core.
     pub fn core(&self) -> &Core<U, R>
         ensures { result.now ≡ self.now.core }
     {
         &self.core
     }
 
-    /// The passes, by rising seat.
+    /// Returns the passes, by rising seat.
     pub fn passes(&self) -> &[ClosedPass<U::Value, Q>]
         ensures { result.now ≡ self.now.passes }
     {
         self.passes.as_slice()
     }
 
-    /// The whole history, from the opening on, which proofs alone know.
+    /// Returns the whole history, from the opening on, which only proofs know.
     pub fn log(&self) -> &Seen<Event<U::Value>>
         ensures { result.now.items ≡ self.now.log }
     {
         &self.log
     }
 
-    /// Whether no pass has a call that was accepted and has no receipt. The calls of `Object` leave none behind.
+    /// Returns whether no pass has a call that was accepted but has no receipt. The calls of `Object` leave none pending.
     pub fn none_pending(&self) -> bool
         ensures { (result ≡ true) ↔ NonePending self.now.passes }
     {
         none_pending(self.passes())
     }
 
-    /// What holds of every closed object: the pass of a seat stands at the seat's place; in the whole history as many calls
-    /// were issued, and as many procedures ran, as the passes counted; seats alone asked for them; each pass has seen a
-    /// beginning of it; and if no call is pending, the receipts of each seat are those that the history gives it.
+    /// Proves what holds of every closed object. The pass of a seat is at the seat's place. In the whole history as many calls
+    /// were issued, and as many procedures ran, as the passes counted, and only seats asked for them. Each pass has seen a
+    /// beginning of it. If no call is pending, the receipts of each seat are those that the history gives it.
     pub fn closing_totals(&self)
         ensures { IsClosed U.meaning self.now }
     {
+        // Only for the prover: the use of a field brings in the invariant.
         let _ = &self.core;
     }
 
-    /// What every caller was answered is the history's answer to that caller's own call, each once and in the caller's order.
-    /// This history is one of serial protected actions of one thread (9.5.1), and has no other calls and procedures.
+    /// Proves that what every caller was answered is the history's answer to that caller's own call, each once and in the
+    /// caller's order. This history is one of serial protected actions of one thread (9.5.1), and has no other calls and
+    /// procedures.
     ///
-    /// It holds with a record in memory or none, and whatever was cut off.
+    /// It holds with or without a record in memory, whatever was cut off.
     pub fn every_answer(&self)
-        // `none_pending` tells: the calls of `Object` leave none behind.
+        // `none_pending` says so: the calls of `Object` leave none pending.
         requires { NonePending self.now.passes }
         ensures own { AnswersAreOwn (state_after U.meaning self.now.core.object.setup self.now.log).ended self.now.log self.now.passes }
         ensures serial { IsWholeHistory U.meaning self.now.core.object.setup self.now.log }
         ensures none_other { HasNoOthers self.now.log self.now.passes }
-        // It is what was cut off, in its order, and the events since.
+        // The log is what was cut off, in its order, and the events since.
         ensures whole { IsWholeLog U.meaning self.now.core.object self.now.log }
     {
         self.core.headline();
@@ -110,15 +114,15 @@ impl<
     F: Ledger,
     R: Record<U>,
     Q: Receipts<U::Value>,
-    S: Steps,
+    S: Hook,
 > Object<U, C, P, F, R, Q, S> {
-    /// Closes the object, where each seat has exactly one of the passes. No memory is taken.
+    /// Closes the object, if each seat has exactly one of the passes. Takes no memory.
     ///
-    /// Else the fault names the lowest seat that hasn't, and hands the object and the passes back.
+    /// Otherwise the error names the lowest seat that hasn't, and hands the object and the passes back.
     pub fn close(
         self,
         passes: Vec<Pass<U::Value, C, P, F, Q>>,
-    ) -> Result<Closed<U, R, Q>, CloseFault<U, C, P, F, R, Q, S>>
+    ) -> Result<Closed<U, R, Q>, CloseError<U, C, P, F, R, Q, S>>
         ensures one_each { OnOk result (OneEach self passes.items × (length passes.items ≡ self)) }
         ensures by_seat { IfOk result (λ closed. AreBySeat self passes.items closed.passes) }
         ensures totals { IfOk result (λ closed. HasClosingTotals closed.core closed.passes) }
@@ -128,7 +132,7 @@ impl<
     {
         let mut object = self;
         if let Some(seat) = object.missing(&passes) {
-            return Err(CloseFault::PassMissing {
+            return Err(CloseError::PassMissing {
                 seat,
                 object,
                 passes,
@@ -156,9 +160,9 @@ impl<
     F: Ledger,
     R: Record<U>,
     Q: Receipts<U::Value>,
-    S: Steps,
+    S: Hook,
 > Object<U, C, P, F, R, Q, S> {
-    /// The lowest seat that hasn't exactly one of the passes.
+    /// Returns the lowest seat that hasn't exactly one of the passes.
     fn missing(&mut self, passes: &Vec<Pass<U::Value, C, P, F, Q>>) -> Option<u16>
         ensures same { self.new ≡ self.old }
         ensures some { IfSome result (λ s. IsMissing self.old passes.now.items s) }
@@ -187,7 +191,7 @@ fn count<V: Copy, C: CallLedger<V>, P: Ledger, F: Ledger, Q: Receipts<V>>(
     }
 }
 
-/// Counts one pass more of the seat, if there is such a seat.
+/// Counts one more pass of the seat, if there is such a seat.
 fn count_one(counts: &mut Vec<usize>, seat: u16)
     requires { seat < vec_len counts.old → slice_index counts.old.items seat + 1 < 2 ^ 64 }
     ensures within { seat < vec_len counts.old →
@@ -226,6 +230,7 @@ fn gather<
     let (core, mut calls_book, mut procedures_book, mut made, mut ran, mut log) =
         locked.take_apart();
     core.headline();
+    // Only for the prover: the use of the field brings in the invariant of `procedures`.
     let _seats = procedures.seats;
     let spent = collect(calls.seats, room, passes, &mut made, &mut ran, &mut log);
     calls_book.audit(&mut made);
@@ -237,7 +242,8 @@ fn gather<
     }
 }
 
-/// Puts each pass into the room of its seat, and its parts of the ledgers to these. What the callers were told is of the log.
+/// Puts each pass into the room of its seat, and merges its parts of the ledgers into these. What the callers were told is in
+/// the log.
 fn collect<V: Copy, C: CallLedger<V>, P: Ledger, F: Ledger, Q: Receipts<V>>(
     seats: u16,
     room: Vec<ClosedPass<V, Q>>,

@@ -1,4 +1,5 @@
-//! The log of an object's history, which lies behind its lock, and how far callers have seen it.
+// SPDX-License-Identifier: MIT
+//! The log of an object's history, which is kept behind its lock, and how far callers have seen it.
 
 ghost use Rattle.std.specs.Prelude.{◌≡◌, ◌+◌, ◌≤◌, ◌++◌, ◌⊎◌, List, [], length, true, false};
 ghost use mathlib.Core.List.{IsPrefix};
@@ -12,10 +13,10 @@ use po_unit::Unit;
 use std::marker::{Model, PhantomData};
 use std::snapshot::Snapshot;
 
-/// How far the history of an object was seen by one that asks it. Contracts see it as these events, from the opening on.
+/// How far a caller has seen the history of an object. Contracts see it as the events seen, from the opening on.
 ///
-/// An answer stands behind them, and is seen by the front from then on. Each pass has one. Of the events it keeps how many
-/// they are, and nothing else.
+/// An answer comes after these events, and from then on the front has seen it too. Each pass has a front. At run time it keeps
+/// only how many events there are.
 #[derive(Drop)]
 pub struct Front<V: Copy, C: CallLedger<V>> {
     seen: Seen<Event<V>>,
@@ -35,7 +36,7 @@ impl<V: Copy, C: CallLedger<V>> Model for Front<V, C> {
 }
 
 impl<V: Copy, C: CallLedger<V>> Front<V, C> {
-    /// The same once more, for somebody else to have.
+    /// Returns a copy, for another caller.
     pub fn again(&self) -> Front<V, C>
         ensures { result ≡ self.now }
     {
@@ -46,7 +47,8 @@ impl<V: Copy, C: CallLedger<V>> Front<V, C> {
         }
     }
 
-    /// Sees what the other one has seen too. Of what two have seen of one object the one is the beginning of the other.
+    /// Sees what the other front has seen too. If two fronts have seen one object, what one has seen is a beginning of what the
+    /// other has.
     pub fn see(&mut self, other: &Front<V, C>)
         ensures own { IsPrefix self.old self.new }
         ensures other { IsPrefix other.now self.new }
@@ -57,12 +59,12 @@ impl<V: Copy, C: CallLedger<V>> Front<V, C> {
         }
     }
 
-    /// Sees what the other one has seen, if it has seen no more than that. Answers whether it does.
+    /// Sees what the other front has seen, unless this front has seen more. Returns whether it does.
     pub(crate) fn go_to(&mut self, other: &Front<V, C>) -> bool
         ensures later { result ≡ true → IsPrefix self.old other.now }
         ensures seen { result ≡ true → self.new ≡ other.now }
         ensures left { result ≡ false → self.new ≡ self.old }
-        // It has seen more.
+        // This front has seen more.
         ensures more { result ≡ false → length other.now + 1 ≤ length self.old }
     {
         if self.events > other.events {
@@ -73,7 +75,7 @@ impl<V: Copy, C: CallLedger<V>> Front<V, C> {
         true
     }
 
-    /// Tells that of what two have seen of one object the one is the beginning of the other.
+    /// Proves that if two fronts have seen one object, what one has seen is a beginning of what the other has.
     pub fn meet(&self, other: &Front<V, C>)
         ensures { IsPrefix self.now other.now ⊎ IsPrefix other.now self.now }
     {
@@ -81,7 +83,7 @@ impl<V: Copy, C: CallLedger<V>> Front<V, C> {
         other.seen.meet(&self.seen);
     }
 
-    /// What was seen, without the object.
+    /// Returns what was seen, without the object.
     pub(crate) fn into_seen(self) -> Seen<Event<V>>
         ensures { result.items ≡ self }
     {
@@ -101,7 +103,7 @@ impl<U: Unit, R: Record<U>> Shows<Core<U, R>, Event<U::Value>> for CoreEvents {
     ghost list = { λ core. core.object.events };
 }
 
-/// The log of an object's history, from the opening on: nobody else adds to it. Contracts see it as its events.
+/// The log of an object's history, from the opening on, to which nothing else adds events. Contracts see it as its events.
 #[derive(Drop)]
 pub(crate) struct Log<V: Copy, C: CallLedger<V>> {
     keeper: Keeper<Event<V>>,
@@ -120,7 +122,7 @@ impl<V: Copy, C: CallLedger<V>> Model for Log<V, C> {
 }
 
 impl<V: Copy, C: CallLedger<V>> Log<V, C> {
-    /// The log of this keeper, which has no events yet.
+    /// Opens the log with this keeper, which has no events yet.
     pub(crate) fn open(mut keeper: Keeper<Event<V>>) -> Log<V, C>
         requires { (keeper.name ≡ C.log) × (keeper.items ≡ []) }
         ensures { result ≡ [] }
@@ -136,14 +138,14 @@ impl<V: Copy, C: CallLedger<V>> Log<V, C> {
         }
     }
 
-    /// All of it as it is now, for others to have.
+    /// Returns all of the log as it is now, for others to keep.
     pub(crate) fn show(&self) -> Front<V, C>
         ensures { result ≡ self.now }
     {
         self.shown.again()
     }
 
-    /// Tells that what the front has seen is the beginning of it.
+    /// Proves that what the front has seen is a beginning of the log.
     pub(crate) fn recall(&mut self, front: &Front<V, C>)
         ensures beginning { IsPrefix front.now self.old }
         ensures same { self.new ≡ self.old }
@@ -151,7 +153,7 @@ impl<V: Copy, C: CallLedger<V>> Log<V, C> {
         self.keeper.recall(&front.seen);
     }
 
-    /// What was seen of all of it, without the object.
+    /// Returns what was seen of the log, which is all of it, without the object.
     pub(crate) fn into_seen(self) -> Seen<Event<V>>
         ensures { result.items ≡ self }
     {
@@ -162,7 +164,7 @@ impl<V: Copy, C: CallLedger<V>> Log<V, C> {
         shown.into_seen()
     }
 
-    /// Lets the front see all of it. What that had seen is the beginning of it.
+    /// Lets the front see all of the log. What the front had seen is a beginning of it.
     pub(crate) fn show_to(&mut self, front: &mut Front<V, C>)
         ensures later { IsPrefix front.old self.old }
         ensures all { front.new ≡ self.old }
@@ -172,8 +174,8 @@ impl<V: Copy, C: CallLedger<V>> Log<V, C> {
         *front = self.shown.again();
     }
 
-    /// Lets the front see all of it, by a look alone, and answers whether it does. No front has seen more; but only who may
-    /// change the log can tell, as `show_to` does.
+    /// Lets the front see all of the log, with shared access only, and returns whether it does. No front has seen more than the
+    /// log, but only mutable access can prove that, as `show_to` does.
     pub(crate) fn show_beside(&self, front: &mut Front<V, C>) -> bool
         ensures later { result ≡ true → IsPrefix front.old self.now }
         ensures all { result ≡ true → front.new ≡ self.now }
@@ -184,7 +186,7 @@ impl<V: Copy, C: CallLedger<V>> Log<V, C> {
     }
 }
 
-/// Lets the log go on with the events that the core has gained, and the front see all of it.
+/// Adds to the log the events that the core has gained, and lets the front see all of it.
 pub(crate) fn go_on<U: Unit, C: CallLedger<U::Value>, R: Record<U>>(
     log: &mut Log<U::Value, C>,
     front: &mut Front<U::Value, C>,

@@ -1,4 +1,5 @@
-//! What is known of the waiting calls of each seat, so that the call of one is found without a walk over those of all.
+// SPDX-License-Identifier: MIT
+//! What is known of the waiting calls of each seat, so that one is found without a walk over the calls of all seats.
 
 ghost use Rattle.std.specs.Prelude.{◌≡◌, ◌≢◌, ◌<◌, IfOk, IfSome, None, option_map, find, length, slice_set, true, false, if◌then◌else◌};
 ghost use Rattle.po_calls.specs.declared.end.CallStatus.TheVariants.{Waiting};
@@ -16,18 +17,18 @@ use std::marker::Model;
 /// What is known of the waiting calls of one seat.
 #[derive(Clone, Copy)]
 pub(crate) enum Latest {
-    /// None waits.
+    /// No call waits.
     Never,
-    /// Where one waits, it is the one of this ticket, which the seat issued last.
+    /// If a call waits, it is the one with this ticket, which the seat issued last.
     Only(Ticket),
-    /// Others may wait beside the one that the seat issued last.
+    /// Other calls may wait besides the one that the seat issued last.
     Several,
 }
 
 /// What is known of the waiting calls of each seat. Contracts see it as a list, by seat.
 ///
-/// A pass asks for one thing at a time, so `Several` never comes about through an object. The value behind its lock can't
-/// know that, and walks there.
+/// A pass makes one call at a time, so `Several` never occurs through an object. The value behind the lock can't know that, so
+/// for `Several` it falls back on a walk.
 #[derive(Drop)]
 pub(crate) struct LatestCalls {
     by_seat: Vec<Latest>,
@@ -43,7 +44,7 @@ impl Model for LatestCalls {
 }
 
 impl LatestCalls {
-    /// No seat has issued a call.
+    /// Returns the list for seats of which none has issued a call.
     pub(crate) fn new(alloc: Global, seats: u16) -> Result<LatestCalls, AllocError>
         ensures { IfOk result (λ c. NoneIssued seats c) }
     {
@@ -51,7 +52,7 @@ impl LatestCalls {
         Ok(LatestCalls { by_seat })
     }
 
-    /// What is known of the seat.
+    /// Returns what is known of the seat.
     fn of_seat(&self, seat: u16) -> Latest
         ensures { result ≡ latest_of self.now seat }
     {
@@ -61,8 +62,8 @@ impl LatestCalls {
             .unwrap_or(Latest::Never)
     }
 
-    /// The ticket of the seat's earliest queued call.
-    pub(crate) fn waiting_of<U: Unit, R: Record<U>>(
+    /// Returns the ticket of the seat's earliest queued call.
+    pub(crate) fn waiting_ticket_of<U: Unit, R: Record<U>>(
         &self,
         core: &Core<U, R>,
         seat: u16,
@@ -75,11 +76,11 @@ impl LatestCalls {
         match self.of_seat(seat) {
             Latest::Never => None,
             Latest::Only(ticket) => waits(core, ticket).then_some(ticket),
-            Latest::Several => core.ticket_of(seat),
+            Latest::Several => core.waiting_ticket_of(seat),
         }
     }
 
-    /// Whether it is known that no call of the seat waits.
+    /// Returns whether it is known that no call of the seat waits.
     pub(crate) fn is_idle<U: Unit, R: Record<U>>(&self, core: &Core<U, R>, seat: u16) -> bool
         requires { KnowsLatest self.now core.now }
         ensures none { result ≡ true → find (is_of seat) core.now.object.state.waiting ≡ None }
@@ -92,7 +93,8 @@ impl LatestCalls {
         }
     }
 
-    /// The seat has issued the call of this ticket, where `idle` says whether it was known that none of it waited.
+    /// Notes that the seat has issued the call of this ticket. `idle` says whether it was known that no call of the seat
+    /// waited.
     pub(crate) fn note(&mut self, seat: u16, ticket: Ticket, idle: bool)
         requires { seat < length self.old }
         ensures { self.new ≡ slice_set self.old seat (if idle then Latest.Only ticket else Latest.Several) }
@@ -105,7 +107,7 @@ impl LatestCalls {
     }
 }
 
-/// Whether the call of the ticket waits.
+/// Returns whether the call of the ticket waits.
 fn waits<U: Unit, R: Record<U>>(core: &Core<U, R>, ticket: Ticket) -> bool
     ensures waits { result ≡ true → status_of_ticket core.now ticket ≡ Waiting }
     ensures placed { IsInOnePlace core.now.object.setup.first_number core.now.object.state }

@@ -1,4 +1,5 @@
-//! The two ledgers of an object: of its accepted calls, and of its procedures. The first also says which object it is.
+// SPDX-License-Identifier: MIT
+//! The two ledgers of an object: one of its accepted calls, and one of its procedures. The first also says which object it is.
 
 ghost use Rattle.std.specs.Prelude.{◌≡◌, ◌+◌, ℕ, List, [], Option, None};
 ghost use Rattle.po_unit.specs.declared.decl.Decl.{Decl};
@@ -9,8 +10,8 @@ ghost use Rattle.po_core.specs.Setup.{Setup};
 use std::marker::{Brand, PhantomData};
 use std::sync::ledger::Ledger;
 
-/// A ledger of accepted calls, which names what only the core behind the lock knows: the declarations of the entries that
-/// they are made on, the log of the object's history, and how a call has ended by so much of that history.
+/// A ledger of accepted calls. It names what only the core behind the lock knows: the declarations of the entries that are
+/// called, the log of the object's history, and how each call has ended by a given point of that history.
 pub trait CallLedger<V>: Ledger {
     ghost shape: { List Decl };
 
@@ -28,7 +29,7 @@ impl<V> CallLedger<V> for Brand {
 }
 
 /// A ledger of accepted calls that says what its object was made with, so that an answer can speak of the object's whole
-/// history. One that doesn't say so opens none.
+/// history. A ledger that doesn't say so can't open an object.
 pub trait Story<U, V>: CallLedger<V> {
     ghost setup: { Option (Setup U) };
 }
@@ -37,7 +38,7 @@ impl<U, V> Story<U, V> for Brand {
     ghost setup = { None };
 }
 
-/// That a ledger is cut into a part for each seat, and one more, which the object keeps.
+/// The fact that a ledger is cut into a part for each seat and one more, which the object keeps.
 #[derive(Drop)]
 pub struct SeatParts<L: Ledger> {
     /// How many seats there are.

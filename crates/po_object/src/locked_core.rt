@@ -1,4 +1,5 @@
-//! What lies behind an object's lock, with the pass by which callers come to it.
+// SPDX-License-Identifier: MIT
+//! The value behind an object's lock, which callers command through their passes.
 
 ghost use Rattle.std.specs.Prelude.{ℕ, ◌≡◌, ◌<◌, ◌≤◌, ◌+◌, ◌⊎◌, ◌∷◌, ◌++◌, [], None, Some, find, is_some, length, unwrap_or, List, IfOk, IfErr, IfSome, IfNone, IsSome, OnOk, OnErr, OnSome, MatchResult, slice_index};
 ghost use Rattle.po_engine.specs.Tickets.{number_at, SetsTicket};
@@ -10,15 +11,15 @@ ghost use Rattle.po_core.specs.Tickets.{CoreView, end_of_ticket};
 ghost use Rattle.po_core.specs.View.{base_state, next_place};
 ghost use Rattle.po_core.specs.Cutting.{cut, cut_off, Leads, KeepsArrivals, KeepsVolumes, procedures_run, AreVolumes};
 ghost use Rattle.po_core.specs.Commands.{issue_of, reply_of};
-ghost use Rattle.po_core.specs.ProtectedAction.{IsProtectedAction, IsAbortOf, after_action, after_abort, abort_answer};
+ghost use Rattle.po_core.specs.ProtectedAction.{IsProtectedAction, IsAttemptOf, after_action, after_attempt, attempt_answer};
 ghost use Rattle.po_core.specs.Commands.{entry_of};
-ghost use Rattle.po_core.specs.Refusals.{MayRefuse, issue_refusal, run_refusal, read_refusal, tick_refusal, finalized_refusal, cut_refusal, if_unindexed};
+ghost use Rattle.po_core.specs.Refusals.{MayRefuse, issue_refusal, procedure_refusal, function_refusal, tick_refusal, finalized_refusal, cut_refusal, if_unindexed};
 ghost use Rattle.po_unit.specs.Numbering.{flat_number};
 ghost use Rattle.po_engine.specs.ObjectState.{counts_in};
 ghost use Rattle.po_core.specs.declared.refusal.Refusal.{Refusal};
 ghost use Rattle.po_receipts.specs.Passes.{PassView};
 ghost use Rattle.po_receipts.specs.Answers.{AskedBySeats};
-ghost use Rattle.po_receipts.specs.OneHistory.{IsWholeLog, Stands, HasEnded, IsTicked, IsReadAt, IsCountAt, IsAborted, IsCutOff, HoldsAt, end_in};
+ghost use Rattle.po_receipts.specs.OneHistory.{IsWholeLog, Stands, HasEnded, IsTicked, IsFunctionAt, IsCountAt, IsAttempted, IsCutOff, HoldsAt, end_in};
 ghost use Rattle.po_object.specs.Filing.{IsFinished, asking, running, seeing};
 ghost use Rattle.po_object.specs.Counted.{IsCounted};
 ghost use Rattle.po_object.specs.Stories.{IsStory};
@@ -31,7 +32,7 @@ use crate::ledgers::Story;
 use crate::pass::Pass;
 use crate::reservation::Reservations;
 use po_core::{
-    Aborted, Core, Deadline, End, Event, Record, Recorded, Refusal, Ticket, Unrecorded, Volume,
+    Attempt, Core, Deadline, End, Event, Record, Recorded, Refusal, Ticket, Unrecorded, Volume,
 };
 use po_history::Trace;
 use po_receipts::{Asked, Receipt, Receipts};
@@ -42,10 +43,10 @@ use std::sync::ledger::{Book, Ledger, Share};
 
 /// The core of an object, with the books of its ledgers. Contracts see it as its core, so the headline holds of it.
 ///
-/// A hold of the lock is one command of the core, or a look at it. In its whole history the core has issued as many calls as
-/// the passes have in their tallies, and run as many procedures; seats alone asked for them. Where the number of calls is
-/// fixed, there is memory for one call more of each free pass. By what is known of each seat's latest call, its waiting one
-/// is found at flat cost. The log is its whole history, from the opening on.
+/// Each hold of the lock is one command of the core, or a look at it. In its whole history the core has issued as many calls,
+/// and run as many procedures, as the tallies of the passes say; only seats asked for them. If the number of calls is fixed,
+/// there is memory for one more call of each free pass. `latest` finds a seat's waiting call in constant time. `log` is the
+/// whole history, from the opening on.
 #[derive(Drop)]
 pub struct LockedCore<
     U: Unit,
@@ -65,9 +66,6 @@ pub struct LockedCore<
     latest: LatestCalls,
     log: Log<<U as Unit>::Value, C>,
 }
-
-/// `LockedCore`, for callers that know it by this name.
-pub type Hold<U, C, P> = LockedCore<U, C, P>;
 
 /// The value behind the lock of an object that takes no memory.
 pub type BoundedLockedCore<U, C, P, F> = LockedCore<
@@ -125,7 +123,7 @@ impl<U: Unit + Drop, C: Story<U, U::Value>, P: Ledger, F: Ledger, Q: Receipts<U:
 > {
     /// Cuts the history, as `Core::cut` does.
     ///
-    /// Refused as `NumbersSpent` and `OutOfMemory`, also on a finalized object.
+    /// Refused as `NumbersSpent` or `OutOfMemory`. A finalized object can be cut too.
     pub fn cut(&mut self, front: &mut Front<U::Value, C>) -> Result<Volume<U::Value>, Refusal>
         ensures volume { IfOk result (λ volume. volume ≡ cut_off self.old.object) }
         ensures after { OnOk result (self.new ≡ record self.old { object = cut U.meaning self.old.object }) }
@@ -135,9 +133,9 @@ impl<U: Unit + Drop, C: Story<U, U::Value>, P: Ledger, F: Ledger, Q: Receipts<U:
         ensures procedures { OnOk result (procedures_run self.new.object ≡ procedures_run self.old.object) }
         ensures joins { IfOk result (λ volume. (volumes : List (VolumeView U.Value)) →
             AreVolumes U.meaning self.old.object volumes → AreVolumes U.meaning self.new.object (volumes ++ volume ∷ [])) }
-        // It is the last part of the history of the object.
+        // The volume is the last part of the history of the object.
         ensures cut_off { IfOk result (λ volume. IsFound (λ setup. IsCutOff U.meaning setup volume front.old front.new) C.setup) }
-        // Seats alone asked for what is in it.
+        // Only seats asked for what is in it.
         ensures asked { IfOk result (λ volume. (seats : ℕ) → C.parts ≡ seats + 1 → AskedBySeats seats volume.events) }
         ensures allowed { OnOk result (cut_refusal self.old.object ≡ None) }
         ensures refused { IfErr result (λ r.
@@ -182,7 +180,7 @@ impl<
         requires seats { length latest + 1 ≡ C.parts }
         requires latest { NoneIssued (length latest) latest }
         requires bounded { (is_some reservations ≡ Q.is_bounded) × (Q.is_bounded ≡ R.is_bounded) }
-        // One call of each free pass has its room in memory.
+        // There is memory for one call of each free pass.
         requires room { IfSome reservations (λ n. IfSome core.capacity (λ most. n ≤ most)) }
         ensures { result ≡ core }
     {
@@ -201,7 +199,7 @@ impl<
         }
     }
 
-    /// The core.
+    /// Returns the core.
     pub fn core(&self) -> &Core<U, R>
         ensures core { result.now ≡ self.now }
         // The ledger of calls names the declarations of the core's entries.
@@ -212,11 +210,10 @@ impl<
 
     /// Issues a call from the pass's seat (9.5.3), as `Core::issue` does. It is then the pass's pending call.
     ///
-    /// Refused as `NoSuchEntry`, `PrivateEntry`, `BadIndex`, `Finalized` and `NumbersSpent`; where the number of calls isn't
-    /// fixed also `OutOfMemory`, first where there is no room for a receipt.
-    /// There is room for it, so it is never refused as `TooManyCalls`. Accepted or refused, its caller has then seen the history
-    /// up to now.
-    pub fn begin(
+    /// Refused as `NoSuchEntry`, `PrivateEntry`, `BadIndex`, `Finalized` or `NumbersSpent`. If the number of calls isn't fixed,
+    /// also as `OutOfMemory`, which comes first if there is no room for a receipt. There is always room for the call, so it is
+    /// never refused as `TooManyCalls`. Accepted or refused, its caller has then seen the history up to now.
+    pub fn issue(
         &mut self,
         pass: &mut Pass<U::Value, C, P, F, Q>,
         entry: EntryRef,
@@ -241,7 +238,7 @@ impl<
           value = value;
           deadline = deadline;
         }) pass.new.seen) }
-        // The call stands in the history of the object, behind all that was seen before.
+        // The call is in the history of the object, after all that was seen before.
         ensures issued { IfOk result (λ ticket. IsFound (λ setup. Stands U.meaning setup
             (Event.Issue ticket.number pass.old.seat (entry_of C.shape entry) value deadline) pass.old.seen pass.new.seen) C.setup) }
         // The ledger of calls names the declarations of the core's entries.
@@ -261,7 +258,8 @@ impl<
         let idle = self.latest.is_idle(&self.core, pass.seat);
         let before = Snapshot::of(&self.core);
         let ticket = self.core.issue(pass.seat, entry, value, deadline)?;
-        let _next = self.core.next();
+        // Only for the prover: the next number fits into a `u64`.
+        let _next = self.core.next_number();
         self.core.headline();
         go_on(&mut self.log, &mut pass.front, &before, &self.core);
         self.calls.audit(&mut pass.made);
@@ -278,10 +276,10 @@ impl<
         Ok(ticket)
     }
 
-    /// Collects the pass's pending call, if it has ended, and files its receipt. Else nothing changes. No memory is taken.
-    // Left to the compiler, an entry call of a bounded object takes a little longer.
+    /// Collects the pass's pending call, if it has ended, and files its receipt. Otherwise nothing changes. Takes no memory.
+    // If inlining is left to the compiler, an entry call of a bounded object takes a little longer.
     #[inline(always)]
-    pub fn finish(&mut self, pass: &mut Pass<U::Value, C, P, F, Q>) -> Option<End<U::Value>>
+    pub fn collect(&mut self, pass: &mut Pass<U::Value, C, P, F, Q>) -> Option<End<U::Value>>
         requires { IsSome pass.old.pending }
         ensures end { IfSome pass.old.pending (λ asked. result ≡ end_of_ticket self.old asked.ticket) }
         ensures object { self.new.object ≡ self.old.object }
@@ -289,7 +287,7 @@ impl<
         ensures taken { OnSome result (IfSome pass.old.pending (λ asked.
             SetsTicket self.old.tickets self.new.tickets asked.ticket.key None)) }
         ensures filed { IfSome result (λ end. IsFinished pass.old end pass.new) }
-        // The history of the object says that it has ended so.
+        // The history of the object says that the call has ended with this end.
         ensures ended { IfSome result (λ end. IfSome pass.old.pending (λ asked. IsFound (λ setup.
             HasEnded U.meaning setup asked.ticket.number end pass.old.seen pass.new.seen) C.setup)) }
         ensures left { IfNone result ((self.new ≡ self.old) × (pass.new ≡ pass.old)) }
@@ -310,11 +308,11 @@ impl<
         Some(end)
     }
 
-    /// Runs a procedure from the pass's seat (9.5.1), as `Core::run` does, and files its receipt.
+    /// Runs a procedure from the pass's seat (9.5.1), as `Core::procedure` does, and files its receipt.
     ///
-    /// Refused as `NoSuchOperation`, `Finalized` and `NumbersSpent`; where the number of calls isn't fixed also `OutOfMemory`,
-    /// first where there is no room for a receipt.
-    pub fn run(
+    /// Refused as `NoSuchOperation`, `Finalized` or `NumbersSpent`. If the number of calls isn't fixed, also as `OutOfMemory`,
+    /// which comes first if there is no room for a receipt.
+    pub fn procedure(
         &mut self,
         pass: &mut Pass<U::Value, C, P, F, Q>,
         op: u16,
@@ -329,21 +327,21 @@ impl<
         ensures action { IfOk result (λ reply.
             IsProtectedAction U.meaning self.old.object self.new.object (Event.Ran pass.old.seat op value reply)) }
         ensures filed { IfOk result (λ reply. pass.new ≡ running pass.old op value reply pass.new.seen) }
-        // The procedure stands in the history of the object, behind all that was seen before.
+        // The procedure is in the history of the object, after all that was seen before.
         ensures ran { IfOk result (λ reply. IsFound (λ setup. Stands U.meaning setup
             (Event.Ran pass.old.seat op value reply) pass.old.seen pass.new.seen) C.setup) }
-        ensures allowed { OnOk result (run_refusal U.meaning self.old.object op ≡ None) }
-        ensures refused { IfErr result (λ r. IsOutOfMemory R.is_bounded r ⊎ (run_refusal U.meaning self.old.object op ≡ Some r)) }
+        ensures allowed { OnOk result (procedure_refusal U.meaning self.old.object op ≡ None) }
+        ensures refused { IfErr result (λ r. IsOutOfMemory R.is_bounded r ⊎ (procedure_refusal U.meaning self.old.object op ≡ Some r)) }
         // It is refused at a moment of that history.
         ensures refused_at { IfErr result (λ r. IsFound (λ setup. HoldsAt U.meaning setup
-            (λ view. IsOutOfMemory R.is_bounded r ⊎ (run_refusal U.meaning view op ≡ Some r)) pass.old.seen pass.new.seen) C.setup) }
+            (λ view. IsOutOfMemory R.is_bounded r ⊎ (procedure_refusal U.meaning view op ≡ Some r)) pass.old.seen pass.new.seen) C.setup) }
         ensures unchanged { OnErr result ((self.new ≡ self.old) × (pass.new ≡ seeing pass.old pass.new.seen)) }
     {
         self.core.headline();
         self.log.show_to(&mut pass.front);
         pass.receipts.make_room()?;
         let before = Snapshot::of(&self.core);
-        let reply = self.core.run(pass.seat, op, value)?;
+        let reply = self.core.procedure(pass.seat, op, value)?;
         self.core.headline();
         go_on(&mut self.log, &mut pass.front, &before, &self.core);
         self.procedures.audit(&mut pass.ran);
@@ -353,9 +351,9 @@ impl<
         Ok(reply)
     }
 
-    /// Raises the clock to t, if it is lower, and answers the clock, as `Core::tick` does.
+    /// Raises the clock to t, if it is lower, and returns the clock, as `Core::tick` does.
     ///
-    /// Refused as `Finalized`; where the number of calls is fixed `NumbersSpent`, and else `OutOfMemory`.
+    /// Refused as `Finalized`. If the number of calls is fixed, also as `NumbersSpent`, otherwise also as `OutOfMemory`.
     pub fn tick(&mut self, front: &mut Front<U::Value, C>, t: u64) -> Result<u64, Refusal>
         ensures after { OnOk result (self.new ≡ record self.old {
           object = after_action U.meaning self.old.object (Event.Tick t);
@@ -367,9 +365,9 @@ impl<
             IsProtectedAction U.meaning self.old.object self.new.object (Event.Tick t)) }
         ensures allowed { OnOk result (tick_refusal self.old ≡ None) }
         ensures refused { IfErr result (MayRefuse self.old.capacity (tick_refusal self.old)) }
-        // The number of calls is fixed exactly where the record is that of a bounded core.
+        // The number of calls is fixed exactly if the record is that of a bounded core.
         ensures kind { is_some self.old.capacity ≡ R.is_bounded }
-        // The tick stands in the history of the object, behind all that was seen before.
+        // The tick is in the history of the object, after all that was seen before.
         ensures ticked { IfOk result (λ clock. IsFound (λ setup. IsTicked U.meaning setup t clock front.old front.new) C.setup) }
         // It is refused at a moment of that history.
         ensures refused_at { IfErr result (λ r. IsFound (λ setup. HoldsAt U.meaning setup
@@ -386,7 +384,7 @@ impl<
         Ok(clock)
     }
 
-    /// Finalizes the object (9.4), as `Core::finalize` does. No memory is taken.
+    /// Finalizes the object (9.4), as `Core::finalize` does. Takes no memory.
     ///
     /// Refused as `Finalized`.
     pub fn finalize(&mut self, front: &mut Front<U::Value, C>) -> Result<(), Refusal>
@@ -400,7 +398,7 @@ impl<
         ensures refused { MatchResult result
             (λ _. finalized_refusal self.old.object ≡ None)
             (λ r. finalized_refusal self.old.object ≡ Some r) }
-        // The end stands in the history of the object, behind all that was seen before.
+        // The end is in the history of the object, after all that was seen before.
         ensures finalized { OnOk result (IsFound (λ setup. Stands U.meaning setup Event.Final front.old front.new) C.setup) }
         // It is refused at a moment of that history.
         ensures refused_at { IfErr result (λ r. IsFound (λ setup. HoldsAt U.meaning setup
@@ -416,31 +414,31 @@ impl<
         Ok(())
     }
 
-    /// Attempts to cancel the seat's earliest queued call (9.5.3, 9.5.4), as `Core::cancel` does. No memory is taken.
+    /// Attempts to cancel the seat's earliest queued call (9.5.3, 9.5.4), as `Core::cancel` does. Takes no memory.
     ///
-    /// Refused as `NoCall`, where no call of the seat is queued.
-    pub fn abort_seat(
+    /// Refused as `NoCall`, if no call of the seat is queued.
+    pub fn cancel_seat(
         &mut self,
         front: &mut Front<U::Value, C>,
         seat: u16,
-    ) -> Result<Aborted, Refusal>
+    ) -> Result<Attempt, Refusal>
         ensures found { IfOk result (λ aborted. IsFound (λ x.
-            (aborted ≡ abort_answer self.old.object x.number)
-            × (self.new ≡ record self.old { object = after_abort U.meaning self.old.object x.number })
-            × IsAbortOf U.meaning self.old.object self.new.object x.number)
+            (aborted ≡ attempt_answer self.old.object x.number)
+            × (self.new ≡ record self.old { object = after_attempt U.meaning self.old.object x.number })
+            × IsAttemptOf U.meaning self.old.object self.new.object x.number)
             (find (is_of seat) self.old.object.state.waiting)) }
         ensures volumes { OnOk result (KeepsVolumes U.meaning self.old.object self.new.object) }
         ensures refused { IfErr result (λ r. (r ≡ Refusal.NoCall) × (find (is_of seat) self.old.object.state.waiting ≡ None)) }
-        // It came to this at a moment of the history of the object, behind all that was seen before.
-        ensures aborted { IfOk result (λ aborted. IsFound (λ setup. IsAborted U.meaning setup seat aborted front.old front.new) C.setup) }
-        // None of the seat's is queued at a moment of that history.
+        // This was the result at a moment of the history of the object, after all that was seen before.
+        ensures aborted { IfOk result (λ aborted. IsFound (λ setup. IsAttempted U.meaning setup seat aborted front.old front.new) C.setup) }
+        // No call of the seat is queued at a moment of that history.
         ensures refused_at { OnErr result (IsFound (λ setup. HoldsAt U.meaning setup
             (λ view. find (is_of seat) view.state.waiting ≡ None) front.old front.new) C.setup) }
         ensures unchanged { OnErr result (self.new ≡ self.old) }
     {
         self.core.headline();
         self.log.show_to(front);
-        let Some(ticket) = self.latest.waiting_of(&self.core, seat) else {
+        let Some(ticket) = self.latest.waiting_ticket_of(&self.core, seat) else {
             return Err(Refusal::NoCall);
         };
         let before = Snapshot::of(&self.core);
@@ -450,11 +448,11 @@ impl<
         Ok(aborted)
     }
 
-    /// What a function gives (9.5.1), as `Core::read` does, and `None` if the front had seen more than the whole history, which
-    /// never happens. What it then sees is the history up to now.
+    /// Returns what a function gives (9.5.1), as `Core::function` does, or `None` if the front had seen more than the whole
+    /// history, which never happens. The front then sees the history up to now.
     ///
-    /// Refused as `NoSuchOperation` and `Finalized`.
-    pub fn read(
+    /// Refused as `NoSuchOperation` or `Finalized`.
+    pub fn function(
         &self,
         front: &mut Front<U::Value, C>,
         op: u16,
@@ -462,15 +460,15 @@ impl<
     ) -> Option<Result<Result<U::Value, u32>, Refusal>>
         ensures reply { IfSome result (λ r. IfOk r (λ reply. reply ≡
             U.meaning.function self.now.object.state.unit op value (counts_in U.meaning self.now.object.state))) }
-        // It gives this where that history ends.
+        // The function gives this at the end of that history.
         ensures read { IfSome result (λ r. IfOk r (λ reply. IsFound (λ setup.
-            IsReadAt U.meaning setup op value reply front.old front.new) C.setup)) }
+            IsFunctionAt U.meaning setup op value reply front.old front.new) C.setup)) }
         ensures refused { IfSome result (λ r. MatchResult r
-            (λ _. read_refusal U.meaning self.now.object op ≡ None)
-            (λ why. read_refusal U.meaning self.now.object op ≡ Some why)) }
+            (λ _. function_refusal U.meaning self.now.object op ≡ None)
+            (λ why. function_refusal U.meaning self.now.object op ≡ Some why)) }
         // It is refused at a moment of that history.
         ensures refused_at { IfSome result (λ r. IfErr r (λ why. IsFound (λ setup. HoldsAt U.meaning setup
-            (λ view. read_refusal U.meaning view op ≡ Some why) front.old front.new) C.setup)) }
+            (λ view. function_refusal U.meaning view op ≡ Some why) front.old front.new) C.setup)) }
         ensures ahead { IfNone result ((front.new ≡ front.old)
             × (next_place self.now.object + 1 ≤ self.now.object.setup.first_place + length front.old)) }
     {
@@ -478,29 +476,29 @@ impl<
         if !self.log.show_beside(front) {
             return None;
         }
-        Some(read_now(&self.core, op, value))
+        Some(function_now(&self.core, op, value))
     }
 
-    /// As `read`, by one that has seen nothing of the object before.
+    /// Answers as `function` does, for a caller that has seen nothing of the object before.
     ///
-    /// Refused as `NoSuchOperation` and `Finalized`.
-    pub fn read_first(&self, op: u16, value: U::Value) -> Result<Result<U::Value, u32>, Refusal>
+    /// Refused as `NoSuchOperation` or `Finalized`.
+    pub fn function_first(&self, op: u16, value: U::Value) -> Result<Result<U::Value, u32>, Refusal>
         ensures reply { IfOk result (λ reply. reply ≡
             U.meaning.function self.now.object.state.unit op value (counts_in U.meaning self.now.object.state)) }
         ensures read { IfOk result (λ reply. (log : List (Event U.Value))
-            × IsFound (λ setup. IsReadAt U.meaning setup op value reply [] log) C.setup) }
+            × IsFound (λ setup. IsFunctionAt U.meaning setup op value reply [] log) C.setup) }
         ensures refused { MatchResult result
-            (λ _. read_refusal U.meaning self.now.object op ≡ None)
-            (λ why. read_refusal U.meaning self.now.object op ≡ Some why) }
+            (λ _. function_refusal U.meaning self.now.object op ≡ None)
+            (λ why. function_refusal U.meaning self.now.object op ≡ Some why) }
         ensures refused_at { IfErr result (λ why. (log : List (Event U.Value))
-            × IsFound (λ setup. HoldsAt U.meaning setup (λ view. read_refusal U.meaning view op ≡ Some why) [] log) C.setup) }
+            × IsFound (λ setup. HoldsAt U.meaning setup (λ view. function_refusal U.meaning view op ≡ Some why) [] log) C.setup) }
     {
         self.core.headline();
-        read_now(&self.core, op, value)
+        function_now(&self.core, op, value)
     }
 
-    /// As `read`, by one that has the object alone, and so can tell that the front hasn't seen more.
-    pub fn read_alone(
+    /// Answers as `function` does, with exclusive access, which proves that the front hasn't seen more than the history.
+    pub fn function_alone(
         &mut self,
         front: &mut Front<U::Value, C>,
         op: u16,
@@ -509,23 +507,23 @@ impl<
         ensures reply { IfOk result (λ reply. reply ≡
             U.meaning.function self.old.object.state.unit op value (counts_in U.meaning self.old.object.state)) }
         ensures read { IfOk result (λ reply. IsFound (λ setup.
-            IsReadAt U.meaning setup op value reply front.old front.new) C.setup) }
+            IsFunctionAt U.meaning setup op value reply front.old front.new) C.setup) }
         ensures refused { MatchResult result
-            (λ _. read_refusal U.meaning self.old.object op ≡ None)
-            (λ why. read_refusal U.meaning self.old.object op ≡ Some why) }
+            (λ _. function_refusal U.meaning self.old.object op ≡ None)
+            (λ why. function_refusal U.meaning self.old.object op ≡ Some why) }
         ensures refused_at { IfErr result (λ why. IsFound (λ setup. HoldsAt U.meaning setup
-            (λ view. read_refusal U.meaning view op ≡ Some why) front.old front.new) C.setup) }
+            (λ view. function_refusal U.meaning view op ≡ Some why) front.old front.new) C.setup) }
         ensures same { self.new ≡ self.old }
     {
         self.core.headline();
         self.log.show_to(front);
-        read_now(&self.core, op, value)
+        function_now(&self.core, op, value)
     }
 
-    /// How many calls are queued on an entry (9.9), as `Core::count` says, and `None` if the front had seen more than the
-    /// whole history, which never happens. What it then sees is the history up to now.
+    /// Returns how many calls are queued on an entry (9.9), as `Core::count` does, or `None` if the front had seen more than
+    /// the whole history, which never happens. The front then sees the history up to now.
     ///
-    /// Refused as `NoSuchEntry` and `BadIndex`.
+    /// Refused as `NoSuchEntry` or `BadIndex`.
     pub fn count(
         &self,
         front: &mut Front<U::Value, C>,
@@ -533,7 +531,7 @@ impl<
     ) -> Result<Option<u64>, Refusal>
         ensures number { IfOk result (λ count. IfSome count (λ n. n ≡
             slice_index (counts_in U.meaning self.now.object.state) (entry_of C.shape entry))) }
-        // So many are queued where that history ends.
+        // That many calls are queued at the end of that history.
         ensures count { IfOk result (λ count. IfSome count (λ n. IsFound (λ setup.
             IsCountAt U.meaning setup (entry_of C.shape entry) n front.old front.new) C.setup)) }
         ensures refused { MatchResult result
@@ -551,7 +549,7 @@ impl<
         Ok(Some(count))
     }
 
-    /// The core, the parts of the ledgers that no pass holds, and the log.
+    /// Returns the core, the books of the ledgers with the parts that no pass holds, and the log.
     pub(crate) fn take_apart(
         self,
     ) -> (
@@ -586,8 +584,8 @@ impl<
     }
 }
 
-/// What a function gives now, if the unit has it.
-fn read_now<U: Unit, R: Record<U>>(
+/// Returns what a function gives now, if the unit has it.
+fn function_now<U: Unit, R: Record<U>>(
     core: &Core<U, R>,
     op: u16,
     value: U::Value,
@@ -596,13 +594,13 @@ fn read_now<U: Unit, R: Record<U>>(
         U.meaning.function core.now.object.state.unit op value (counts_in U.meaning core.now.object.state)) }
     ensures has { OnOk result (op < U.meaning.functions core.now.object.state.unit) }
     ensures refused { MatchResult result
-        (λ _. read_refusal U.meaning core.now.object op ≡ None)
-        (λ why. read_refusal U.meaning core.now.object op ≡ Some why) }
+        (λ _. function_refusal U.meaning core.now.object op ≡ None)
+        (λ why. function_refusal U.meaning core.now.object op ≡ Some why) }
 {
-    core.read(op, value)
+    core.function(op, value)
 }
 
-/// The flat number of the entry that an accepted call names.
+/// Returns the flat number of the entry that an accepted call names.
 fn number_of<U: Unit, R: Record<U>>(core: &Core<U, R>, entry: EntryRef) -> u16
     ensures { result ≡ entry_of core.now.object.setup.shape entry }
 {

@@ -1,4 +1,5 @@
-//! An object that threads share: its core behind a lock, and where the callers of its seats wait.
+// SPDX-License-Identifier: MIT
+//! An object that threads share: its core behind a lock, and the seats at which its callers wait.
 
 ghost use Rattle.std.specs.Prelude.{◌≡◌, ◌+◌, ◌≤◌, ◌⊎◌, List, [], None, Some, IfOk, IfErr, IfSome, IfNone, OnOk, OnErr, IsSome, find, unwrap_or};
 ghost use Rattle.po_unit.specs.Numbering.{flat_number};
@@ -7,20 +8,20 @@ ghost use Rattle.po_history.specs.declared.event.Event.{Event};
 ghost use Rattle.po_engine.specs.Finding.{IsFound};
 ghost use Rattle.po_engine.specs.WaitingCalls.{is_of};
 ghost use Rattle.po_core.specs.Commands.{entry_of};
-ghost use Rattle.po_core.specs.Refusals.{entry_refusal, issue_refusal, run_refusal, read_refusal, finalized_refusal, cut_refusal, if_unindexed};
+ghost use Rattle.po_core.specs.Refusals.{entry_refusal, issue_refusal, procedure_refusal, function_refusal, finalized_refusal, cut_refusal, if_unindexed};
 ghost use Rattle.po_core.specs.declared.refusal.Refusal.{Refusal};
 ghost use Rattle.po_receipts.specs.Answers.{AskedBySeats};
-ghost use Rattle.po_receipts.specs.OneHistory.{Stands, HasEnded, IsAnswered, IsTicked, IsReadAt, IsCountAt, IsAborted, IsCutOff, HoldsAt};
+ghost use Rattle.po_receipts.specs.OneHistory.{Stands, HasEnded, IsAnswered, IsTicked, IsFunctionAt, IsCountAt, IsAttempted, IsCutOff, HoldsAt};
 ghost use Rattle.po_object.specs.Filing.{IsFinished, IsCalled, running, seeing};
 ghost use Rattle.po_object.specs.Refused.{IsCallRefusal, IsProcedureRefusal, IsFunctionRefusal, IsOutOfMemory, IsTickRefusal, IsTickRefusalOf, IsCutRefusal};
 
 use crate::front::Front;
 use crate::ledgers::{SeatParts, Story};
 use crate::seat::{Seat, Sleepers};
-use crate::steps::{Step, Steps, Taken, Unasked};
+use crate::steps::{Hook, NoHook, SharedStep, Taken};
 use crate::{LockedCore, Pass};
 use crossbeam_utils::Backoff;
-use po_core::{Aborted, CallStatus, Deadline, End, Record, Recorded, Refusal, Unrecorded, Volume};
+use po_core::{Attempt, CallStatus, Deadline, End, Record, Recorded, Refusal, Unrecorded, Volume};
 use po_history::Trace;
 use po_receipts::{ClosedPass, Receipt, Receipts};
 use po_unit::{EntryRef, Unit};
@@ -30,8 +31,8 @@ use std::sync::{RwLock, RwLockReadGuard, RwLockWriteGuard, Wait};
 
 /// A protected object (9.4) that any number of threads call. Contracts see it as its number of seats.
 ///
-/// Each call takes the lock for one command of the core, and holds nothing while its caller waits. Functions are read side by
-/// side (9.5.1). Who ends calls of others tells their seats, and no one else.
+/// Each call takes the lock for one command of the core, and holds nothing while its caller waits. Functions run side by side
+/// (9.5.1). A thread that ends other callers' calls notifies exactly their seats.
 #[derive(Drop)]
 pub struct Object<
     U: Unit,
@@ -40,7 +41,7 @@ pub struct Object<
     F: Ledger = C,
     R: Record<U> = Recorded<U>,
     Q: Receipts<<U as Unit>::Value> = Vec<Receipt<<U as Unit>::Value>>,
-    S: Steps = Unasked,
+    S: Hook = NoHook,
 > {
     pub(crate) locked: RwLock<LockedCore<U, C, P, F, R, Q>>,
     pub(crate) seats: Vec<Seat>,
@@ -52,8 +53,7 @@ pub struct Object<
     pub(crate) steps: S,
 }
 
-/// An object all of whose memory is taken when it is opened: none of its calls takes any, and history and receipts are known
-/// to proofs alone.
+/// An object that takes all its memory when it is opened; its calls take none. Only proofs know its history and receipts.
 pub type BoundedObject<U, C, P, F> = Object<
     U,
     C,
@@ -70,7 +70,7 @@ impl<
     F: Ledger,
     R: Record<U>,
     Q: Receipts<U::Value>,
-    S: Steps,
+    S: Hook,
 > Model for Object<U, C, P, F, R, Q, S> {
     ghost use Rattle.std.specs.Prelude.{◌≡◌, ℕ, [], vec_len};
 
@@ -93,15 +93,15 @@ impl<
     P: Ledger,
     F: Ledger,
     Q: Receipts<U::Value>,
-    S: Steps,
+    S: Hook,
 > Object<U, C, P, F, Recorded<U>, Q, S> {
     /// Cuts the history, as `Core::cut` does.
     ///
-    /// Refused as `NumbersSpent` and `OutOfMemory`, also on a finalized object.
+    /// Refused as `NumbersSpent` or `OutOfMemory`. A finalized object can be cut too.
     pub fn cut<W: Wait>(&self, rt: &W) -> Result<Volume<U::Value>, Refusal>
         ensures cut_off { IfOk result (λ volume. (log : List (Event U.Value))
             × IsFound (λ setup. IsCutOff U.meaning setup volume [] log) C.setup) }
-        // Seats of this object alone asked for the calls and procedures that are in the volume.
+        // Only seats of this object asked for the calls and procedures that are in the volume.
         ensures asked { IfOk result (λ volume. AskedBySeats self.now volume.events) }
         ensures refused { IfErr result IsCutRefusal }
     {
@@ -109,7 +109,8 @@ impl<
         self.cut_after(rt, &mut front)
     }
 
-    /// As `cut`, behind all that the front has seen. What it then sees is the history up to this cut, or up to the refusal.
+    /// Cuts as `cut` does, after all that the front has seen. The front then sees the history up to this cut, or up to the
+    /// refusal.
     ///
     /// Refused as `cut` is.
     pub fn cut_after<W: Wait>(
@@ -136,16 +137,16 @@ impl<
     F: Ledger,
     R: Record<U>,
     Q: Receipts<U::Value>,
-    S: Steps,
+    S: Hook,
 > Object<U, C, P, F, R, Q, S> {
-    /// How many seats the object was opened with.
+    /// Returns how many seats the object was opened with.
     pub fn seats(&self) -> u16
         ensures { result ≡ self.now }
     {
         self.calls.seats
     }
 
-    /// A view of the history from which nothing was seen yet: for a thread that has no seat.
+    /// Returns a front that has seen nothing of the history yet, for a thread that has no seat.
     pub fn front(&self) -> Front<U::Value, C>
         ensures { result ≡ [] }
     {
@@ -154,8 +155,8 @@ impl<
 
     /// Calls an entry (9.5.3), and waits for the end of the call.
     ///
-    /// Refused as `Core::issue` is. Where there is no room for a receipt, that is answered before the other refusals. A refusal
-    /// leaves the pass as it was, but that its caller has seen the history up to then.
+    /// Refused as `Core::issue` is. If there is no room for a receipt, that is reported before any other refusal. A refusal
+    /// leaves the pass as it was, except that its caller has seen the history up to then.
     pub fn call<W: Wait>(
         &self,
         rt: &W,
@@ -176,7 +177,7 @@ impl<
         self.ask(rt, pass, entry, value, Deadline::Never)
     }
 
-    /// Calls an entry, and gives the call up where it isn't selected at once: a conditional entry call (9.7.3).
+    /// Calls an entry, and gives the call up if it isn't selected at once: a conditional entry call (9.7.3).
     ///
     /// Refused as `call` is.
     pub fn conditional<W: Wait>(
@@ -199,8 +200,8 @@ impl<
         self.ask(rt, pass, entry, value, Deadline::At(0))
     }
 
-    /// Calls an entry, and gives the call up where it isn't selected before the clock has come to the deadline: a timed
-    /// entry call (9.7.2).
+    /// Calls an entry, and gives the call up if it isn't selected before the clock reaches the deadline: a timed entry call
+    /// (9.7.2).
     ///
     /// Refused as `call` is.
     pub fn timed<W: Wait>(
@@ -224,10 +225,10 @@ impl<
         self.ask(rt, pass, entry, value, Deadline::At(deadline))
     }
 
-    /// Runs a protected procedure (9.5.1). The reply is a value, or the number of the exception that it propagates.
+    /// Runs a protected procedure (9.5.1). The reply is a value, or the number of the exception that the procedure propagates.
     ///
-    /// Refused as `Core::run` is. Where there is no room for a receipt, that is answered before the other refusals. A refusal
-    /// leaves the pass as it was, but that its caller has seen the history up to then.
+    /// Refused as `Core::procedure` is. If there is no room for a receipt, that is reported before any other refusal. A refusal
+    /// leaves the pass as it was, except that its caller has seen the history up to then.
     pub fn procedure<W: Wait>(
         &self,
         rt: &W,
@@ -241,20 +242,20 @@ impl<
             (Event.Ran pass.old.seat op value reply) pass.old.seen pass.new.seen) C.setup) }
         ensures refused { IfErr result (IsProcedureRefusal R.is_bounded) }
         ensures refused_at { IfErr result (λ r. IsFound (λ setup. HoldsAt U.meaning setup
-            (λ view. IsOutOfMemory R.is_bounded r ⊎ (run_refusal U.meaning view op ≡ Some r)) pass.old.seen pass.new.seen) C.setup) }
+            (λ view. IsOutOfMemory R.is_bounded r ⊎ (procedure_refusal U.meaning view op ≡ Some r)) pass.old.seen pass.new.seen) C.setup) }
         ensures unchanged { OnErr result (pass.new ≡ seeing pass.old pass.new.seen) }
     {
         let mut taken = self.change(rt);
-        let reply = taken.locked.run(pass, op, value)?;
+        let reply = taken.locked.procedure(pass, op, value)?;
         let sleepers = self.tell(&taken.locked, Some(pass.seat()));
         drop(taken);
         self.wake(&sleepers);
         Ok(reply)
     }
 
-    /// What a protected function replies (9.5.1). Functions are read side by side. No memory is taken.
+    /// Returns the reply of a protected function (9.5.1). Functions run side by side. Takes no memory.
     ///
-    /// Refused as `Core::read` is.
+    /// Refused as `Core::function` is.
     pub fn function<W: Wait>(
         &self,
         rt: &W,
@@ -262,17 +263,18 @@ impl<
         value: U::Value,
     ) -> Result<Result<U::Value, u32>, Refusal>
         ensures read { IfOk result (λ reply. (log : List (Event U.Value))
-            × IsFound (λ setup. IsReadAt U.meaning setup op value reply [] log) C.setup) }
+            × IsFound (λ setup. IsFunctionAt U.meaning setup op value reply [] log) C.setup) }
         ensures refused { IfErr result IsFunctionRefusal }
         ensures refused_at { IfErr result (λ r. (log : List (Event U.Value))
-            × IsFound (λ setup. HoldsAt U.meaning setup (λ view. read_refusal U.meaning view op ≡ Some r) [] log) C.setup) }
+            × IsFound (λ setup. HoldsAt U.meaning setup (λ view. function_refusal U.meaning view op ≡ Some r) [] log) C.setup) }
     {
-        self.look(rt).locked.read_first(op, value)
+        self.look(rt).locked.function_first(op, value)
     }
 
-    /// As `function`, behind all that the front has seen. What it then sees is the history up to the reply or the refusal.
+    /// Reads as `function` does, after all that the front has seen. The front then sees the history up to the reply or the
+    /// refusal.
     ///
-    /// Refused as `Core::read` is.
+    /// Refused as `Core::function` is.
     pub fn function_after<W: Wait>(
         &self,
         rt: &W,
@@ -280,20 +282,20 @@ impl<
         op: u16,
         value: U::Value,
     ) -> Result<Result<U::Value, u32>, Refusal>
-        ensures read { IfOk result (λ reply. IsFound (λ setup. IsReadAt U.meaning setup op value reply front.old front.new) C.setup) }
+        ensures read { IfOk result (λ reply. IsFound (λ setup. IsFunctionAt U.meaning setup op value reply front.old front.new) C.setup) }
         ensures refused { IfErr result IsFunctionRefusal }
         ensures refused_at { IfErr result (λ r. IsFound (λ setup. HoldsAt U.meaning setup
-            (λ view. read_refusal U.meaning view op ≡ Some r) front.old front.new) C.setup) }
+            (λ view. function_refusal U.meaning view op ≡ Some r) front.old front.new) C.setup) }
     {
         let looked = self.look(rt);
-        if let Some(reply) = looked.locked.read(front, op, value) {
+        if let Some(reply) = looked.locked.function(front, op, value) {
             return reply;
         }
         drop(looked);
-        self.change(rt).locked.read_alone(front, op, value)
+        self.change(rt).locked.function_alone(front, op, value)
     }
 
-    /// Raises the clock to t, if it is lower, and answers the clock.
+    /// Raises the clock to t, if it is lower, and returns the clock.
     ///
     /// Refused as `Core::tick` is.
     pub fn tick<W: Wait>(&self, rt: &W, t: u64) -> Result<u64, Refusal>
@@ -306,7 +308,8 @@ impl<
         self.tick_after(rt, &mut front, t)
     }
 
-    /// As `tick`, behind all that the front has seen. What it then sees is the history up to this tick, or up to the refusal.
+    /// Ticks as `tick` does, after all that the front has seen. The front then sees the history up to this tick, or up to the
+    /// refusal.
     ///
     /// Refused as `Core::tick` is.
     pub fn tick_after<W: Wait>(
@@ -329,7 +332,7 @@ impl<
         Ok(clock)
     }
 
-    /// Finalizes the object: Program_Error is raised at each queued call (9.4). No memory is taken.
+    /// Finalizes the object: Program_Error is raised at each queued call (9.4). Takes no memory.
     ///
     /// Refused as `Core::finalize` is.
     pub fn finalize<W: Wait>(&self, rt: &W) -> Result<(), Refusal>
@@ -341,7 +344,8 @@ impl<
         self.finalize_after(rt, &mut front)
     }
 
-    /// As `finalize`, behind all that the front has seen. What it then sees is the history up to this end, or up to the refusal.
+    /// Finalizes as `finalize` does, after all that the front has seen. The front then sees the history up to this end, or up
+    /// to the refusal.
     ///
     /// Refused as `Core::finalize` is.
     pub fn finalize_after<W: Wait>(
@@ -362,42 +366,43 @@ impl<
         Ok(())
     }
 
-    /// Attempts to cancel the seat's earliest queued call (9.5.3, 9.5.4). No memory is taken.
+    /// Attempts to cancel the seat's earliest queued call (9.5.3, 9.5.4). Takes no memory.
     ///
-    /// Refused as `NoCall`, where no call of the seat is queued.
-    pub fn abort_seat<W: Wait>(&self, rt: &W, seat: u16) -> Result<Aborted, Refusal>
+    /// Refused as `NoCall`, if no call of the seat is queued.
+    pub fn cancel_seat<W: Wait>(&self, rt: &W, seat: u16) -> Result<Attempt, Refusal>
         ensures aborted { IfOk result (λ aborted. (log : List (Event U.Value))
-            × IsFound (λ setup. IsAborted U.meaning setup seat aborted [] log) C.setup) }
+            × IsFound (λ setup. IsAttempted U.meaning setup seat aborted [] log) C.setup) }
         ensures refused { IfErr result (λ r. r ≡ Refusal.NoCall) }
     {
         let mut front = self.front();
-        self.abort_seat_after(rt, &mut front, seat)
+        self.cancel_seat_after(rt, &mut front, seat)
     }
 
-    /// As `abort_seat`, behind all that the front has seen. What it then sees is the history up to this attempt, or up to the refusal.
+    /// Attempts what `cancel_seat` does, after all that the front has seen. The front then sees the history up to this attempt,
+    /// or up to the refusal.
     ///
-    /// Refused as `NoCall`, where no call of the seat is queued.
-    pub fn abort_seat_after<W: Wait>(
+    /// Refused as `NoCall`, if no call of the seat is queued.
+    pub fn cancel_seat_after<W: Wait>(
         &self,
         rt: &W,
         front: &mut Front<U::Value, C>,
         seat: u16,
-    ) -> Result<Aborted, Refusal>
-        ensures aborted { IfOk result (λ aborted. IsFound (λ setup. IsAborted U.meaning setup seat aborted front.old front.new) C.setup) }
+    ) -> Result<Attempt, Refusal>
+        ensures aborted { IfOk result (λ aborted. IsFound (λ setup. IsAttempted U.meaning setup seat aborted front.old front.new) C.setup) }
         ensures refused { IfErr result (λ r. r ≡ Refusal.NoCall) }
         ensures refused_at { OnErr result (IsFound (λ setup. HoldsAt U.meaning setup
             (λ view. find (is_of seat) view.state.waiting ≡ None) front.old front.new) C.setup) }
     {
         let mut taken = self.change(rt);
-        let aborted = taken.locked.abort_seat(front, seat)?;
+        let aborted = taken.locked.cancel_seat(front, seat)?;
         let sleepers = self.tell(&taken.locked, None);
         drop(taken);
         self.wake(&sleepers);
         Ok(aborted)
     }
 
-    /// How many calls are queued on an entry (9.9), or `None` where the lock was held or asked for by one that changes, or
-    /// was being handed on. No memory is taken.
+    /// Returns how many calls are queued on an entry (9.9). Returns `None` if a thread had the lock for a change or had asked
+    /// for it, or if the lock was being handed on. Takes no memory.
     ///
     /// Refused as `Core::count` is.
     pub fn try_count(&self, entry: EntryRef) -> Result<Option<u64>, Refusal>
@@ -410,8 +415,8 @@ impl<
         self.try_count_after(&mut front, entry)
     }
 
-    /// As `try_count`, behind all that the front has seen. What it then sees is the history up to the count; it sees no more if
-    /// there is none.
+    /// Counts as `try_count` does, after all that the front has seen. The front then sees the history up to the count, and no
+    /// more than before if there is none.
     ///
     /// Refused as `Core::count` is.
     pub fn try_count_after(
@@ -423,7 +428,7 @@ impl<
             IsCountAt U.meaning setup (entry_of C.shape entry) n front.old front.new) C.setup)) }
         ensures allowed { IfOk result (λ count. IsSome count → if_unindexed (flat_number C.shape entry) None ≡ None) }
         ensures refused { IfErr result (λ r. if_unindexed (flat_number C.shape entry) None ≡ Some r) }
-        // It sees no more where nothing is counted.
+        // The front sees no more if nothing is counted.
         ensures none { IfOk result (λ count. IfNone count (front.new ≡ front.old)) }
         ensures unchanged { OnErr result (front.new ≡ front.old) }
     {
@@ -433,48 +438,49 @@ impl<
         }
     }
 
-    /// The ledger of calls has a part for each seat, and one more.
+    /// Proves that the ledger of calls has a part for each seat, and one more.
     fn recall_parts(&self)
         ensures { C.parts ≡ self.now + 1 }
     {
+        // Only for the prover: the use of the field brings in its invariant.
         let _calls = &self.calls;
     }
 
-    /// Takes the lock for a change. It is tried for several times before it is waited for, since sleeping is dear.
+    /// Takes the lock for a change. Tries several times before it queues for the lock, since sleeping is costly.
     fn change<'a, W: Wait>(
         &'a self,
         rt: &W,
     ) -> Taken<'a, RwLockWriteGuard<'a, LockedCore<U, C, P, F, R, Q>>, S> {
         let backoff = Backoff::new();
         for _ in 0..S::TRIES {
-            self.steps.reach(Step::TryChange);
+            self.steps.reach(SharedStep::TryChange);
             if let Some(locked) = self.locked.try_write() {
-                return Taken::new(locked, &self.steps, Step::Changed);
+                return Taken::new(locked, &self.steps, SharedStep::Changed);
             }
             backoff.snooze();
         }
-        self.steps.reach(Step::Change);
-        Taken::new(self.locked.write(rt), &self.steps, Step::Changed)
+        self.steps.reach(SharedStep::Change);
+        Taken::new(self.locked.write(rt), &self.steps, SharedStep::Changed)
     }
 
     /// Takes the lock for a look.
-    // Left to the compiler, a function of a bounded object takes half as long again.
+    // If inlining is left to the compiler, a function of a bounded object takes half as long again.
     #[inline(always)]
     fn look<'a, W: Wait>(
         &'a self,
         rt: &W,
     ) -> Taken<'a, RwLockReadGuard<'a, LockedCore<U, C, P, F, R, Q>>, S> {
-        self.steps.reach(Step::Look);
-        Taken::new(self.locked.read(rt), &self.steps, Step::Looked)
+        self.steps.reach(SharedStep::Look);
+        Taken::new(self.locked.read(rt), &self.steps, SharedStep::Looked)
     }
 
-    /// Takes the lock for a look, if it can be had at once.
+    /// Takes the lock for a look, if it is free at once.
     fn try_look<'a>(
         &'a self,
     ) -> Option<Taken<'a, RwLockReadGuard<'a, LockedCore<U, C, P, F, R, Q>>, S>> {
-        self.steps.reach(Step::TryLook);
+        self.steps.reach(SharedStep::TryLook);
         let locked = self.locked.try_read()?;
-        Some(Taken::new(locked, &self.steps, Step::Looked))
+        Some(Taken::new(locked, &self.steps, SharedStep::Looked))
     }
 
     /// Issues a call, and waits for its end.
@@ -497,9 +503,9 @@ impl<
         ensures unchanged { OnErr result (pass.new ≡ seeing pass.old pass.new.seen) }
     {
         let mut taken = self.change(rt);
-        taken.locked.begin(pass, entry, value, deadline)?;
+        taken.locked.issue(pass, entry, value, deadline)?;
         let sleepers = self.tell(&taken.locked, Some(pass.seat()));
-        if let Some(end) = taken.locked.finish(pass) {
+        if let Some(end) = taken.locked.collect(pass) {
             drop(taken);
             self.wake(&sleepers);
             return Ok(end);
@@ -525,14 +531,14 @@ impl<
                 }
             }
             let mut taken = self.change(rt);
-            if let Some(end) = taken.locked.finish(pass) {
+            if let Some(end) = taken.locked.collect(pass) {
                 return end;
             }
         }
         unreachable!()
     }
 
-    /// Whether the pending call has ended.
+    /// Returns whether the pending call has ended.
     fn has_ended<W: Wait>(&self, rt: &W, pass: &Pass<U::Value, C, P, F, Q>) -> bool {
         match pass.asked() {
             Some(asked) => matches!(
@@ -543,7 +549,7 @@ impl<
         }
     }
 
-    /// Says at the seat that its call waits.
+    /// Notes at the seat that its call waits.
     fn stay(&self, seat: u16) {
         if let Some(there) = self.seats.get(seat as usize) {
             there.wait(&self.steps, seat);
@@ -558,7 +564,8 @@ impl<
         }
     }
 
-    /// Tells the seats of the calls that this hold ended, but for the caller's own, and answers who sleeps there.
+    /// Notifies the seats of the calls that this hold of the lock ended, except the caller's own. Returns those whose sleeping
+    /// callers are still to be woken.
     fn tell(&self, locked: &LockedCore<U, C, P, F, R, Q>, own: Option<u16>) -> Sleepers {
         let mut sleepers = Sleepers::new();
         for ended in locked.core().ended_now() {
@@ -569,7 +576,8 @@ impl<
         sleepers
     }
 
-    /// Tells the seat that its call has ended.
+    /// Notifies the seat that its call has ended. If its caller sleeps, adds the seat to the sleepers, or wakes the caller if
+    /// they are full.
     fn tell_one(&self, seat: u16, sleepers: &mut Sleepers) {
         if let Some(there) = self.seats.get(seat as usize) {
             if there.end(&self.steps, seat) && !sleepers.add(seat) {
@@ -578,7 +586,7 @@ impl<
         }
     }
 
-    /// Wakes the callers that slept, once the lock is left.
+    /// Wakes the sleeping callers, after the lock is released.
     fn wake(&self, sleepers: &Sleepers) {
         for seat in sleepers.seats() {
             if let Some(there) = self.seats.get(*seat as usize) {

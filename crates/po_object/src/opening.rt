@@ -1,3 +1,4 @@
+// SPDX-License-Identifier: MIT
 //! How an object is opened.
 
 ghost use Rattle.std.specs.Prelude.{◌≡◌, ◌≢◌, ◌+◌, ◌≤◌, [], true, false, IfOk, IfErr, IfSome, OnOk, MatchResult, is_some, option_map, vec_len, vec_capacity};
@@ -8,14 +9,14 @@ ghost use Rattle.po_object.specs.Faults.{HandsBack, IsWhy};
 ghost use Rattle.po_object.specs.LatestCalls.{NoneIssued};
 ghost use Rattle.po_object.specs.Reservations.{reserved};
 
-use crate::fault::{BoundedOpenFault, OpenFault};
+use crate::error::{BoundedOpenError, OpenError};
 use crate::front::{Front, Log};
 use crate::latest::LatestCalls;
 use crate::ledgers::{CallLedger, SeatParts, Story};
 use crate::object::Object;
 use crate::reservation::{Reservations, Unreserved};
 use crate::seat::Seat;
-use crate::steps::{Steps, Unasked};
+use crate::steps::{Hook, NoHook};
 use crate::{LockedCore, Pass};
 use crossbeam_utils::sync::Parker;
 use po_core::{Core, Event, Record};
@@ -35,10 +36,10 @@ impl<
     R: Record<U>,
     Q: Receipts<U::Value>,
 > Object<U, C, P, F, R, Q> {
-    /// Opens an object over a core that has no event, with so many seats, and hands out a pass for each.
+    /// Opens an object with `seats` seats over a core that has no event, and hands out a pass for each seat.
     ///
-    /// The log is a new one, which the ledger of calls names. A fault hands the core, the blanks and the log back: 1 where the
-    /// core has, or had before a cut, an event, and 2.
+    /// The log is a new one, which the ledger of calls names. An error hands the core, the blanks and the log back. It is 1 if
+    /// the core has an event, or had one before a cut, and 2 if memory runs out.
     pub fn open(
         alloc: Global,
         core: Core<U, R>,
@@ -46,7 +47,7 @@ impl<
         calls: Blank,
         procedures: Blank,
         log: Keeper<Event<U::Value>>,
-    ) -> Result<(Object<U, C, P, F, R, Q>, Vec<Pass<U::Value, C, P, F, Q>>), OpenFault<U, R>>
+    ) -> Result<(Object<U, C, P, F, R, Q>, Vec<Pass<U::Value, C, P, F, Q>>), OpenError<U, R>>
         // Each ledger has a part for each seat, and one for the object.
         requires calls { (calls.name ≡ C.name) × (calls.parts ≡ C.parts) × (calls.parts ≡ seats + 1) }
         requires procedures { (procedures.name ≡ P.name) × (procedures.parts ≡ P.parts) × (procedures.parts ≡ seats + 1) }
@@ -60,16 +61,16 @@ impl<
         ensures core { OnOk result (next_place core.object ≡ core.object.setup.first_place) }
         ensures fault { IfErr result (λ fault. HandsBack core calls procedures log fault) }
     {
-        Object::<U, C, P, F, R, Q, Unasked>::open_with(
-            alloc, core, seats, calls, procedures, log, Unasked,
+        Object::<U, C, P, F, R, Q, NoHook>::open_with(
+            alloc, core, seats, calls, procedures, log, NoHook,
         )
     }
 
-    /// Opens an object over a core that has no event and takes no memory, with so many seats, and hands out a pass for each.
-    /// No call of the object takes memory later.
+    /// Opens an object with `seats` seats over a core that has no event and takes no memory, and hands out a pass for each
+    /// seat. No call of the object takes memory later.
     ///
-    /// The log is a new one, which the ledger of calls names. A fault hands the core, the blanks and the log back: 1 where the
-    /// core has an event, and 2.
+    /// The log is a new one, which the ledger of calls names. An error hands the core, the blanks and the log back. It is 1 if
+    /// the core has an event, and 2 if memory runs out.
     pub fn open_bounded(
         alloc: Global,
         core: Core<U, R>,
@@ -78,7 +79,7 @@ impl<
         procedures: Blank,
         free: Blank,
         log: Keeper<Event<U::Value>>,
-    ) -> Result<(Object<U, C, P, F, R, Q>, Vec<Pass<U::Value, C, P, F, Q>>), BoundedOpenFault<U, R>>
+    ) -> Result<(Object<U, C, P, F, R, Q>, Vec<Pass<U::Value, C, P, F, Q>>), BoundedOpenError<U, R>>
         // Each ledger has a part for each seat, and one for the object.
         requires calls { (calls.name ≡ C.name) × (calls.parts ≡ C.parts) × (calls.parts ≡ seats + 1) }
         requires procedures { (procedures.name ≡ P.name) × (procedures.parts ≡ P.parts) × (procedures.parts ≡ seats + 1) }
@@ -86,7 +87,7 @@ impl<
         requires shape { core.object.setup.shape ≡ C.shape }
         requires story { IsStory U.meaning core.object.setup C.setup C.end_of }
         requires log { (log.name ≡ C.log) × (log.items ≡ []) }
-        // All memory was taken before, and there is some for a call of each seat.
+        // All memory was taken before, and there is enough for a call of each seat.
         requires bounded { (Q.is_bounded ≡ true) × (R.is_bounded ≡ true) }
         requires room { IfSome core.capacity (λ most. seats ≤ most) }
         ensures seats { IfOk result (λ r. r.0 ≡ seats) }
@@ -94,8 +95,8 @@ impl<
         ensures core { OnOk result (next_place core.object ≡ core.object.setup.first_place) }
         ensures fault { IfErr result (λ fault. HandsBack core calls procedures log fault.fault × (fault.free ≡ free)) }
     {
-        Object::<U, C, P, F, R, Q, Unasked>::open_bounded_with(
-            alloc, core, seats, calls, procedures, free, log, Unasked,
+        Object::<U, C, P, F, R, Q, NoHook>::open_bounded_with(
+            alloc, core, seats, calls, procedures, free, log, NoHook,
         )
     }
 }
@@ -107,9 +108,9 @@ impl<
     F: Ledger,
     R: Record<U>,
     Q: Receipts<U::Value>,
-    S: Steps,
+    S: Hook,
 > Object<U, C, P, F, R, Q, S> {
-    /// Opens an object as `open` does, which asks these before its steps.
+    /// Opens an object as `open` does. The object asks `steps` before each of its steps.
     pub fn open_with(
         alloc: Global,
         core: Core<U, R>,
@@ -118,7 +119,7 @@ impl<
         procedures: Blank,
         log: Keeper<Event<U::Value>>,
         steps: S,
-    ) -> Result<(Object<U, C, P, F, R, Q, S>, Vec<Pass<U::Value, C, P, F, Q>>), OpenFault<U, R>>
+    ) -> Result<(Object<U, C, P, F, R, Q, S>, Vec<Pass<U::Value, C, P, F, Q>>), OpenError<U, R>>
         // Each ledger has a part for each seat, and one for the object.
         requires calls { (calls.name ≡ C.name) × (calls.parts ≡ C.parts) × (calls.parts ≡ seats + 1) }
         requires procedures { (procedures.name ≡ P.name) × (procedures.parts ≡ P.parts) × (procedures.parts ≡ seats + 1) }
@@ -134,17 +135,17 @@ impl<
     {
         core.recall_kind();
         match Prepared::make(alloc, &core, seats) {
-            Ok(places) => {
+            Ok(prepared) => {
                 let free = Reservations::without();
                 Ok(open_over(
-                    alloc, core, seats, calls, procedures, free, log, places, steps,
+                    alloc, core, seats, calls, procedures, free, log, prepared, steps,
                 ))
             }
             Err(why) => Err(why.with(core, calls, procedures, log)),
         }
     }
 
-    /// Opens an object as `open_bounded` does, which asks these before its steps.
+    /// Opens an object as `open_bounded` does. The object asks `steps` before each of its steps.
     pub fn open_bounded_with(
         alloc: Global,
         core: Core<U, R>,
@@ -156,7 +157,7 @@ impl<
         steps: S,
     ) -> Result<
         (Object<U, C, P, F, R, Q, S>, Vec<Pass<U::Value, C, P, F, Q>>),
-        BoundedOpenFault<U, R>,
+        BoundedOpenError<U, R>,
     >
         // Each ledger has a part for each seat, and one for the object.
         requires calls { (calls.name ≡ C.name) × (calls.parts ≡ C.parts) × (calls.parts ≡ seats + 1) }
@@ -165,7 +166,7 @@ impl<
         requires shape { core.object.setup.shape ≡ C.shape }
         requires story { IsStory U.meaning core.object.setup C.setup C.end_of }
         requires log { (log.name ≡ C.log) × (log.items ≡ []) }
-        // All memory was taken before, and there is some for a call of each seat.
+        // All memory was taken before, and there is enough for a call of each seat.
         requires bounded { (Q.is_bounded ≡ true) × (R.is_bounded ≡ true) }
         requires room { IfSome core.capacity (λ most. seats ≤ most) }
         ensures seats { IfOk result (λ r. r.0 ≡ seats) }
@@ -174,13 +175,13 @@ impl<
         ensures fault { IfErr result (λ fault. HandsBack core calls procedures log fault.fault × (fault.free ≡ free)) }
     {
         match Prepared::make(alloc, &core, seats) {
-            Ok(places) => {
+            Ok(prepared) => {
                 let free = Reservations::open(free);
                 Ok(open_over(
-                    alloc, core, seats, calls, procedures, free, log, places, steps,
+                    alloc, core, seats, calls, procedures, free, log, prepared, steps,
                 ))
             }
-            Err(why) => Err(BoundedOpenFault {
+            Err(why) => Err(BoundedOpenError {
                 fault: why.with(core, calls, procedures, log),
                 free,
             }),
@@ -191,49 +192,49 @@ impl<
 /// Why no object is opened.
 #[derive(Clone, Copy)]
 enum Unopened {
-    /// The core has, or had before a cut, an event.
+    /// The core has an event, or had one before a cut.
     NotFresh,
-    /// Memory was wanting.
+    /// Memory ran out.
     OutOfMemory,
 }
 
 impl Unopened {
-    /// The fault, which hands all back.
+    /// Returns the error, which hands everything back.
     fn with<U: Unit, R: Record<U>>(
         self,
         core: Core<U, R>,
         calls: Blank,
         procedures: Blank,
         log: Keeper<Event<U::Value>>,
-    ) -> OpenFault<U, R>
+    ) -> OpenError<U, R>
         requires { IsWhy core self }
         ensures { HandsBack core calls procedures log result }
     {
         match self {
-            Unopened::NotFresh => OpenFault::NotFresh(core, calls, procedures, log),
-            Unopened::OutOfMemory => OpenFault::OutOfMemory(core, calls, procedures, log),
+            Unopened::NotFresh => OpenError::NotFresh(core, calls, procedures, log),
+            Unopened::OutOfMemory => OpenError::OutOfMemory(core, calls, procedures, log),
         }
     }
 }
 
-/// What an opening takes memory for.
+/// All that an opening takes memory for.
 struct Prepared<V: Copy, C: CallLedger<V>, P: Ledger, F: Ledger, Q: Receipts<V>> {
-    /// What the callers sleep on, those of the highest seats first.
+    /// The parkers on which callers sleep, those of the highest seats first.
     parkers: Vec<Parker>,
-    /// The object's ends.
+    /// The seats, which wake these callers.
     places: Vec<Seat>,
-    /// Room for the spent passes.
+    /// Room for the closed passes.
     room: Vec<ClosedPass<V, Q>>,
-    /// Room for how many passes each seat has.
+    /// Room to count the passes of each seat.
     counts: Vec<usize>,
     /// Room for the passes.
     passes: Vec<Pass<V, C, P, F, Q>>,
-    /// That no seat has issued a call.
+    /// The list that says that no seat has issued a call.
     latest: LatestCalls,
 }
 
 impl<V: Copy, C: CallLedger<V>, P: Ledger, F: Ledger, Q: Receipts<V>> Prepared<V, C, P, F, Q> {
-    /// Takes all memory that an object with so many seats over this core needs, if the core has no event.
+    /// Takes all memory that an object with `seats` seats over this core needs, if the core has no event.
     fn make<U: Unit, R: Record<U>>(
         alloc: Global,
         core: &Core<U, R>,
@@ -251,14 +252,14 @@ impl<V: Copy, C: CallLedger<V>, P: Ledger, F: Ledger, Q: Receipts<V>> Prepared<V
         if core.place() != u128::from(core.first_place()) {
             return Err(Unopened::NotFresh);
         }
-        let Ok(places) = prepare(alloc, seats) else {
+        let Ok(prepared) = prepare(alloc, seats) else {
             return Err(Unopened::OutOfMemory);
         };
-        Ok(places)
+        Ok(prepared)
     }
 }
 
-/// Takes all memory that an object with so many seats needs.
+/// Takes all memory that an object with `seats` seats needs.
 fn prepare<V: Copy, C: CallLedger<V>, P: Ledger, F: Ledger, Q: Receipts<V>>(
     alloc: Global,
     seats: u16,
@@ -295,7 +296,7 @@ fn prepare<V: Copy, C: CallLedger<V>, P: Ledger, F: Ledger, Q: Receipts<V>>(
     })
 }
 
-/// Opens the object, for which all memory is there.
+/// Opens the object in memory that was taken before.
 fn open_over<
     U: Unit,
     C: Story<U, U::Value>,
@@ -303,7 +304,7 @@ fn open_over<
     F: Ledger,
     R: Record<U>,
     Q: Receipts<U::Value>,
-    S: Steps,
+    S: Hook,
 >(
     alloc: Global,
     core: Core<U, R>,
@@ -312,7 +313,7 @@ fn open_over<
     procedures: Blank,
     free: (Reservations<F>, Unreserved<F>),
     log: Keeper<Event<U::Value>>,
-    places: Prepared<U::Value, C, P, F, Q>,
+    prepared: Prepared<U::Value, C, P, F, Q>,
     steps: S,
 ) -> (Object<U, C, P, F, R, Q, S>, Vec<Pass<U::Value, C, P, F, Q>>)
     requires fresh { next_place core.object ≡ core.object.setup.first_place }
@@ -324,11 +325,11 @@ fn open_over<
     requires bounded { Q.is_bounded ≡ R.is_bounded }
     requires free { (free.0 ≡ reserved Q.is_bounded 0) × (free.1 ≡ reserved Q.is_bounded (seats + 1)) }
     requires capacity { IfSome core.capacity (λ most. seats ≤ most) }
-    requires parkers { vec_len places.parkers ≡ seats }
-    requires places { vec_len places.places ≡ seats }
-    requires room { (vec_len places.room ≡ seats) × (vec_len places.counts ≡ seats) }
-    requires passes { (places.passes.items ≡ []) × (seats ≤ vec_capacity places.passes) }
-    requires latest { NoneIssued seats places.latest }
+    requires parkers { vec_len prepared.parkers ≡ seats }
+    requires places { vec_len prepared.places ≡ seats }
+    requires room { (vec_len prepared.room ≡ seats) × (vec_len prepared.counts ≡ seats) }
+    requires passes { (prepared.passes.items ≡ []) × (seats ≤ vec_capacity prepared.passes) }
+    requires latest { NoneIssued seats prepared.latest }
     ensures seats { result.0 ≡ seats }
     ensures fresh { AreFresh seats result.1.items }
 {
@@ -339,7 +340,7 @@ fn open_over<
         counts,
         passes,
         latest,
-    } = places;
+    } = prepared;
     let (calls, mut last_calls) = calls.open::<C>();
     let (procedures, mut last_procedures) = procedures.open::<P>();
     let (mut reservations, mut unreserved) = free;
@@ -372,7 +373,7 @@ fn open_over<
     )
 }
 
-/// An object with this value behind its lock, these seats, and the room that its closing needs.
+/// Returns an object with this value behind its lock, these seats, and the room that its closing needs.
 fn object_over<
     U: Unit,
     C: Story<U, U::Value>,
@@ -380,7 +381,7 @@ fn object_over<
     F: Ledger,
     R: Record<U>,
     Q: Receipts<U::Value>,
-    S: Steps,
+    S: Hook,
 >(
     locked: LockedCore<U, C, P, F, R, Q>,
     seats: u16,
@@ -415,7 +416,7 @@ fn object_over<
     }
 }
 
-/// Makes a pass for each seat, with a part of each ledger. Each is free.
+/// Makes a pass for each seat, with a part of each ledger. No pass has a call pending.
 fn hand_out<V: Copy, C: CallLedger<V>, P: Ledger, F: Ledger, Q: Receipts<V>>(
     alloc: Global,
     seats: u16,

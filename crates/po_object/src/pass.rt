@@ -1,3 +1,4 @@
+// SPDX-License-Identifier: MIT
 //! What a caller carries.
 
 ghost use Rattle.std.specs.Prelude.{◌≡◌, ◌<◌, ◌≤◌, ◌+◌, ◌⊎◌, ◌↔◌, true, IsSome, []};
@@ -10,7 +11,7 @@ ghost use Rattle.po_object.specs.Reservations.{reserved};
 use crate::front::{Front, Log};
 use crate::ledgers::CallLedger;
 use crate::reservation::Reservation;
-use crate::steps::Steps;
+use crate::steps::Hook;
 use crossbeam_utils::sync::Parker;
 use po_history::Trace;
 use po_receipts::{Asked, ClosedPass, Receipt, Receipts};
@@ -19,9 +20,8 @@ use std::marker::Model;
 use std::sync::Wait;
 use std::sync::ledger::{Ledger, Share};
 
-/// The right to call an object from one seat: the opening of the object hands out one for each. It files a receipt of each
-/// call and each procedure that was accepted, in memory or for proofs alone, and can't be copied. It has seen the history up to
-/// its last answer.
+/// The right to call an object from one seat. Opening the object hands out one for each seat, and none can be copied. It files
+/// a receipt for each accepted call and procedure, in memory or only for proofs. It has seen the history up to its last answer.
 #[derive(Drop)]
 pub struct Pass<
     V: Copy,
@@ -42,7 +42,7 @@ pub struct Pass<
     pub(crate) front: Front<V, C>,
 }
 
-/// A pass whose receipts are known to proofs alone.
+/// A pass whose receipts only proofs know.
 pub type BoundedPass<V, C, P, F> = Pass<V, C, P, F, Trace<Receipt<V>>>;
 
 impl<V: Copy, C: CallLedger<V>, P: Ledger, F: Ledger, Q: Receipts<V>> Model
@@ -120,42 +120,42 @@ impl<V: Copy, C: CallLedger<V>, P: Ledger, F: Ledger, Q: Receipts<V>> Pass<V, C,
         }
     }
 
-    /// The seat from which it calls: the owner of its calls in the history.
+    /// Returns the seat from which it calls: the owner of its calls in the history.
     pub fn seat(&self) -> u16
         ensures { result ≡ self.now.seat }
     {
         self.seat
     }
 
-    /// How many calls were accepted.
+    /// Returns how many calls were accepted.
     pub fn calls(&self) -> u64
         ensures { result ≡ self.now.calls }
     {
         self.calls
     }
 
-    /// How many procedures were accepted.
+    /// Returns how many procedures were accepted.
     pub fn procedures(&self) -> u64
         ensures { result ≡ self.now.procedures }
     {
         self.procedures
     }
 
-    /// Whether a call was accepted that has no receipt yet. None is pending between two calls of an `Object`.
+    /// Returns whether a call was accepted that has no receipt yet. Between two calls of an `Object`, none is pending.
     pub fn pending(&self) -> bool
         ensures { (result ≡ true) ↔ IsSome self.now.pending }
     {
         self.pending.is_some()
     }
 
-    /// How far its caller has seen the history of the object, for another one to have who has no seat.
+    /// Returns how far its caller has seen the history of the object, for another caller, which has no seat.
     pub fn front(&self) -> Front<V, C>
         ensures { result ≡ self.now.seen }
     {
         self.front.again()
     }
 
-    /// Lets its caller see what another one has seen too: what it is told from now on stands behind that.
+    /// Lets its caller see what another one has seen too: later answers come after that.
     pub fn see(&mut self, front: &Front<V, C>)
         ensures own { IsPrefix self.old.seen self.new.seen }
         ensures other { IsPrefix front.now self.new.seen }
@@ -165,23 +165,24 @@ impl<V: Copy, C: CallLedger<V>, P: Ledger, F: Ledger, Q: Receipts<V>> Pass<V, C,
         self.front.see(front);
     }
 
-    /// There are as many receipts of calls as calls, but for one that is pending, and as many of procedures as procedures.
-    /// In what its caller has seen of the history each receipt says what happened.
+    /// Proves that there is one receipt for each call, except a pending one, and one for each procedure, and that each receipt
+    /// says what happened in the history that the caller has seen.
     pub fn recall_invariant(&self)
         ensures tallied { IsTallied self.now }
         ensures told { IsTold C.end_of self.now }
     {
+        // Only for the prover: the use of a field brings in the invariant.
         let _ = &self.receipts;
     }
 
-    /// The call that has no receipt yet.
+    /// Returns the call that has no receipt yet.
     pub(crate) fn asked(&self) -> Option<Asked<V>>
         ensures { result ≡ self.now.pending }
     {
         self.pending
     }
 
-    /// Puts the pass's parts of the ledgers to these, and keeps the rest. What its caller was told is of the log.
+    /// Merges the pass's parts of the ledgers into these, and returns the rest. What its caller was told is in the log.
     pub(crate) fn spend(
         self,
         made: &mut Share<C>,
@@ -214,8 +215,8 @@ impl<V: Copy, C: CallLedger<V>, P: Ledger, F: Ledger, Q: Receipts<V>> Pass<V, C,
         ClosedPass::new(seat, calls, procedures, pending, receipts, seen)
     }
 
-    /// Sleeps until the seat is told, or for no reason.
-    pub(crate) fn sleep<W: Wait, S: Steps>(&self, rt: &W, steps: &S) {
+    /// Sleeps until the seat is notified. A sleep may also end for no reason.
+    pub(crate) fn sleep<W: Wait, S: Hook>(&self, rt: &W, steps: &S) {
         if steps.sleeps(self.seat) {
             self.parker.park(rt);
         }
@@ -223,7 +224,7 @@ impl<V: Copy, C: CallLedger<V>, P: Ledger, F: Ledger, Q: Receipts<V>> Pass<V, C,
 }
 
 impl<V: Copy, C: CallLedger<V>, P: Ledger, F: Ledger> Pass<V, C, P, F, Vec<Receipt<V>>> {
-    /// The receipts, in the order in which they were filed.
+    /// Returns the receipts, in the order in which they were filed.
     pub fn receipts(&self) -> &[Receipt<V>]
         ensures { result.now ≡ self.now.receipts }
     {

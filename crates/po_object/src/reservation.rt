@@ -1,3 +1,4 @@
+// SPDX-License-Identifier: MIT
 //! The room in memory that is reserved for the next call of each free pass.
 
 ghost use Rattle.std.specs.Prelude.{◌≡◌, ◌+◌, ◌<◌, ◌≤◌, Some, None, IfSome, is_some, option_map};
@@ -6,8 +7,8 @@ ghost use Rattle.po_object.specs.Reservations.{reserved};
 use std::marker::Model;
 use std::sync::ledger::{Blank, Book, Ledger, Share};
 
-/// How many passes have room in memory reserved for their next call. Contracts see it as that number, where the number of
-/// calls is fixed; else memory is taken for each call, and nothing is reserved.
+/// How many passes have room in memory reserved for their next call. Contracts see that number if the number of calls is fixed.
+/// Otherwise memory is taken for each call, and nothing is reserved.
 #[derive(Drop)]
 pub(crate) struct Reservations<F: Ledger> {
     book: Option<Book<F>>,
@@ -21,7 +22,7 @@ impl<F: Ledger> Model for Reservations<F> {
     ghost view = { λ r. mapped (λ b. b.total) r.book };
 }
 
-/// Whether a pass has room reserved for its next call. Contracts see it as 1 or 0, where the number of calls is fixed.
+/// Whether a pass has room reserved for its next call. Contracts see it as 1 or 0 if the number of calls is fixed.
 #[derive(Drop)]
 pub(crate) struct Reservation<F: Ledger> {
     share: Option<Share<F>>,
@@ -37,7 +38,7 @@ impl<F: Ledger> Model for Reservation<F> {
     ghost invariant = { λ r. WhereSome r.share (λ s. s.parts ≡ 1) };
 }
 
-/// The parts of the ledger that no pass has. Contracts see it as how many they are, where the number of calls is fixed.
+/// The parts of the ledger that no pass has. Contracts see how many there are, if the number of calls is fixed.
 #[derive(Drop)]
 pub(crate) struct Unreserved<F: Ledger> {
     share: Option<Share<F>>,
@@ -54,14 +55,14 @@ impl<F: Ledger> Model for Unreserved<F> {
 }
 
 impl<F: Ledger> Reservations<F> {
-    /// Nothing is ever reserved.
+    /// Returns reservations that never reserve anything.
     pub(crate) fn without() -> (Reservations<F>, Unreserved<F>)
         ensures { (result.0 ≡ None) × (result.1 ≡ None) }
     {
         (Reservations { book: None }, Unreserved { share: None })
     }
 
-    /// Nothing is reserved yet.
+    /// Opens the ledger, with nothing reserved yet.
     pub(crate) fn open(free: Blank) -> (Reservations<F>, Unreserved<F>)
         requires { (free.name ≡ F.name) × (free.parts ≡ F.parts) }
         ensures { (result.0 ≡ Some 0) × (result.1 ≡ Some free.parts) }
@@ -71,7 +72,7 @@ impl<F: Ledger> Reservations<F> {
         (none, Unreserved { share: Some(share) })
     }
 
-    /// Room is reserved for one pass more.
+    /// Reserves room for one more pass.
     pub(crate) fn reserve(&mut self, rest: &mut Unreserved<F>) -> Reservation<F>
         requires both { is_some rest.old ≡ is_some self.old }
         requires left { IfSome rest.old (λ parts. 1 < parts) }
@@ -89,7 +90,7 @@ impl<F: Ledger> Reservations<F> {
         Reservation { share: None }
     }
 
-    /// The pass's room is part of it.
+    /// Proves that the pass's room is among the reserved.
     pub(crate) fn audit(&mut self, own: &mut Reservation<F>)
         requires { own.old ≡ option_map (λ _. 1) self.old }
         ensures same { (self.new ≡ self.old) × (own.new ≡ own.old) }
@@ -102,7 +103,7 @@ impl<F: Ledger> Reservations<F> {
         }
     }
 
-    /// The pass's room is used.
+    /// Uses the pass's room.
     pub(crate) fn take(&mut self, own: &mut Reservation<F>)
         requires { own.old ≡ option_map (λ _. 1) self.old }
         ensures total { self.old ≡ option_map (λ n. n + 1) self.new }
@@ -116,7 +117,7 @@ impl<F: Ledger> Reservations<F> {
         }
     }
 
-    /// Room is reserved for the pass again.
+    /// Reserves room for the pass again.
     pub(crate) fn give(&mut self, own: &mut Reservation<F>)
         requires { own.old ≡ option_map (λ _. 0) self.old }
         ensures total { self.new ≡ option_map (λ n. n + 1) self.old }

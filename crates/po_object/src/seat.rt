@@ -1,26 +1,28 @@
-//! Where the caller of a seat waits for the end of its call.
+// SPDX-License-Identifier: MIT
+//! The place at which the caller of a seat waits for its call to end.
 
 ghost use Rattle.std.specs.Prelude.{◌≤◌};
 
-use crate::steps::{Step, Steps};
+use crate::steps::{Hook, SharedStep};
 use crossbeam_utils::CachePadded;
 use crossbeam_utils::sync::Unparker;
 use std::sync::atomic::{AtomicU64, Ordering};
 use std::{hint, thread};
 
-/// After so many of these looks it gives up the processor at each: whoever is to end the call may need it.
+/// How many looks a caller makes before it yields the processor at each further one. The thread that ends the call may need it.
 const QUICK_LOOKS: u32 = 8;
 
-/// The seat's call waits, and its caller looks for its end.
+/// The flag if the seat's call waits, and its caller looks for its end.
 const WAITS: u64 = 0;
 
-/// The seat's call has ended.
+/// The flag if the seat's call has ended.
 const ENDED: u64 = 1;
 
-/// The seat's call waits, and its caller sleeps.
+/// The flag if the seat's call waits, and its caller sleeps.
 const SLEEPS: u64 = 2;
 
-/// How the caller of a seat is told. No proof rests on what it says: a caller looks under the lock before it believes it.
+/// How the caller of a seat is notified. No proof depends on what it says: a caller checks under the lock before it believes
+/// it.
 #[derive(Drop)]
 pub struct Seat {
     flag: CachePadded<AtomicU64>,
@@ -28,7 +30,7 @@ pub struct Seat {
 }
 
 impl Seat {
-    /// A seat whose call waits, with what wakes its caller.
+    /// Returns a seat whose call waits, with the unparker that wakes its caller.
     pub fn new(unparker: Unparker) -> Seat {
         Seat {
             flag: CachePadded::new(AtomicU64::new(WAITS)),
@@ -36,29 +38,29 @@ impl Seat {
         }
     }
 
-    /// Says that the seat's call waits. The lock is held.
-    pub fn wait<S: Steps>(&self, steps: &S, seat: u16) {
-        steps.reach(Step::Flag(seat));
+    /// Notes that the seat's call waits. The thread that calls this holds the lock.
+    pub fn wait<S: Hook>(&self, steps: &S, seat: u16) {
+        steps.reach(SharedStep::Flag(seat));
         self.flag.store(WAITS, Ordering::SeqCst);
     }
 
-    /// Says that the seat's call has ended, and whether its caller sleeps. The lock is held.
-    pub fn end<S: Steps>(&self, steps: &S, seat: u16) -> bool {
-        steps.reach(Step::Flag(seat));
+    /// Notes that the seat's call has ended, and returns whether its caller sleeps. The thread that calls this holds the lock.
+    pub fn end<S: Hook>(&self, steps: &S, seat: u16) -> bool {
+        steps.reach(SharedStep::Flag(seat));
         self.flag.swap(ENDED, Ordering::SeqCst) == SLEEPS
     }
 
     /// Wakes the seat's caller.
-    pub fn wake<S: Steps>(&self, steps: &S, seat: u16) {
-        steps.reach(Step::Wake(seat));
+    pub fn wake<S: Hook>(&self, steps: &S, seat: u16) {
+        steps.reach(SharedStep::Wake(seat));
         self.unparker.unpark();
     }
 
-    /// Looks for a while whether the seat's call has ended, and else says that its caller sleeps. Says whether it has
+    /// Looks for a while whether the seat's call has ended. If it hasn't, notes that its caller sleeps. Returns whether it has
     /// ended.
-    pub fn look<S: Steps>(&self, steps: &S, seat: u16) -> bool {
+    pub fn look<S: Hook>(&self, steps: &S, seat: u16) -> bool {
         for turn in 0..S::LOOKS {
-            steps.reach(Step::Flag(seat));
+            steps.reach(SharedStep::Flag(seat));
             if self.flag.load(Ordering::SeqCst) == ENDED {
                 return true;
             }
@@ -68,14 +70,14 @@ impl Seat {
                 thread::yield_now();
             }
         }
-        steps.reach(Step::Flag(seat));
+        steps.reach(SharedStep::Flag(seat));
         self.flag
             .compare_exchange(WAITS, SLEEPS, Ordering::SeqCst, Ordering::SeqCst)
             == Err(ENDED)
     }
 }
 
-/// How many callers are woken after the lock was left. More than these are woken before.
+/// How many callers are woken after the lock is released. Any more are woken before.
 const MANY: usize = 4;
 
 /// The seats whose callers sleep and have to be woken.
@@ -87,7 +89,7 @@ pub struct Sleepers {
 }
 
 impl Sleepers {
-    /// None yet.
+    /// Returns none yet.
     pub fn new() -> Sleepers {
         Sleepers {
             seats: [0; MANY],
@@ -95,7 +97,7 @@ impl Sleepers {
         }
     }
 
-    /// Adds a seat, and says whether there was room for it.
+    /// Adds a seat, and returns whether there was room for it.
     pub fn add(&mut self, seat: u16) -> bool {
         if self.len >= MANY {
             return false;
@@ -105,7 +107,7 @@ impl Sleepers {
         true
     }
 
-    /// The seats that were added.
+    /// Returns the seats that were added.
     pub fn seats(&self) -> &[u16] {
         &self.seats[..self.len]
     }

@@ -1,57 +1,58 @@
-//! What a thread does to an object that other threads can notice, and who is asked before it does.
+// SPDX-License-Identifier: MIT
+//! What a thread does to an object that other threads can notice, and what is asked before each such step.
 
 /// A step that other threads can notice.
 #[derive(Clone, Copy, PartialEq, Eq, Debug)]
-pub enum Step {
-    /// Tries to take the lock for a change, and goes on if another has it.
+pub enum SharedStep {
+    /// The thread tries to take the lock for a change, and goes on if another thread has it.
     TryChange,
-    /// Takes the lock for a change.
+    /// The thread takes the lock for a change.
     Change,
-    /// Leaves the lock after a change.
+    /// The thread releases the lock after a change.
     Changed,
-    /// Tries to take the lock for a look, and goes on if another has it for a change.
+    /// The thread tries to take the lock for a look, and goes on if another thread has it for a change.
     TryLook,
-    /// Takes the lock for a look.
+    /// The thread takes the lock for a look.
     Look,
-    /// Leaves the lock after a look.
+    /// The thread releases the lock after a look.
     Looked,
-    /// Reads or writes the flag of the seat.
+    /// The thread reads or writes the flag of the seat.
     Flag(u16),
-    /// Sleeps at the seat.
+    /// The thread sleeps at the seat.
     Sleep(u16),
-    /// Wakes who sleeps at the seat.
+    /// The thread wakes the caller that sleeps at the seat.
     Wake(u16),
 }
 
-/// Who is asked before each step: in use no one, in a test one that lets the threads go on in an order of its own.
-pub trait Steps: Drop {
+/// What is asked before each step: in use nothing, in a test something that lets the threads go on in an order of its own.
+pub trait Hook: Drop {
     /// How often a thread tries to take the lock before it queues for it.
     const TRIES: u32;
 
     /// How often a caller looks for the end of its call before it sleeps.
     const LOOKS: u32;
 
-    /// The thread that calls takes this step next.
-    fn reach(&self, step: Step);
+    /// Says that the calling thread takes this step next.
+    fn reach(&self, step: SharedStep);
 
-    /// The caller of the seat sleeps next. Says whether it has to: a sleep may end for no reason, and so one in a test does
-    /// that doesn't begin.
+    /// Returns whether the caller of the seat is to sleep, which it is about to do. False makes the sleep return at once, like
+    /// a spurious wake-up. Tests use this.
     fn sleeps(&self, seat: u16) -> bool;
 }
 
-/// No one is asked.
+/// The steps of an object that asks nothing.
 #[derive(Clone, Copy, Drop)]
-pub struct Unasked;
+pub struct NoHook;
 
-impl Steps for Unasked {
-    /// Nobody gets the lock by trying while one is queued, so that queueing slows down all threads.
+impl Hook for NoHook {
+    /// While a thread is queued, no other gets the lock by trying, so queueing slows down all threads.
     const TRIES: u32 = 64;
 
-    /// Sleeping and waking is much dearer than looks.
+    /// Sleeping and waking costs much more than looking.
     const LOOKS: u32 = 100;
 
     #[inline(always)]
-    fn reach(&self, _step: Step) {}
+    fn reach(&self, _step: SharedStep) {}
 
     #[inline(always)]
     fn sleeps(&self, _seat: u16) -> bool {
@@ -59,30 +60,30 @@ impl Steps for Unasked {
     }
 }
 
-/// When it is dropped, asks before the lock is left.
-pub struct Leaving<'a, S: Steps> {
+/// A value that reports to `Hook` when it is dropped, just before the lock is released.
+pub struct Leaving<'a, S: Hook> {
     steps: &'a S,
-    step: Step,
+    step: SharedStep,
 }
 
-impl<S: Steps> Drop for Leaving<'_, S> {
+impl<S: Hook> Drop for Leaving<'_, S> {
     fn drop(self) {
         self.steps.reach(self.step);
         let Leaving { steps: _, step: _ } = self;
     }
 }
 
-/// A lock that was taken: before its guard `G` is dropped, it is asked, since that leaves the lock.
+/// A guard that reports to `Hook` just before it releases the lock.
 #[derive(Drop)]
-pub struct Taken<'a, G, S: Steps> {
+pub struct Taken<'a, G, S: Hook> {
     leaving: Leaving<'a, S>,
     /// The guard.
     pub locked: G,
 }
 
-impl<'a, G, S: Steps> Taken<'a, G, S> {
-    /// The guard, of a lock that is left by this step.
-    pub fn new(locked: G, steps: &'a S, step: Step) -> Taken<'a, G, S> {
+impl<'a, G, S: Hook> Taken<'a, G, S> {
+    /// Returns the guard, with the step at which it releases the lock.
+    pub fn new(locked: G, steps: &'a S, step: SharedStep) -> Taken<'a, G, S> {
         Taken {
             leaving: Leaving { steps, step },
             locked,

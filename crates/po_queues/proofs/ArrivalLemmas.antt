@@ -1,4 +1,4 @@
--- The one list is the only one that the links hold.
+-- The links hold only one list.
 use Rattle.std.proofs.Common.{◌≡◌, ℕ, suc, ◌+◌, ◌-◌, ◌<◌, not, eqb, List, [], ◌∷◌, ◌++◌, get_or, Option, Some, None}
 use Rattle.std.proofs.Common.{refl, sym, ap, ◌∙◌, inl, inr, arith}
 use Rattle.std.specs.List.{All}
@@ -12,7 +12,7 @@ use Rattle.po_queues.specs.Links.{link_of_item, HoldsQueues}
 use Rattle.po_queues.specs.Arrivals.{insert_item, arrivals_from, arrivals}
 use Rattle.po_queues.specs.declared.link.Link.{Link}
 
--- what is found among what has later stamps has one
+-- a key found among later ones has a later stamp
 after_found : (s k : ℕ) (items : List QueuedKey) (x : QueuedKey) → All (λ y. s < y.stamp) items
     → item_of k items ≡ Some x → s < x.stamp
 after_found s k [] x all found = let bad : None ≡ Some x = found in absurd (cc)
@@ -24,12 +24,12 @@ after_found s k (y ∷ ys) x all found = elim (cases_Bool (eqb y.key k)) [
   | inr differ ↦ after_found s k ys x (All-tail (λ y. s < y.stamp) y ys all) (simp differ at found)
 ]
 
--- what has later stamps has them without a key
+-- if all stamps are later, they are so without a key
 after_without : (s k : ℕ) (items : List QueuedKey) → All (λ y. s < y.stamp) items
     → All (λ y. s < y.stamp) (without_key k items)
 after_without s k items all = All-filter (λ x. not (eqb x.key k)) (λ y. s < y.stamp) items all
 
--- stamps that rise do so without a key
+-- rising stamps still rise without a key
 pub rising_without : (k : ℕ) (items : List QueuedKey) → RiseBy (λ x. x.stamp) items → RiseBy (λ x. x.stamp) (without_key k items)
 rising_without k [] r = r
 rising_without k (y ∷ ys) r = elim (cases_Bool (eqb y.key k)) [
@@ -37,12 +37,12 @@ rising_without k (y ∷ ys) r = elim (cases_Bool (eqb y.key k)) [
   | inr differ ↦ simp differ (after_without y.stamp k ys r.0, rising_without k ys r.1)
 ]
 
--- what comes before all others is put first
+-- if a key comes before all others, it is put first
 front : (x : QueuedKey) (ys : List QueuedKey) → All (λ y. x.stamp < y.stamp) ys → insert_item x ys ≡ x ∷ ys
 front x [] all = refl
 front x (y ∷ ys) all = simp (lt-ltb x.stamp y.stamp (All-head (λ y. x.stamp < y.stamp) y ys all)) refl
 
--- an item that is taken out goes back to where it was
+-- a queued key that is taken out and put in again goes back to its place
 back : (k : ℕ) (items : List QueuedKey) (x : QueuedKey) → RiseBy (λ x. x.stamp) items → AreDistinct (keys_of items)
     → item_of k items ≡ Some x → insert_item x (without_key k items) ≡ items
 back k [] x r d found = let bad : None ≡ Some x = found in absurd (cc)
@@ -62,12 +62,12 @@ abbrev entry_and_stamp : Option Link → Option (ℕ × ℕ)
 entry_and_stamp None = None
 entry_and_stamp (Some l) = Some (l.entry, l.stamp)
 
--- the entry and the stamp of what is queued
+-- the entry and the stamp of a queued key
 abbrev item_entry_and_stamp : Option QueuedKey → Option (ℕ × ℕ)
 item_entry_and_stamp None = None
 item_entry_and_stamp (Some x) = Some (x.entry, x.stamp)
 
--- where no key has an item, there is none
+-- if no key has an item, there is none
 no_items : (items : List QueuedKey) → ((j : ℕ) → item_of j items ≡ None) → items ≡ []
 no_items [] none = refl
 no_items (x ∷ xs) none = let bad : Some x ≡ None = simp (eq-eqb x.key x.key refl) at (none x.key) in absurd (cc)
@@ -81,18 +81,18 @@ item_key k (y ∷ ys) x found = elim (cases_Bool (eqb y.key k)) [
   | inr differ ↦ item_key k ys x (simp differ at found)
 ]
 
--- a key that is taken out has no item
+-- once a key is taken out, it has no item
 gone : (j : ℕ) (items : List QueuedKey) → item_of j (without_key j items) ≡ None
 gone j [] = refl
 gone j (x ∷ xs) = elim (cases_Bool (eqb x.key j))
     [ inl equal ↦ simp equal (gone j xs) | inr differ ↦ simp differ (gone j xs) ]
 
--- with no entry and stamp there is no item
+-- if there is no entry and stamp, there is no item
 none_from_pair : (o : Option QueuedKey) → None ≡ item_entry_and_stamp o → o ≡ None
 none_from_pair None e = refl
 none_from_pair (Some x) e = absurd (cc)
 
--- an item is known by its entry, its key and its stamp
+-- an item is determined by its entry, its key and its stamp
 some_from_pair : (k : ℕ) (l : Link) (o : Option QueuedKey) → ((x : QueuedKey) → o ≡ Some x → x.key ≡ k)
     → Some (l.entry, l.stamp) ≡ item_entry_and_stamp o
     → o ≡ Some (record { entry = l.entry; key = k; stamp = l.stamp })
@@ -106,11 +106,11 @@ some_from_pair k l (Some x) key e =
     ∙ ap (λ (q : ℕ). let z : QueuedKey = record { entry = l.entry; key = q; stamp = x.stamp } in Some z) ke
     ∙ ap (λ (s : ℕ). let z : QueuedKey = record { entry = l.entry; key = k; stamp = s } in Some z) es
 
--- one further on
+-- the index one further on
 shifted : (k i : ℕ) → k + suc i ≡ k + 1 + i
 shifted k i = omega arith
 
--- what is queued by the links from k on, where no key below k is queued
+-- the keys queued by the links from k on, if no key below k is queued
 unique_from : (k : ℕ) (links : List (Option Link)) (items : List QueuedKey) → RiseBy (λ x. x.stamp) items
     → AreDistinct (keys_of items) → ((j : ℕ) → j < k → item_of j items ≡ None)
     → ((i : ℕ) → entry_and_stamp (get_or links i None) ≡ item_entry_and_stamp (item_of (k + i) items))
@@ -145,7 +145,7 @@ link_entry_and_stamp : (items : List QueuedKey) (o : Option QueuedKey)
 link_entry_and_stamp items None = refl
 link_entry_and_stamp items (Some x) = refl
 
--- keys that the links hold are what they are read off as
+-- if the links hold these keys, they are read back from the links
 pub unique : (total : ℕ) (links : List (Option Link)) (firsts lasts : List (Option ℕ)) (counts : List ℕ)
     (items : List QueuedKey)
     → HoldsQueues total links firsts lasts counts items → RiseBy (λ x. x.stamp) items → arrivals links ≡ items
@@ -156,7 +156,7 @@ unique total links firsts lasts counts items h r = unique_from 0 links items r h
     from_zero : (i : ℕ) → i ≡ 0 + i
     from_zero i = omega arith
 
--- stamps that rise do so with a later one at the end
+-- rising stamps still rise with a later one at the end
 pub rising_push : (items : List QueuedKey) (x : QueuedKey) → RiseBy (λ x. x.stamp) items → All (λ y. y.stamp < x.stamp) items
     → RiseBy (λ x. x.stamp) (items ++ x ∷ [])
 rising_push [] x r before = (All-nil (λ y. x.stamp < y.stamp), tt)

@@ -1,4 +1,4 @@
--- The bits of entries: one is written, the next that is set is found, and what they say of the queues.
+-- The bits of entries: writing one, finding the next set one, and what they say about the queues.
 use Rattle.std.proofs.Common.{◌≡◌, ◌≢◌, ℕ, ◌+◌, ◌-◌, ◌*◌, ◌/◌, ◌%◌, ◌^◌, ◌<◌, ◌≤◌, min, Bool, true, false, eqb, ltb}
 use Rattle.std.proofs.Common.{List, [], ◌∷◌, ◌++◌, length, get_or, set, replicate, Some, refl, sym, ap, ◌∙◌, inl, inr}
 use Rattle.std.proofs.Common.{arith}
@@ -23,7 +23,7 @@ pub bit_of-set_same : (words : List ℕ) (e index v : ℕ) → index ≡ e / 64 
     → bit_of (set words index v) e ≡ bit_at v (e % 64)
 bit_of-set_same words e index v here lt = rw (← here) (ap (λ w. bit_at w (e % 64)) (get_or-set_same words index v 0 lt))
 
--- the bit of another entry, where the word keeps its other bits
+-- the bit of another entry, if the word keeps its other bits
 pub bit_of-set_other : (words : List ℕ) (e f index v : ℕ) → index ≡ e / 64 → index < length words → f ≢ e
     → ((i : ℕ) → i < 64 → i ≢ e % 64 → bit_at v i ≡ bit_at (get_or words index 0) i)
     → bit_of (set words index v) f ≡ bit_of words f
@@ -34,11 +34,11 @@ bit_of-set_other words e f index v here lt ne keeps = elim (cases_eq (f / 64) in
   | inr other ↦ ap (λ w. bit_at w (f % 64)) (get_or-set_other words index (f / 64) v 0 other)
 ]
 
--- the bit of an entry whose word is past the end
+-- the bit of an entry whose word is past the end is 0
 pub bit_of-past : (words : List ℕ) (e : ℕ) → length words ≤ e / 64 → bit_of words e ≡ 0
 bit_of-past words e past = rw (get_or_past words (e / 64) 0 past) (bit_at-zero (e % 64))
 
--- no bit of words of 0 is set
+-- no bit is set in words that are 0
 pub bit_of-zeros : (n e : ℕ) → bit_of (replicate n 0) e ≡ 0
 bit_of-zeros n e = elim (cases_lt (e / 64) n) [
   | inl lt ↦ rw (get_or-replicate {A = ℕ} n (e / 64) 0 0 lt) (bit_at-zero (e % 64))
@@ -68,7 +68,7 @@ masked_below word mask h k i mask_is low =
     let least : min (bit_at word i) 0 ≡ 0 = omega arith in
     rw mask_is (bit_at_and word (2 ^ h - 2 ^ k) i ∙ ap (min (bit_at word i)) zeros ∙ least)
 
--- the next bit is the lowest that the mask leaves in the first word where it leaves one
+-- the next bit is the lowest one that the mask leaves, in the first word in which it leaves one
 pub next_bit_found : (words : List ℕ) (from index mask word e : ℕ) → from < 64 * index + 64
     → mask ≡ 2 ^ 64 - 2 ^ (from - 64 * index) → word ≡ bit_and (get_or words index 0) mask → word < 2 ^ 64 → 0 < word
     → ((e : ℕ) → from ≤ e → e < 64 * index → bit_of words e ≡ 0) → e ≡ 64 * index + trailing_zeros w64 word
@@ -103,7 +103,7 @@ next_bit_found words from index mask word e near mask_is word_is fits some befor
       ];
     }
 
--- where the mask leaves no bit, no bit of the word is the next one
+-- if the mask leaves no bit, no bit of the word is the next one
 pub no_bit_here : (words : List ℕ) (from index mask word : ℕ) → from < 64 * index + 64
     → mask ≡ 2 ^ 64 - 2 ^ (from - 64 * index) → word ≡ bit_and (get_or words index 0) mask → word ≡ 0
     → ((e : ℕ) → from ≤ e → e < 64 * index → bit_of words e ≡ 0) → (e : ℕ) → from ≤ e → e < 64 * (index + 1)
@@ -118,7 +118,7 @@ no_bit_here words from index mask word near mask_is word_is none before e here b
       ∙ ap (λ w. bit_at w (e - 64 * index)) (sym word_is ∙ none) ∙ bit_at-zero (e - 64 * index)
 ]
 
--- a word of which the mask of all its bits leaves none is 0
+-- if the mask of all bits leaves none of a word, the word is 0
 pub no_bit_at_all : (word mask : ℕ) → mask ≡ 2 ^ 64 - 2 ^ 0 → word < 2 ^ 64 → bit_and word mask ≡ 0 → word ≡ 0
 no_bit_at_all word mask mask_is fits none = elim (cases_lt 0 word) [
   | inl some ↦
@@ -134,12 +134,12 @@ no_bit_at_all word mask mask_is fits none = elim (cases_lt 0 word) [
   | inr none_is ↦ omega (arith, none_is)
 ]
 
--- some keys, as a number of them
+-- there are keys exactly if their number isn't 0
 has_keys-length : (ks : List ℕ) → ltb 0 (length ks) ≡ has_keys ks
 has_keys-length [] = refl
 has_keys-length (k ∷ ks) = lt-ltb 0 (length (k ∷ ks)) (omega arith)
 
--- there is a key where one is pushed
+-- once a key is added, there is a key
 has_keys-push : (ks : List ℕ) (k : ℕ) → has_keys (ks ++ k ∷ []) ≡ true
 has_keys-push [] k = refl
 has_keys-push (x ∷ xs) k = refl
@@ -150,7 +150,7 @@ pub record WritesBit (words words' : List ℕ) (entry bit : ℕ) : Type 0 where
   pub others : (e : ℕ) → e ≢ entry → bit_of words' e ≡ bit_of words e
   pub len : length words' ≡ length words
 
--- the bits once something is queued
+-- the bits once a key is queued
 pub marks_push : (total : ℕ) (words words' : List ℕ) (items : List QueuedKey) (x : QueuedKey)
     → MarksBusy total words items → WritesBit words words' x.entry 1 → MarksBusy total words' (items ++ x ∷ [])
 marks_push total words words' items x m w = record {
@@ -185,7 +185,7 @@ marks_without total words words' items j y n m d found n_is w = record {
   few = omega (arith, m.few, w.len);
 }
 
--- an entry with a queued key is one of those that there are
+-- an entry with a queued key exists
 has_keys-within : (total e : ℕ) (items : List QueuedKey) → All (λ x. x.entry < total) items
     → has_keys (keys_on e items) ≡ true → e < total
 has_keys-within total e [] all has = absurd (false≢true has)
@@ -204,12 +204,12 @@ no_queue : (xs : List QueuedKey) → has_keys (keys_of xs) ≡ false → xs ≡ 
 no_queue [] none = refl
 no_queue (x ∷ xs) none = absurd (false≢true (sym none))
 
--- a bit that is set says yes
+-- a set bit says yes
 set_bit : (b : Bool) → bit_when b ≡ 1 → b ≡ true
 set_bit true e = refl
 set_bit false e = absurd (omega (arith, e))
 
--- a bit that isn't set says no
+-- a cleared bit says no
 clear_bit : (b : Bool) → bit_when b ≡ 0 → b ≡ false
 clear_bit true e = absurd (omega (arith, e))
 clear_bit false e = refl
@@ -222,7 +222,7 @@ clear_word words sums w s bit = omega (arith, ltb-false 0 (get_or words w 0) (cl
 pub some_word : (words sums : List ℕ) (w : ℕ) → SumsUp words sums → bit_of sums w ≡ 1 → 0 < get_or words w 0
 some_word words sums w s bit = ltb-true 0 (get_or words w 0) (set_bit _ (sym (s.marks w) ∙ bit))
 
--- where a word has no bit set from here on, and none of the words behind it has one, none is set
+-- if a word has no set bit from here on, and the words after it have none, none is set
 clear_between : (words sums : List ℕ) (from w : ℕ) → SumsUp words sums
     → ((e : ℕ) → from ≤ e → e / 64 ≡ from / 64 → bit_of words e ≡ 0)
     → ((v : ℕ) → from / 64 + 1 ≤ v → v < w → bit_of sums v ≡ 0) → (e : ℕ) → from ≤ e → e / 64 < w
@@ -233,7 +233,7 @@ clear_between words sums from w s here between e later below = elim (cases_lt (f
   | inr same ↦ here e later (omega (arith, same, later))
 ]
 
--- the next bit is the first of the next word that has one, where its own word has none from here on
+-- if its own word has no set bit from here on, the next bit is the first of the next word that has one
 pub next_bit_behind : (words sums : List ℕ) (from w e : ℕ) → SumsUp words sums
     → ((f : ℕ) → from ≤ f → f / 64 ≡ from / 64 → bit_of words f ≡ 0) → IsNextBit sums (from / 64 + 1) w
     → IsNextBit words (64 * w) e → IsNextBit words from e
@@ -246,12 +246,12 @@ next_bit_behind words sums from w e s here next first = record {
   ];
 }
 
--- an entry whose bit isn't set has an empty queue
+-- an entry whose bit is cleared has an empty queue
 pub idle_queue : (total : ℕ) (words : List ℕ) (items : List QueuedKey) (e : ℕ) → MarksBusy total words items
     → bit_of words e ≡ 0 → queue_of e items ≡ []
 idle_queue total words items e m bit = no_queue (queue_of e items) (clear_bit _ (sym (m.marks e) ∙ bit))
 
--- the next entry whose bit is set is the next one with a queued key
+-- the next entry whose bit is set is the next with a queued key
 pub next_busy_from_bit : (queues : QueuesView) (words : List ℕ) (from e : ℕ)
     → MarksBusy queues.total words queues.items → All (λ x. x.entry < queues.total) queues.items
     → IsNextBit words from e → IsNextBusy queues from e

@@ -1,4 +1,4 @@
--- What is seen of entry queues, and what a change of what is queued makes of them.
+-- What contracts see of entry queues, and how a change of the queued keys changes it.
 use Rattle.std.proofs.Common.{◌≡◌, ℕ, ◌<◌, true, false, List, [], ◌∷◌, ◌++◌, set, length, Option, Some, None, refl}
 use Rattle.std.proofs.Common.{sym, ap, ap₂, ◌∙◌, subst, inl, inr, arith, replicate, eqb}
 use Rattle.std.specs.Prelude.{option_map, IfSome, IsNone}
@@ -20,7 +20,7 @@ use Rattle.po_queues.specs.Arrived.{first_due, without_arrived}
 use Rattle.po_queues.specs.Lines.{with_expirations, HasItsStamp, KeepsLines}
 use Rattle.po_queues.specs.declared.expiration.Expiration.{Expiration}
 
--- What is seen of entry queues that are kept so.
+-- What contracts see of entry queues that are kept in these three.
 abbrev pub lines_view : ℕ → QueuesView → ExpirationsView → EntryQueuesView
 lines_view reserved by_entry expirations = record {
   total = by_entry.total;
@@ -29,7 +29,7 @@ lines_view reserved by_entry expirations = record {
   items = with_expirations expirations.calls by_entry.items;
 }
 
--- Stamps rise, with times too.
+-- Stamps rise with times too.
 rising_with : (calls : List (Option Expiration)) (items : List QueuedKey) → RiseBy (λ x. x.stamp) items
     → RiseBy (λ x. x.stamp) (with_expirations calls items)
 rising_with calls [] rises = tt
@@ -38,12 +38,12 @@ rising_with calls (x ∷ xs) rises = (
   rising_with calls xs rises.1,
 )
 
--- The calls that expire, where that of a key is one of them, if it has a time.
+-- The calls that expire, with that of a key if it has a time.
 abbrev pub calls_with : List (Option Expiration) → QueuedKey → Option ℕ → List (Option Expiration)
 calls_with calls x None = calls
 calls_with calls x (Some time) = set calls x.key (Some (record { time = time; stamp = x.stamp }))
 
--- What calls have, once one key more is queued, with its time.
+-- What the calls have once one more key is queued, with its time.
 record HasCall (calls : List (Option Expiration)) (items : List QueuedKey) (x : QueuedKey) (time : Option ℕ) : Type 0 where
   items_are : with_expirations (calls_with calls x time) (items ++ x ∷ [])
       ≡ with_expirations calls items ++ timed x time ∷ []
@@ -51,7 +51,7 @@ record HasCall (calls : List (Option Expiration)) (items : List QueuedKey) (x : 
   expiring : (k : ℕ) → occurs k (keys_of (items ++ x ∷ [])) ≡ false → call_of (calls_with calls x time) k ≡ None
   as_many : length (calls_with calls x time) ≡ length calls
 
--- A key that isn't queued is queued, with its time.
+-- A key that isn't queued gets queued, with its time.
 called : (calls : List (Option Expiration)) (items : List QueuedKey) (x : QueuedKey) (time : Option ℕ)
     → x.key < length calls → occurs x.key (keys_of items) ≡ false → All (HasItsStamp calls) items
     → ((k : ℕ) → occurs k (keys_of items) ≡ false → call_of calls k ≡ None) → HasCall calls items x time
@@ -102,7 +102,7 @@ room_times calls m (x ∷ xs) =
     ap₂ (λ (c : Option Expiration) (l : List Arrived). timed x (option_map (λ y. y.time) c) ∷ l)
     (read_room None calls m x.key) (room_times calls m xs)
 
--- What is seen with room for more keys.
+-- What contracts see once there is room for more keys.
 pub room_view : (reserved reserved' : ℕ) (by_entry by_entry' : QueuesView) (expirations expirations' : ExpirationsView)
     (m : ℕ) → by_entry' ≡ record by_entry { reserved = by_entry'.reserved }
     → expirations' ≡ record expirations { calls = expirations.calls ++ replicate m None }
@@ -114,7 +114,7 @@ room_view reserved reserved' by_entry by_entry' expirations expirations' m queue
     ∙ ap (λ l. let v = lines_view reserved' by_entry expirations in record v { items = l })
     (room_times expirations.calls m by_entry.items)
 
--- Entry queues are kept, and this is seen of them, once a key is queued with its time.
+-- The entry queues are kept, and contracts see this, once a key is queued with its time.
 pub record IsQueuedNow (reserved : ℕ) (by_entry : QueuesView) (arrivals : ArrivalsView) (expirations : ExpirationsView)
     (x : QueuedKey) (time : Option ℕ) (calls : List (Option Expiration)) : Type 0 where
   pub keeps : KeepsLines reserved (record by_entry { items = by_entry.items ++ x ∷ [] })
@@ -129,7 +129,7 @@ module _ {reserved : ℕ} {by_entry : QueuesView} {arrivals : ArrivalsView} {exp
   pub first_arrived : (e k : ℕ) → first_key (keys_on e by_entry.items) ≡ Some k → occurs k arrivals.keys ≡ true
   first_arrived e k first = ap (occurs k) lines.arrived ∙ first_queued e k by_entry.items first
 
-  -- What is kept once a key is taken out that was queued.
+  -- What is kept once a queued key is taken out.
   pub without_keeps : (k : ℕ)
       → KeepsLines reserved (record by_entry { items = without_key k by_entry.items })
       (record arrivals { keys = without k arrivals.keys })
@@ -155,24 +155,24 @@ module _ {reserved : ℕ} {by_entry : QueuesView} {arrivals : ArrivalsView} {exp
         expiration_room = omega (arith, lines.expiration_room, length-set calls k None);
       }
 
-  -- What is kept once a key is taken out that wasn't queued.
+  -- What is kept if a key is taken out that isn't queued.
   pub left_keeps : (k : ℕ) → occurs k (keys_of by_entry.items) ≡ false
       → KeepsLines reserved (record by_entry { items = without_key k by_entry.items }) arrivals expirations
   left_keeps k free = subst (λ l. KeepsLines reserved (record by_entry { items = l }) arrivals expirations)
       (sym (without_none k by_entry.items free)) lines
 
   module _ {view : EntryQueuesView} (seen : lines_view reserved by_entry expirations ≡ view) where
-    -- What is queued by entry is what is seen to be queued.
+    -- The keys queued by entry are the items that contracts see.
     pub seen_queued : by_entry.items ≡ all_queued view.items
     seen_queued =
         sym (queued_is expirations.calls by_entry.items) ∙ ap (λ (v : EntryQueuesView). all_queued v.items) seen
 
-    -- The keys that are queued by entry are those that are seen to be.
+    -- The same, for the keys alone.
     pub seen_keys : keys_of by_entry.items ≡ arrived_keys view.items
     seen_keys =
         sym (keys_are expirations.calls by_entry.items) ∙ ap (λ (v : EntryQueuesView). arrived_keys v.items) seen
 
-    -- The keys that have arrived are those that are seen to be queued.
+    -- The arrived keys are the keys that contracts see.
     pub seen_arrived : arrivals.keys ≡ arrived_keys view.items
     seen_arrived = lines.arrived ∙ seen_keys
 
@@ -200,16 +200,16 @@ module _ {reserved : ℕ} {by_entry : QueuesView} {arrivals : ArrivalsView} {exp
         (stamp_found calls k first.call items first.expires lines.stamps there)
         ∙ ap first_due seen
 
-    -- A key that isn't seen to be queued isn't queued by entry.
+    -- If contracts don't see a key as queued, it isn't queued by entry.
     pub seen_free : (k : ℕ) → occurs k (arrived_keys view.items) ≡ false → occurs k (keys_of by_entry.items) ≡ false
     seen_free k free = ap (occurs k) seen_keys ∙ free
 
-    -- A stamp above those of all that is seen to be queued is above those of all that is queued by entry.
+    -- If a stamp is above those of all items that contracts see, it is above those of all keys queued by entry.
     pub seen_below : (n : ℕ) → All (λ x. x.stamp < n) view.items → All (λ x. x.stamp < n) by_entry.items
     seen_below n below = All-same (λ (x : QueuedKey). x.stamp < n) _ _ seen_queued
         (All-map (λ (x : QueuedKey). x.stamp < n) queued view.items below)
 
-    -- What is kept and seen once a key is queued that is seen to be queued nowhere.
+    -- What is kept and seen once a key is queued that contracts see nowhere.
     pub push_seen : (x : QueuedKey) (time : Option ℕ) (calls : List (Option Expiration)) → x.key < view.reserved
         → occurs x.key (arrived_keys view.items) ≡ false → calls ≡ calls_with expirations.calls x time
         → IsQueuedNow reserved by_entry arrivals expirations x time calls
@@ -242,7 +242,7 @@ module _ {reserved : ℕ} {by_entry : QueuesView} {arrivals : ArrivalsView} {exp
         keys = All-map (λ (x : Arrived). x.key < reserved) _ items lines.keys;
       }
 
--- What is seen once a key is taken out that was queued, and its call with it.
+-- What contracts see once a queued key is taken out, and its call with it.
 pub without_view : (reserved : ℕ) (by_entry : QueuesView) (expirations : ExpirationsView) (k : ℕ)
     → lines_view reserved (record by_entry { items = without_key k by_entry.items })
     (record expirations { calls = set expirations.calls k None }) ≡
@@ -253,7 +253,7 @@ without_view reserved by_entry expirations k =
     ap (λ l. let v = lines_view reserved by_entry expirations in record v { items = l })
     ((call_written expirations.calls k None (without_key k items) gone).0 ∙ with_without k expirations.calls items)
 
--- The same, where it wasn't.
+-- The same if the key wasn't queued.
 pub left_view : (reserved : ℕ) (by_entry : QueuesView) (expirations : ExpirationsView) (k : ℕ)
     → lines_view reserved (record by_entry { items = without_key k by_entry.items }) expirations ≡
     (let v = lines_view reserved by_entry expirations in record v { items = without_arrived k v.items })

@@ -1,4 +1,4 @@
--- Which entries are examined, and what the first of them that has its turn tells.
+-- Which entries are examined, and what the first of them that has its turn says.
 use Rattle.std.proofs.Common.{◌≡◌, ℕ, zero, suc, ◌+◌, ◌<◌, List, [], ◌∷◌, ◌++◌, map, take, drop, refl, subst, sym, arith}
 use Rattle.std.proofs.Common.{inl, inr, Option, Some, None, Bool, true, false, Result, Ok, Err}
 use Rattle.std.specs.List.{All}
@@ -12,7 +12,7 @@ use Rattle.po_queues.specs.declared.order.Order.{Order}
 use Rattle.po_queues.specs.declared.order.Order.TheVariants.{Textual, Oldest, Rotating}
 use Rattle.po_queues.specs.Turns.{below, examined, turn, or_selection, first_selection}
 
--- the numbers below n are
+-- the numbers below n are below n
 below_range : (n : ℕ) → All (λ e. e < n) (below n)
 below_range zero = All-nil (λ e. e < 0)
 below_range (suc n) = All-push (λ e. e < suc n) (below n) n
@@ -25,12 +25,12 @@ module _ (T : ℕ → Type 0) where
   part_left (x ∷ xs) ys h =
       All-cons T x xs (All-head T x (xs ++ ys) h) (part_left xs ys (All-tail T x (xs ++ ys) h))
 
-  -- and of the second
+  -- and of the second part
   part_right : (xs ys : List ℕ) → All T (xs ++ ys) → All T ys
   part_right [] ys h = h
   part_right (x ∷ xs) ys h = part_right xs ys (All-tail T x (xs ++ ys) h)
 
-  -- what holds along a round holds of all
+  -- what holds of a rotated list holds of the list
   unrotated : (k : ℕ) (xs : List ℕ) → All T (drop k xs ++ take k xs) → All T xs
   unrotated k xs h = subst (All T) (take-append-drop k xs)
       (All-append T (take k xs) (drop k xs) (part_right (drop k xs) (take k xs) h)
@@ -44,13 +44,13 @@ module _ (T : ℕ → Type 0) where
     | inr other ↦ below_each n (part_left (below n) (n ∷ []) h) e (omega arith)
   ]
 
-  -- what holds of what f gives of each
+  -- if something holds of all values of f, it holds of f of each
   pub mapped_each : {X : Type 0} (f : X → ℕ) (xs : List X) → All T (map f xs) → All (λ x. T (f x)) xs
   mapped_each f [] h = All-nil (λ x. T (f x))
   mapped_each f (x ∷ xs) h =
       All-cons (λ y. T (f y)) x xs (All-head T (f x) (map f xs) h) (mapped_each f xs (All-tail T (f x) (map f xs) h))
 
-  -- what holds of all that are examined holds of each on which something is queued
+  -- what holds of all examined entries holds of each entry on which a key is queued
   pub examined_covers : (order : Order) (last : Option ℕ) (total : ℕ) (queued : List ℕ) → All (λ e. e < total) queued
       → All T (examined order last total queued) → All T queued
   examined_covers Textual last total queued range h =
@@ -61,7 +61,7 @@ module _ (T : ℕ → Type 0) where
   examined_covers Rotating (Some k) total queued range h =
       All-weaker (λ e. e < total) T (below_each total (unrotated (k + 1) (below total) h)) queued range
 
--- all that are examined are entries
+-- all examined entries exist
 pub examined_range : (order : Order) (last : Option ℕ) (total : ℕ) (queued : List ℕ) → All (λ e. e < total) queued
     → All (λ e. e < total) (examined order last total queued)
 examined_range Textual last total queued range = below_range total
@@ -78,27 +78,27 @@ closed e (Ok true) h = absurd (cc)
 closed e (Ok false) h = refl
 closed e (Err k) h = absurd (cc)
 
--- where the first of two tells nothing, and nothing is told, neither tells anything
+-- if two selections together are quiet, each of them is
 both_quiet : (a b : Selection) → or_selection a b ≡ Quiet → (a ≡ Quiet) × (b ≡ Quiet)
 both_quiet Quiet b h = (refl, h)
 both_quiet (Ready e) b h = absurd (cc)
 both_quiet (Broken e) b h = absurd (cc)
 
--- what holds of two looks holds of the first of them
+-- what holds of two selections holds of the first of them that isn't quiet
 either_selection : (P : Selection → Type 0) (a b : Selection) → P a → P b → P (or_selection a b)
 either_selection P Quiet b h k = k
 either_selection P (Ready e) b h k = h
 either_selection P (Broken e) b h k = h
 
 module _ (f : ℕ → Selection) where
-  -- where none is first, none has its turn
+  -- if the first selection is quiet, no entry has its turn
   pub none_each : (es : List ℕ) → first_selection f es ≡ Quiet → All (λ e. f e ≡ Quiet) es
   none_each [] h = All-nil (λ e. f e ≡ Quiet)
   none_each (e ∷ es) h =
       let both = both_quiet (f e) (first_selection f es) h in
       All-cons (λ i. f i ≡ Quiet) e es both.0 (none_each es both.1)
 
-  -- what holds of nothing and of the turn of each holds of the first turn
+  -- what holds of `Quiet` and of each turn holds of the first turn
   pub first_selection_each : (P : Selection → Type 0) → P Quiet → (es : List ℕ) → All (λ e. P (f e)) es → P (first_selection f es)
   first_selection_each P quiet [] all = quiet
   first_selection_each P quiet (e ∷ es) all = either_selection P (f e) (first_selection f es) (All-head (λ i. P (f i)) e es all)

@@ -1,4 +1,4 @@
--- What a change of a call, the rows or the clock makes of what expires.
+-- How a change of a call, of the rows or of the clock changes what expires.
 use Rattle.std.proofs.Common.{◌≡◌, ℕ, ◌+◌, ◌-◌, ◌<◌, ◌≤◌, Bool, true, false, cond, List, ◌++◌, length, take}
 use Rattle.std.proofs.Common.{replicate, Option, Some, None, sym, ap, subst, ◌∙◌, arith}
 use Rattle.std.specs.Prelude.{IfSome}
@@ -12,7 +12,7 @@ use Rattle.po_queues.specs.Least.{number_of, IsLeastAt}
 use Rattle.po_queues.specs.Timed.{HoldsExpirations, KeepsExpirations}
 use Rattle.po_queues.specs.declared.expiration.Expiration.{Expiration}
 
--- a row with more room is read the same, and has room for so many keys
+-- a row with more room reads the same, and has room for `keys` keys
 grown_row : (row row' : List (Option ℕ)) (keys : ℕ) → row' ≡ row ++ replicate (keys - length row) None
     → ((k : ℕ) → number_of row' k ≡ number_of row k) × (keys ≤ length row') × (length row ≤ length row')
 grown_row row row' keys is =
@@ -21,7 +21,7 @@ grown_row row row' keys is =
     let f : length rest ≡ keys - length row = length-replicate (keys - length row) None in
     (λ k. ap (λ l. number_of l k) is ∙ read_room None row (keys - length row) k, omega (arith, e, f), omega (arith, e, f))
 
--- so are calls, with room for no more of them, where there was memory
+-- calls read the same whether they got more room or not, and there is room for at most n keys
 grown_calls : (calls : List (Option Expiration)) (n m : ℕ) → length calls ≤ n → m ≡ n - length calls → (grown : Bool)
     (calls' : List (Option Expiration)) → calls' ≡ cond grown (take n calls ++ replicate m None) calls
     → ((k : ℕ) → call_of calls' k ≡ call_of calls k) × (length calls' ≤ n)
@@ -38,19 +38,19 @@ grown_calls calls n m long m_is false calls' is =
 module _ {calls : List (Option Expiration)} {later due : List (Option ℕ)} {clock : ℕ}
     (k : KeepsExpirations calls later due clock) where
   module _ {view : ExpirationsView} (seen : ◌≡◌ {A = ExpirationsView} (record { clock = clock; calls = calls }) view) where
-    -- the key of the least stamp, if there is one, is that of the first call that is due
+    -- the key with the least stamp, if there is one, is that of the first call that is due
     pub due_some : (found : Option ℕ) → IfSome found (λ key. IsLeastAt due key) → IfSome found (λ key. IsFirstDue view key)
     due_some None least = tt
     due_some (Some key) least =
         subst (λ v. IsFirstDue v key) seen (least_is_first k.holds k.ahead key least)
 
-    -- where there is none, no call is due
+    -- if there is none, no call is due
     pub due_none : ((key : ℕ) → number_of due key ≡ None) → (key : ℕ)
         → has_come view.clock (expiration_of view.calls key) ≡ false
     due_none none key = subst (λ (v : ExpirationsView). has_come v.clock (expiration_of v.calls key) ≡ false) seen
         (none_is_due k.holds k.ahead none key)
 
-  -- more room in both rows, and for calls, where there was memory
+  -- more room in both rows, and for calls if there was memory
   pub reserved : (n m : ℕ) → length calls ≤ n → m ≡ n - length calls
       → (later' due' : List (Option ℕ)) → later' ≡ later ++ replicate (n - length later) None
       → due' ≡ due ++ replicate (n - length due) None
@@ -72,7 +72,7 @@ module _ {calls : List (Option Expiration)} {later due : List (Option ℕ)} {clo
         ahead = λ j. subst (λ o. IfSome o (λ time. clock < time)) (sym (l.0 j)) (k.ahead j);
       }
 
--- the key that moves is one of both rows
+-- the key that moves has a time in the first row and room in the second
 pub moving : {calls : List (Option Expiration)} {later due : List (Option ℕ)} {clock : ℕ}
     (h : HoldsExpirations calls later due clock) (key : ℕ) → IsLeastAt later key
     → IfSome (number_of later key) (λ n. n ≤ clock) → (n : ℕ) × (number_of later key ≡ Some n) × (key < length due)

@@ -1,4 +1,4 @@
--- The links hold the one list after a change.
+-- The links hold the list after a change.
 use Rattle.std.proofs.Common.{◌≡◌, ℕ, ◌+◌, ◌-◌, ◌<◌, Bool, true, false, not, cond, eqb, List, [], ◌∷◌, ◌++◌, length}
 use Rattle.std.proofs.Common.{get_or, set, Option, Some, None, refl, sym, ap, ◌∙◌, inl, inr, arith, length-append}
 use Rattle.std.proofs.Common.{is_some}
@@ -17,7 +17,7 @@ use Rattle.po_queues.specs.Links.{HoldsQueues, link_with, link_of_item, link_of,
 use Rattle.po_queues.specs.Links.{write_before}
 use Rattle.po_queues.specs.declared.link.Link.{Link}
 
--- what is read after one link was changed by f
+-- what is read once f has changed one link
 write_at : (f : Option Link → Option Link) → f None ≡ None → (links : List (Option Link)) (i k : ℕ)
     → get_or (set links i (f (get_or links i None))) k None ≡ cond (eqb i k) (f (get_or links k None))
     (get_or links k None)
@@ -33,14 +33,14 @@ write_at f none links i k = elim (cases_Bool (eqb i k)) [
       (λ e. eqb-false i k differ (sym e)))
 ]
 
--- what is read after one link got another key after it
+-- what is read once one link got another key after it
 pub after_written : (links : List (Option Link)) (p a : Option ℕ) (k : ℕ)
     → get_or (write_after links p a) k None ≡ cond (is_this p k) (put_after a (get_or links k None))
     (get_or links k None)
 after_written links None a k = refl
 after_written links (Some i) a k = write_at (put_after a) refl links i k
 
--- what is read after one link got another key before it
+-- what is read once one link got another key before it
 pub before_written : (links : List (Option Link)) (p b : Option ℕ) (k : ℕ)
     → get_or (write_before links p b) k None ≡ cond (is_this p k) (put_before b (get_or links k None))
     (get_or links k None)
@@ -57,7 +57,7 @@ distinct_push (x ∷ xs) k d free = let t = tail_free k x xs free in
     still_free [] x k free differ = simp differ refl
     still_free (y ∷ ys) x k free differ = let t = tail_free x y ys free in simp t.0 (still_free ys x k t.1 differ)
 
--- the keys of the entry on which an item is pushed
+-- the keys of the entry to which an item is added
 pub keys_same : (e : ℕ) (items : List QueuedKey) (x : QueuedKey) → eqb x.entry e ≡ true
     → keys_on e (items ++ x ∷ []) ≡ keys_on e items ++ x.key ∷ []
 keys_same e items x on_entry = keys_push e items x ∙ ap (λ (b : Bool). keys_on e items ++ cond b (x.key ∷ []) [])
@@ -69,7 +69,7 @@ pub keys_other : (e : ℕ) (items : List QueuedKey) (x : QueuedKey) → eqb x.en
 keys_other e items x elsewhere = keys_push e items x
     ∙ ap (λ (b : Bool). keys_on e items ++ cond b (x.key ∷ []) []) elsewhere ∙ append-nil _
 
--- a field of each entry that is written at one
+-- a field by entry, once written at one entry
 field_push : {A : Type 0} (f : List ℕ → A) (field new : List A) (d v : A) (total : ℕ) (items : List QueuedKey)
     (x : QueuedKey)
     → ((e : ℕ) → e < total → get_or field e d ≡ f (keys_on e items))
@@ -86,7 +86,7 @@ last_some : (y : ℕ) (ys : List ℕ) → is_missing (last_key_or (Some y) ys) �
 last_some y [] = refl
 last_some y (z ∷ zs) = last_some z zs
 
--- the first key of the entry on which a key is pushed
+-- the first key of the entry to which a key is added
 first_here : (ks : List ℕ) (key : ℕ) (firsts : List (Option ℕ)) (i : ℕ) → i < length firsts
     → get_or firsts i None ≡ first_key ks
     → get_or (cond (is_missing (last_key_or None ks)) (set firsts i (Some key)) firsts) i None ≡ first_key
@@ -115,7 +115,7 @@ end_there : (b : Bool) (ends : List (Option ℕ)) (i e : ℕ) (other : Option �
 end_there true ends i e other ne = get_or-set_other ends i e other None ne
 end_there false ends i e other ne = refl
 
--- the keys but one
+-- the keys without one
 pub keys_of-without : (j : ℕ) (items : List QueuedKey) → keys_of (without_key j items) ≡ without j (keys_of items)
 keys_of-without j [] = refl
 keys_of-without j (x ∷ xs) = elim (cases_Bool (eqb x.key j)) [
@@ -123,7 +123,7 @@ keys_of-without j (x ∷ xs) = elim (cases_Bool (eqb x.key j)) [
   | inr differ ↦ simp differ (ap (λ l. x.key ∷ l) (keys_of-without j xs))
 ]
 
--- a key that isn't among keys isn't among fewer
+-- a key that isn't among keys isn't among them without another
 occurs_without : (j k : ℕ) (ks : List ℕ) → occurs k ks ≡ false → occurs k (without j ks) ≡ false
 occurs_without j k [] free = refl
 occurs_without j k (x ∷ xs) free =
@@ -133,7 +133,7 @@ occurs_without j k (x ∷ xs) free =
       | inr differ ↦ simp (differ, t.0) (occurs_without j k xs t.1)
     ]
 
--- keys stay distinct without one
+-- distinct keys stay distinct without one
 pub distinct_without : (j : ℕ) (ks : List ℕ) → AreDistinct ks → AreDistinct (without j ks)
 distinct_without j [] d = d
 distinct_without j (x ∷ xs) d = elim (cases_Bool (eqb x j)) [
@@ -149,13 +149,13 @@ item_none k (x ∷ xs) none = elim (cases_Bool (eqb x.key k)) [
   | inr differ ↦ simp differ (item_none k xs (simp differ at none))
 ]
 
--- to take out a key that isn't queued changes nothing
+-- taking out a key that isn't queued changes nothing
 pub without_none : (j : ℕ) (items : List QueuedKey) → occurs j (keys_of items) ≡ false → without_key j items ≡ items
 without_none j [] free = refl
 without_none j (x ∷ xs) free = let t = tail_free j x.key (keys_of xs) free in simp t.0
     (ap (λ l. x ∷ l) (without_none j xs t.1))
 
--- what a link tells of the list
+-- a key without a link isn't queued
 pub no_link : (k : ℕ) (items : List QueuedKey) → link_of items k ≡ None
     → (occurs k (keys_of items) ≡ false) × (without_key k items ≡ items)
 no_link k items none = go (item_of k items) refl
@@ -166,7 +166,7 @@ no_link k items none = go (item_of k items) refl
     go (Some x) e = let bad : Some (link_with (keys_on x.entry items) x) ≡ None = sym (ap (link_of_item items) e)
         ∙ none in absurd (cc)
 
--- a link is that of an item
+-- a link is the link of an item
 pub some_link : (k : ℕ) (items : List QueuedKey) (l : Link) → link_of items k ≡ Some l
     → (x : QueuedKey) × (item_of k items ≡ Some x) × (l ≡ link_with (keys_on x.entry items) x)
 some_link k items l some = go (item_of k items) refl
@@ -286,7 +286,7 @@ module _ (total : ℕ) (links : List (Option Link)) (firsts lasts : List (Option
             (other_entry j e items y dis found elsewhere)))
       ]
 
--- an item that is found is on an entry that there is
+-- an item that is found is on an entry that exists
 pub item_entry : (k total : ℕ) (items : List QueuedKey) (x : QueuedKey) → item_of k items ≡ Some x
     → All (λ x. x.entry < total) items → x.entry < total
 item_entry k total [] x found all = absurd (cc)
@@ -298,7 +298,7 @@ item_entry k total (y ∷ ys) x found all = elim (cases_Bool (eqb y.key k)) [
   | inr differ ↦ item_entry k total ys x (simp differ at found) (All-tail (λ x. x.entry < total) y ys all)
 ]
 
--- by the link that the code reads
+-- a key is taken out, given the link that the code reads
 pub removed : (total : ℕ) (links : List (Option Link)) (firsts lasts : List (Option ℕ)) (counts : List ℕ)
     (items : List QueuedKey)
     → HoldsQueues total links firsts lasts counts items → (j : ℕ) (l : Link) → get_or links j None ≡ Some l
@@ -324,7 +324,7 @@ removed total links firsts lasts counts items h j l read counts_are firsts_are l
           (omega arith) (omega arith) (omega arith) key,
     )
 
--- the first key of an entry is queued, with the stamp of what is queued first
+-- the first key of an entry is queued, with the stamp of the first queued item
 pub first_some : (e k : ℕ) (items : List QueuedKey) → AreDistinct (keys_of items)
     → first_key (keys_on e items) ≡ Some k
     → (x : QueuedKey) × (first_of (queue_of e items) ≡ Some (k, x.stamp)) × (item_of k items ≡ Some x) ×
@@ -346,7 +346,7 @@ first_some e k (x ∷ xs) d some = elim (cases_Bool (eqb x.entry e)) [
       (later.0, simp elsewhere later.1, simp apart later.2, simp apart later.3)
 ]
 
--- a key has a link where it is queued
+-- a key has a link exactly if it is queued
 pub linked_where_queued : (k : ℕ) (items : List QueuedKey) (o : Option Link) → o ≡ link_of items k
     → is_some o ≡ occurs k (keys_of items)
 linked_where_queued k items None is = sym (no_link k items (sym is)).0

@@ -1,4 +1,4 @@
--- The links of the one list, once an item is added or taken out.
+-- The links of the list, once an item is added or taken out.
 use Rattle.std.proofs.Common.{◌≡◌, ℕ, Bool, true, false, cond, eqb, List, [], ◌∷◌, ◌++◌, Option, Some, None, refl}
 use Rattle.std.proofs.Common.{sym, ap, ap₂, ◌∙◌, inl, inr}
 use Rattle.std.proofs.lemmas.Bool.{cases_Bool, eqb-true, eqb-false, eq-eqb, ne_eqb}
@@ -11,7 +11,7 @@ use Rattle.po_queues.specs.QueuedKeys.{key_after, key_before_or, without, AreDis
 use Rattle.po_queues.specs.Links.{link_with, link_of_item, link_of, put_after, put_before}
 use Rattle.po_queues.specs.declared.link.Link.{Link}
 
--- a key that no item has is in no queue
+-- a key of no item is in no queue
 pub keys_free : (e k : ℕ) (items : List QueuedKey) → occurs k (keys_of items) ≡ false
     → occurs k (keys_on e items) ≡ false
 keys_free e k [] free = refl
@@ -57,7 +57,7 @@ item_has k (y ∷ ys) x found = elim (cases_Bool (eqb y.key k)) [
       )
 ]
 
--- the keys of an entry once an item is pushed
+-- the keys of an entry once an item is added
 pub keys_push : (e : ℕ) (items : List QueuedKey) (x : QueuedKey)
     → keys_on e (items ++ x ∷ []) ≡ keys_on e items ++ cond (eqb x.entry e) (x.key ∷ []) []
 keys_push e [] x = elim (cases_Bool (eqb x.entry e))
@@ -67,14 +67,14 @@ keys_push e (y ∷ ys) x = elim (cases_Bool (eqb y.entry e)) [
   | inr elsewhere ↦ simp elsewhere (keys_push e ys x)
 ]
 
--- another key has its item once one is pushed
+-- another key keeps its item once one is added
 pub item_push : (k : ℕ) (items : List QueuedKey) (x : QueuedKey) → eqb x.key k ≡ false
     → item_of k (items ++ x ∷ []) ≡ item_of k items
 item_push k [] x differ = simp differ refl
 item_push k (y ∷ ys) x differ = elim (cases_Bool (eqb y.key k))
     [ inl equal ↦ simp equal refl | inr differ_y ↦ simp differ_y (item_push k ys x differ) ]
 
--- the item that is pushed is found
+-- the item that is added is found
 pub item_new : (items : List QueuedKey) (x : QueuedKey) → occurs x.key (keys_of items) ≡ false
     → item_of x.key (items ++ x ∷ []) ≡ Some x
 item_new [] x free = simp (eq-eqb x.key x.key refl) refl
@@ -94,7 +94,7 @@ keys_without e j (x ∷ xs) = elim (cases_Bool (eqb x.key j)) [
   ]
 ]
 
--- another key has its item once one is taken out
+-- another key keeps its item once one is taken out
 pub item_without : (k j : ℕ) (items : List QueuedKey) → eqb k j ≡ false
     → item_of k (without_key j items) ≡ item_of k items
 item_without k j [] differ_kj = refl
@@ -112,7 +112,7 @@ item_gone j [] = refl
 item_gone j (x ∷ xs) = elim (cases_Bool (eqb x.key j))
     [ inl equal ↦ simp equal (item_gone j xs) | inr differ ↦ simp differ (item_gone j xs) ]
 
--- a key stands in one queue alone
+-- a key is in only one queue
 pub other_entry : (k e : ℕ) (items : List QueuedKey) (x : QueuedKey) → AreDistinct (keys_of items)
     → item_of k items ≡ Some x → eqb x.entry e ≡ false → occurs k (keys_on e items) ≡ false
 other_entry k e [] x d found elsewhere = refl
@@ -128,16 +128,16 @@ other_entry k e (y ∷ ys) x d found elsewhere = elim (cases_Bool (eqb y.key k))
       [ inl on_entry ↦ simp (on_entry, differ) later | inr differ_y ↦ simp differ_y later ]
 ]
 
--- a link is known by its item
+-- a link is determined by its item
 same_item : (items : List QueuedKey) (k : ℕ) (o : Option QueuedKey) → item_of k items ≡ o
     → link_of items k ≡ link_of_item items o
 same_item items k o e = ap (link_of_item items) e
 
--- the link of what is queued after the last key
+-- the link of a key queued after the last one
 abbrev pub link_at_end : QueuedKey → Option ℕ → Link
 link_at_end x last = record { entry = x.entry; stamp = x.stamp; before = last; after = None }
 
--- the links once an item stands last
+-- the link of an item that is added at the end
 pub link_new : (items : List QueuedKey) (x : QueuedKey) → occurs x.key (keys_of items) ≡ false
     → link_of (items ++ x ∷ []) x.key ≡ Some (link_at_end x (last_key_or None (keys_on x.entry items)))
 link_new items x free =
@@ -148,7 +148,7 @@ link_new items x free =
     ∙ ap₂ (λ (b a : Option ℕ). let l : Link = record { entry = x.entry; stamp = x.stamp; before = b; after = a }
     in Some l) (before_new None x.key (keys_on x.entry items) f) (after_new x.key (keys_on x.entry items) f)
 
--- the link of another key once an item is pushed
+-- the link of another key once an item is added
 push_some : (items : List QueuedKey) (x y : QueuedKey) (k : ℕ) → AreDistinct (keys_of items) → eqb x.key k ≡ false
     → item_of k items ≡ Some y
     → link_with (keys_on y.entry (items ++ x ∷ [])) y ≡
@@ -176,18 +176,18 @@ push_some items x y k d differ found =
           ap (λ ks. link_with ks y) ks ∙ simp off refl
     ]
 
--- a change of one side, where there is a link
+-- a change of one side, if there is a link
 put_cond : (b : Bool) (a : Option ℕ) (l : Link)
     → Some (record l { after = cond b a l.after }) ≡ cond b (put_after a (Some l)) (Some l)
 put_cond true a l = refl
 put_cond false a l = refl
 
--- a change of one side, where there is no link
+-- a change of one side, if there is no link
 cond_none : (b : Bool) (a : Option ℕ) → None ≡ cond b (put_after a None) None
 cond_none true a = refl
 cond_none false a = refl
 
--- the same as the next, by the item
+-- the same as the next lemma, by the item
 link_push_at : (items : List QueuedKey) (x : QueuedKey) (k : ℕ) → AreDistinct (keys_of items) → eqb x.key k ≡ false
     → (o : Option QueuedKey) → item_of k items ≡ o
     → link_of (items ++ x ∷ []) k ≡ cond (is_this (last_key_or None (keys_on x.entry items)) k)
@@ -198,13 +198,13 @@ link_push_at items x k d differ (Some y) e = rw (same_item items k (Some y) e)
     (same_item (items ++ x ∷ []) k (Some y) (item_push k items x differ ∙ e)
     ∙ ap (λ (l : Link). Some l) (push_some items x y k d differ e) ∙ put_cond _ _ _)
 
--- the link of another key once an item is pushed, if there is one
+-- the link of another key once an item is added, if it has one
 pub link_push : (items : List QueuedKey) (x : QueuedKey) (k : ℕ) → AreDistinct (keys_of items) → eqb x.key k ≡ false
     → link_of (items ++ x ∷ []) k ≡ cond (is_this (last_key_or None (keys_on x.entry items)) k)
     (put_after (Some x.key) (link_of items k)) (link_of items k)
 link_push items x k d differ = link_push_at items x k d differ (item_of k items) refl
 
--- the links once an item is taken out
+-- the link of another key once an item is taken out
 without_some : (items : List QueuedKey) (y z : QueuedKey) (j k : ℕ) → AreDistinct (keys_of items) → eqb k j ≡ false
     → item_of j items ≡ Some y → item_of k items ≡ Some z
     → link_with (keys_on z.entry (without_key j items)) z ≡
@@ -246,7 +246,7 @@ without_some items y z j k d differ_kj found_y found_z =
           ap (λ ks. link_with ks z) to ∙ simp (no_before, no_after) refl
     ]
 
--- a change of both sides, where there is a link
+-- a change of both sides, if there is a link
 put_both : (b c : Bool) (p n : Option ℕ) (l : Link)
     → Some (record l { before = cond c p l.before; after = cond b n l.after }) ≡
     (let m = cond b (put_after n (Some l)) (Some l) in cond c (put_before p m) m)
@@ -255,7 +255,7 @@ put_both true false p n l = refl
 put_both false true p n l = refl
 put_both false false p n l = refl
 
--- a change of both sides, where there is no link
+-- a change of both sides, if there is no link
 pub both_none : (b c : Bool) (p n : Option ℕ)
     → None ≡ (let m = cond b (put_after n None) None in cond c (put_before p m) m)
 both_none true true p n = refl
@@ -263,7 +263,7 @@ both_none true false p n = refl
 both_none false true p n = refl
 both_none false false p n = refl
 
--- the same as the next, by the item
+-- the same as the next lemma, by the item
 link_without_at : (items : List QueuedKey) (y : QueuedKey) (j k : ℕ) → AreDistinct (keys_of items) → eqb k j ≡ false
     → item_of j items ≡ Some y → (o : Option QueuedKey) → item_of k items ≡ o
     → link_of (without_key j items) k ≡
@@ -277,7 +277,7 @@ link_without_at items y j k d differ_kj found_y (Some z) e = rw (same_item items
     (same_item (without_key j items) k (Some z) (item_without k j items differ_kj ∙ e)
     ∙ ap (λ (l : Link). Some l) (without_some items y z j k d differ_kj found_y e) ∙ put_both _ _ _ _ _)
 
--- the link of another key once one is taken out, if there is one
+-- the link of another key once one is taken out, if it has one
 pub link_without : (items : List QueuedKey) (y : QueuedKey) (j k : ℕ) → AreDistinct (keys_of items) → eqb k j ≡ false
     → item_of j items ≡ Some y
     → link_of (without_key j items) k ≡

@@ -1,4 +1,4 @@
--- What the root of a tournament says of its leaves.
+-- What the root of a tournament says about its leaves.
 use Rattle.std.proofs.Common.{◌≡◌, ℕ, zero, suc, ◌+◌, ◌-◌, ◌*◌, ◌/◌, ◌<◌, ◌≤◌, List, length, take, replicate}
 use Rattle.std.proofs.Common.{◌++◌, Option, Some, None, refl, sym, ap, subst, ◌∙◌, inl, inr, arith}
 use Rattle.std.specs.Prelude.{IsSome, IfSome, slice_get}
@@ -8,7 +8,7 @@ use Rattle.std.proofs.lemmas.Option.{get_or_from_slice_get}
 use Rattle.std.proofs.Math.Seq.{take-append-add}
 use Rattle.po_queues.specs.Least.{number_of, IsAtMost, IsLeastAt, lesser, KeepsMinima}
 
--- each is at most itself
+-- each number is at most itself
 pub at_most_same : (a : Option ℕ) → IsAtMost a a
 at_most_same None = tt
 at_most_same (Some x) = omega arith
@@ -25,17 +25,17 @@ at_most_right None b = at_most_same b
 at_most_right (Some x) None = tt
 at_most_right (Some x) (Some y) = omega arith
 
--- nothing but none is above all
+-- `IsAtMost None b` holds only if `b` is `None`
 at_most_none : (b : Option ℕ) → IsAtMost None b → b ≡ None
 at_most_none None p = refl
 at_most_none (Some y) p = absurd p
 
--- what is at least a number is above what is below that
+-- a number that is at least one above the limit is above the limit
 at_most_above : (n limit : ℕ) (b : Option ℕ) → limit < n → IsAtMost (Some n) b → IfSome b (λ m. limit < m)
 at_most_above n limit None above p = tt
 at_most_above n limit (Some y) above p = omega (arith, above, p)
 
--- of three
+-- at most is transitive
 pub at_most_trans : (a b c : Option ℕ) → IsAtMost a b → IsAtMost b c → IsAtMost a c
 at_most_trans a b None p q = tt
 at_most_trans a None (Some z) p q = absurd q
@@ -43,7 +43,7 @@ at_most_trans None (Some y) (Some z) p q = absurd p
 at_most_trans (Some x) (Some y) (Some z) p q = omega (arith, p, q)
 
 module _ {leaves : ℕ} {nodes : List (Option ℕ)} (k : KeepsMinima leaves nodes) where
-  -- a node is at most what is below it
+  -- a node is at most its children
   above_at_most : (j : ℕ) → j + 2 < 2 * leaves → IsAtMost (number_of nodes (leaves + j / 2)) (number_of nodes j)
   above_at_most j below =
       let l = number_of nodes (2 * (j / 2)) in
@@ -56,7 +56,7 @@ module _ {leaves : ℕ} {nodes : List (Option ℕ)} (k : KeepsMinima leaves node
             subst (λ i. IsAtMost (lesser l r) (number_of nodes i)) e (at_most_right l r)
       ])
 
-  -- the root is at most each node, of which so many stand above it
+  -- the root is at most each node; n bounds how many nodes come after it
   root_from : (n j : ℕ) → j + 1 < 2 * leaves → 2 * leaves ≤ j + n + 2
       → IsAtMost (number_of nodes (2 * leaves - 2)) (number_of nodes j)
   root_from zero j below few =
@@ -72,7 +72,7 @@ module _ {leaves : ℕ} {nodes : List (Option ℕ)} (k : KeepsMinima leaves node
         (root_from n (leaves + j / 2) (omega arith) (omega arith)) (above_at_most j under)
   ]
 
-  -- the root is at most each leaf, and to have none is the number of what is no leaf
+  -- the root is at most each leaf; keys that are no leaf have no number
   pub root_least : (key : ℕ) → IsAtMost (number_of nodes (2 * leaves - 2)) (number_of (take leaves nodes) key)
   root_least key = elim (cases_lt key leaves) [
     | inl below ↦
@@ -85,7 +85,7 @@ module _ {leaves : ℕ} {nodes : List (Option ℕ)} (k : KeepsMinima leaves node
       none_past : (key : ℕ) → leaves ≤ key → number_of (take leaves nodes) key ≡ None
       none_past key past = get_or_past (take leaves nodes) key None (omega (arith, length-take leaves nodes))
 
-  -- what stands last among the nodes is the root's number
+  -- the last node has the root's number
   pub root_is : (xs : List (Option ℕ)) (r : Option ℕ) → xs ≡ nodes → Some r ≡ slice_get xs (length xs - 1)
       → number_of nodes (2 * leaves - 2) ≡ r
   root_is xs r xs_is is =
@@ -94,13 +94,13 @@ module _ {leaves : ℕ} {nodes : List (Option ℕ)} (k : KeepsMinima leaves node
       subst (λ i. number_of nodes i ≡ r) last (subst (λ l. number_of l (length xs - 1) ≡ r) xs_is read)
 
   module _ (row : List (Option ℕ)) (row_is : take leaves nodes ≡ row) where
-    -- where the root has no number, no key has one
+    -- if the root has no number, no key has one
     pub no_number : number_of nodes (2 * leaves - 2) ≡ None → (key : ℕ) → number_of row key ≡ None
     no_number none key =
         let least = subst (λ l. IsAtMost (number_of nodes (2 * leaves - 2)) (number_of l key)) row_is (root_least key) in
         at_most_none (number_of row key) (subst (λ a. IsAtMost a (number_of row key)) none least)
 
-    -- no key has a number that is at most one that is below the root's
+    -- if a limit is below the root's number, it is below the number of each key
     pub all_above : (n limit : ℕ) → number_of nodes (2 * leaves - 2) ≡ Some n → limit < n → (key : ℕ)
         → IfSome (number_of row key) (λ m. limit < m)
     all_above n limit root above key =
@@ -118,7 +118,7 @@ module _ {leaves : ℕ} {nodes : List (Option ℕ)} (k : KeepsMinima leaves node
               (subst (λ l. IsAtMost (number_of nodes (2 * leaves - 2)) (number_of l key)) row_is (root_least key)),
         )
 
--- a row with room for more keys, once the nodes are made
+-- a row with room for more keys, once the nodes above are made
 pub grown_row : (row nodes : List (Option ℕ)) (keys total : ℕ) → length row ≤ keys → keys ≤ total
     → nodes ≡ take total row ++ replicate (total - length row) None
     → take keys nodes ≡ row ++ replicate (keys - length row) None
@@ -131,7 +131,7 @@ grown_row row nodes keys total longer enough is =
     ∙ take-append-add row rest (keys - length row)
     ∙ ap (λ l. row ++ l) (take-replicate (keys - length row) (total - length row) None (omega (arith, longer, enough)))
 
--- the same, by what was copied
+-- the same, given what was copied
 pub grown_nodes : (row copied nodes : List (Option ℕ)) (keys total n : ℕ) → length row ≤ keys → keys ≤ total
     → copied ≡ row → n ≡ length copied → nodes ≡ take total copied ++ replicate (total - n) None
     → take keys nodes ≡ row ++ replicate (keys - length row) None

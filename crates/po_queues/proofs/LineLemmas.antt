@@ -1,4 +1,4 @@
--- What is queued, seen with the times at which calls expire, in order of arrival, and without other keys.
+-- The queued keys with the times at which their calls expire, in order of arrival, and without some key.
 use Rattle.std.proofs.Common.{◌≡◌, ℕ, ◌<◌, ◌≤◌, true, false, eqb, List, [], ◌∷◌, ◌++◌, length, set, Option, Some, None}
 use Rattle.std.proofs.Common.{refl, sym, ap, ap₂, subst, ◌∙◌, inl, inr, arith}
 use Rattle.std.specs.Prelude.{option_map, IfSome}
@@ -13,13 +13,13 @@ use Rattle.po_queues.specs.Arrived.{Arrived, all_queued, arrived_keys, has_come,
 use Rattle.po_queues.specs.Lines.{with_expirations, HasItsStamp}
 use Rattle.po_queues.specs.declared.expiration.Expiration.{Expiration}
 
--- Times change nothing that is queued.
+-- Without times these are the queued keys.
 pub queued_is : (calls : List (Option Expiration)) (items : List QueuedKey)
     → all_queued (with_expirations calls items) ≡ items
 queued_is calls [] = refl
 queued_is calls (x ∷ xs) = ap (λ l. x ∷ l) (queued_is calls xs)
 
--- Times change no key.
+-- Without times these are the keys.
 pub keys_are : (calls : List (Option Expiration)) (items : List QueuedKey)
     → arrived_keys (with_expirations calls items) ≡ keys_of items
 keys_are calls [] = refl
@@ -29,7 +29,7 @@ keys_are calls (x ∷ xs) = ap (λ l. x.key ∷ l) (keys_are calls xs)
 abbrev pub timed : QueuedKey → Option ℕ → Arrived
 timed x time = record { entry = x.entry; key = x.key; stamp = x.stamp; expires = time }
 
--- The times of what is queued stay where the call of a key changes that isn't queued, and so do the stamps.
+-- If the call of a key changes that isn't queued, the times of the queued keys stay, and so do their stamps.
 pub call_written : (calls : List (Option Expiration)) (k : ℕ) (o : Option Expiration) (items : List QueuedKey)
     → occurs k (keys_of items) ≡ false
     → (with_expirations (set calls k o) items ≡ with_expirations calls items) ×
@@ -46,14 +46,14 @@ call_written calls k o (x ∷ xs) free =
           (rest.1 (All-tail (HasItsStamp calls) x xs all)),
     )
 
--- What is queued with times, where one key more is queued.
+-- The queued keys with times, once one more is queued.
 pub with_push : (calls : List (Option Expiration)) (items : List QueuedKey) (x : QueuedKey) (time : Option ℕ)
     → expiration_of calls x.key ≡ time
     → with_expirations calls (items ++ x ∷ []) ≡ with_expirations calls items ++ timed x time ∷ []
 with_push calls [] x time is = ap (λ t. timed x t ∷ []) is
 with_push calls (y ∷ ys) x time is = ap (λ l. timed y (expiration_of calls y.key) ∷ l) (with_push calls ys x time is)
 
--- What is queued with times, once a key is taken out.
+-- The queued keys with times, once a key is taken out.
 pub with_without : (k : ℕ) (calls : List (Option Expiration)) (items : List QueuedKey)
     → with_expirations calls (without_key k items) ≡ without_arrived k (with_expirations calls items)
 with_without k calls [] = refl
@@ -62,14 +62,14 @@ with_without k calls (x ∷ xs) = elim (cases_Bool (eqb x.key k)) [
   | inr differ ↦ simp differ (ap (λ l. timed x (expiration_of calls x.key) ∷ l) (with_without k calls xs))
 ]
 
--- No call has a key that is taken out.
+-- A key that is taken out has no call.
 pub call_gone : (calls : List (Option Expiration)) (k : ℕ) → call_of (set calls k None) k ≡ None
 call_gone calls k = elim (cases_lt k (length calls)) [
   | inl below ↦ get_or-set_same calls k None None below
   | inr past ↦ get_or_past (set calls k None) k None (omega (arith, past, length-set calls k None))
 ]
 
--- What is queued with a later stamp is.
+-- If all keys are queued later, the stamp of each is later.
 later_stamp : (s k stamp : ℕ) (items : List QueuedKey) → All (λ y. s < y.stamp) items → stamp_of k items ≡ Some stamp
     → s < stamp
 later_stamp s k stamp [] all is = let bad : None ≡ Some stamp = is in absurd (cc)
@@ -97,7 +97,7 @@ stamp_found calls k call (x ∷ xs) is all has = elim (cases_Bool (eqb x.key k))
       (tail_has k x.key (keys_of xs) has differ))
 ]
 
--- No call that is due has an earlier stamp than the first.
+-- No call that is due has a stamp before the first.
 not_earlier : (clock first stamp : ℕ) (o : Option Expiration) → has_come clock (option_map (λ x. x.time) o) ≡ true
     → IfSome o (λ x. x.stamp ≡ stamp) → IfSome o (λ x. x.time ≤ clock → first ≤ x.stamp) → first ≤ stamp
 not_earlier clock first stamp None due own least = absurd (false≢true due)
@@ -105,7 +105,7 @@ not_earlier clock first stamp (Some x) due own least =
     let before : first ≤ x.stamp = least (leb-true x.time clock due) in
     omega (arith, own, before)
 
--- The key of the least stamp, of those whose time has come, is the first of them that was queued.
+-- Of the keys whose time has come, the one with the least stamp is the first that was queued.
 pub least_found : (clock : ℕ) (calls : List (Option Expiration)) (k stamp : ℕ) (items : List QueuedKey)
     → RiseBy (λ x. x.stamp) items → All (HasItsStamp calls) items → has_come clock (expiration_of calls k) ≡ true
     → ((j : ℕ) → IfSome (call_of calls j) (λ other. other.time ≤ clock → stamp ≤ other.stamp))
@@ -130,7 +130,7 @@ least_found clock calls k stamp (x ∷ xs) rises own due least is = elim (cases_
       ]
 ]
 
--- Where no time has come, none is found.
+-- If no time has come, none is found.
 pub none_found : (clock : ℕ) (calls : List (Option Expiration)) (items : List QueuedKey)
     → ((k : ℕ) → has_come clock (expiration_of calls k) ≡ false)
     → None ≡ option_map (λ x. x.key) (find (λ x. has_come clock x.expires) (with_expirations calls items))

@@ -1,4 +1,4 @@
--- What the neighbours of keys hold, once a key is added or taken out, or there is room for more.
+-- How the neighbours of keys hold them, once a key is added or taken out, or there is room for more.
 use Rattle.std.proofs.Common.{◌≡◌, ℕ, zero, suc, ◌<◌, ◌≤◌, Bool, true, false, cond, not, eqb, List, [], ◌∷◌, ◌++◌}
 use Rattle.std.proofs.Common.{length, get_or, set, take, replicate, Option, Some, None, refl, sym, ap, ap₂, ◌∙◌, subst}
 use Rattle.std.proofs.Common.{inl, inr, arith}
@@ -19,7 +19,7 @@ use Rattle.po_queues.specs.InOrder.{ArrivalsView, HoldsOrder, alone, neighbours_
 use Rattle.po_queues.specs.InOrder.{either_end, with_after, with_before}
 use Rattle.po_queues.specs.declared.neighbours.Neighbours.{Neighbours}
 
--- these neighbours
+-- the neighbours with these two keys
 abbrev made : Option ℕ → Option ℕ → Neighbours
 made b a = record { before = b; after = a }
 
@@ -34,7 +34,7 @@ push_other k key ks d differ = elim (cases_Bool (occurs k ks)) [
       (after_none k (ks ++ key ∷ []) free' ∙ simp (last_free None k ks refl free) (sym (after_none k ks free)))
 ]
 
--- no key stands after itself
+-- no key comes after itself
 after_self : (j : ℕ) (ks : List ℕ) → AreDistinct ks → is_this (key_after j ks) j ≡ false
 after_self j [] d = refl
 after_self j (x ∷ xs) d = elim (cases_Bool (eqb x j)) [
@@ -42,7 +42,7 @@ after_self j (x ∷ xs) d = elim (cases_Bool (eqb x j)) [
   | inr differ ↦ simp differ (after_self j xs d.1)
 ]
 
--- no key stands before itself
+-- no key comes before itself
 before_self : (p : Option ℕ) (j : ℕ) (ks : List ℕ) → is_this p j ≡ false → is_this (key_before_or p j ks) j ≡ false
 before_self p j [] not_before = refl
 before_self p j (x ∷ xs) not_before = elim (cases_Bool (eqb x j))
@@ -60,7 +60,7 @@ without_other k j ks d differ =
     (after_without k j ks d back
     ∙ ap (λ (t : Bool). cond t (key_after j ks) (key_after k ks)) (neighbours None k j ks d back refl))
 
--- after a key there is a last one
+-- if there is a key, there is a last one
 last_some : (x : ℕ) (xs : List ℕ) (new end : Option ℕ) → either_end (last_key_or (Some x) xs) new end ≡ end
 last_some x [] new end = refl
 last_some x (y ∷ ys) new end = last_some y ys new end
@@ -71,14 +71,14 @@ first_push : (key : ℕ) (ks : List ℕ)
 first_push key [] = refl
 first_push key (x ∷ xs) = last_some x xs (Some key) (Some x)
 
--- before a key that isn't the first there is one
+-- if a key isn't the first, there is one before it
 before_some : (x j : ℕ) (xs : List ℕ) (new end : Option ℕ) → occurs j xs ≡ true
     → either_end (key_before_or (Some x) j xs) new end ≡ end
 before_some x j [] new end has = absurd (false≢true has)
 before_some x j (y ∷ ys) new end has = elim (cases_Bool (eqb y j))
     [ inl equal ↦ simp equal refl | inr differ ↦ simp differ (before_some y j ys new end (tail_has j y ys has differ)) ]
 
--- the first of the keys that are left
+-- the first key, once one is taken out
 first_left : (j : ℕ) (ks : List ℕ) → AreDistinct ks → occurs j ks ≡ true
     → either_end (key_before_or None j ks) (key_after j ks) (first_key ks) ≡ first_key (without j ks)
 first_left j [] d has = absurd (false≢true has)
@@ -87,7 +87,7 @@ first_left j (x ∷ xs) d has = elim (cases_Bool (eqb x j)) [
   | inr differ ↦ simp differ (before_some x j xs (key_after j xs) (Some x) (tail_has j x xs has differ))
 ]
 
--- the last of the keys that are left
+-- the last key, once one is taken out
 last_left : (p : Option ℕ) (j : ℕ) (ks : List ℕ) → AreDistinct ks → occurs j ks ≡ true
     → either_end (key_after j ks) (key_before_or p j ks) (last_key_or p ks) ≡ last_key_or p (without j ks)
 last_left p j [] d has = absurd (false≢true has)
@@ -139,7 +139,7 @@ key_below n j (x ∷ xs) all has = elim (cases_Bool (eqb x j)) [
   | inr differ ↦ key_below n j xs (All-tail (λ k. k < n) x xs all) (tail_has j x xs has differ)
 ]
 
--- keys are fewer by one bound without the one below it
+-- keys below n + 1 are below n once n is taken out
 below_without : (n : ℕ) (ks : List ℕ) → All (λ k. k < suc n) ks → All (λ k. k < n) (without n ks)
 below_without n [] all = All-nil (λ k. k < n)
 below_without n (x ∷ xs) all =
@@ -152,7 +152,7 @@ below_without n (x ∷ xs) all =
           simp differ (All-cons (λ k. k < n) x (without n xs) lower rest)
     ]
 
--- keys that differ are no more than there are below their bound
+-- distinct keys are at most as many as there are numbers below their bound
 few : (n : ℕ) (ks : List ℕ) → AreDistinct ks → All (λ k. k < n) ks → length ks ≤ n
 few zero [] d all = omega arith
 few zero (x ∷ xs) d all = absurd (omega (arith, All-head (λ k. k < 0) x xs all))
@@ -163,7 +163,7 @@ few (suc n) ks d all =
       | inr free ↦ omega (arith, ap length (without_free n ks free), less)
     ]
 
--- keys are passed in order, where each has the next one after it
+-- keys are passed in order if each has the next one after it
 passed : (n : ℕ) (ns : List Neighbours) (ks : List ℕ) → AreDistinct ks → length ks ≤ n
     → ((k : ℕ) → occurs k ks ≡ true → (get_or ns k alone).after ≡ key_after k ks) → keys_from n ns (first_key ks) ≡ ks
 passed zero ns [] d short each = refl
@@ -182,7 +182,7 @@ passed (suc n) ns (x ∷ xs) d short each =
           each k there ∙ same_after
     ]))
 
--- what is read after one key got another one after it
+-- what is read once one key got another after it
 read_after : (ns : List Neighbours) (key after : Option ℕ) (k : ℕ) → IfSome key (λ i. i < length ns)
     → get_or (with_after ns key after) k alone ≡
     made (get_or ns k alone).before (cond (is_this key k) after (get_or ns k alone).after)
@@ -194,7 +194,7 @@ read_after ns (Some i) after k within = elim (cases_Bool (eqb i k)) [
       (λ e. eqb-false i k differ (sym e)))
 ]
 
--- what is read after one key got another one before it
+-- what is read once one key got another before it
 read_before : (ns : List Neighbours) (key before : Option ℕ) (k : ℕ) → IfSome key (λ i. i < length ns)
     → get_or (with_before ns key before) k alone ≡
     made (cond (is_this key k) before (get_or ns k alone).before) (get_or ns k alone).after
@@ -206,33 +206,33 @@ read_before ns (Some i) before k within = elim (cases_Bool (eqb i k)) [
       (λ e. eqb-false i k differ (sym e)))
 ]
 
--- as many keys are reserved
+-- the number of reserved keys stays
 pub length_after : (ns : List Neighbours) (key after : Option ℕ) → length (with_after ns key after) ≡ length ns
 length_after ns None after = refl
 length_after ns (Some i) after = length-set ns i (made (get_or ns i alone).before after)
 
--- as many keys are reserved
+-- the number of reserved keys stays
 pub length_before : (ns : List Neighbours) (key before : Option ℕ) → length (with_before ns key before) ≡ length ns
 length_before ns None before = refl
 length_before ns (Some i) before = length-set ns i (made before (get_or ns i alone).after)
 
--- what is seen of neighbours and the first key
+-- what contracts see of neighbours and the first key
 abbrev pub order_view : List Neighbours → Option ℕ → ArrivalsView
 order_view ns first = record { reserved = length ns; keys = keys_in_order ns first }
 
--- these keys are seen, and they are held
+-- contracts see these keys, and they are held
 pub record IsInOrder (ns : List Neighbours) (first last : Option ℕ) (reserved : ℕ) (keys : List ℕ) : Type 0 where
   pub view : order_view ns first ≡ record { reserved = reserved; keys = keys }
   pub keeps : HoldsOrder ns first last (keys_in_order ns first)
 
--- keys that are held are those that are passed in order
+-- if keys are held, they are passed in order
 in_order : {ns : List Neighbours} {first last : Option ℕ} {ks : List ℕ} (h : HoldsOrder ns first last ks)
     → keys_in_order ns first ≡ ks
 in_order {ns} {first} {last} {ks} h =
     ap (keys_in_order ns) h.first_is ∙ passed (length ns) ns ks h.distinct (few (length ns) ks h.distinct h.reserved)
     (λ k _. ap (λ (n : Neighbours). n.after) (h.each k))
 
--- keys that are held are those that are seen
+-- if keys are held, contracts see them
 seen : {ns : List Neighbours} {first last : Option ℕ} {ks : List ℕ} (h : HoldsOrder ns first last ks) (n : ℕ)
     → length ns ≡ n → IsInOrder ns first last n ks
 seen {ns} {first} {last} {ks} h n as_many =
@@ -243,7 +243,7 @@ seen {ns} {first} {last} {ks} h n as_many =
     }
 
 module _ {ns : List Neighbours} {first last : Option ℕ} {ks : List ℕ} (h : HoldsOrder ns first last ks) where
-  -- there is room for a key that is seen
+  -- there is room for a key that contracts see
   pub key_room : {view : ArrivalsView} → order_view ns first ≡ view → (j : ℕ) → occurs j view.keys ≡ true
       → (j < length ns) × (occurs j ks ≡ true)
   key_room seen_is j has =
@@ -337,7 +337,7 @@ module _ {ns : List Neighbours} {first last : Option ℕ} {ks : List ℕ} (h : H
       left_alone j ks = ap₂ made (before_none None j (without j ks) (taken_free j ks))
           (after_none j (without j ks) (taken_free j ks))
 
-  -- room for more keys, where there was memory
+  -- room for more keys, if there was memory
   pub grown_order : (grown : Bool) (n m : ℕ) (ns' : List Neighbours) → length ns ≤ n
       → ns' ≡ cond grown (take n ns ++ replicate m alone) ns → IsInOrder ns' first last (length ns') ks
   grown_order true n m ns' long is =

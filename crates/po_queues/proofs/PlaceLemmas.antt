@@ -1,4 +1,4 @@
--- Where calls stand in two rows, once one is added, taken out or moved, and which of them is the first that is due.
+-- In which of two rows calls are, once one is added, taken out or moved, and which of them is due first.
 use Rattle.std.proofs.Common.{◌≡◌, ℕ, zero, suc, ◌<◌, ◌≤◌, false, leb, List, [], ◌∷◌, length, set, get_or}
 use Rattle.std.proofs.Common.{Option, Some, None, refl, sym, subst, ◌∙◌, inl, inr, arith}
 use Rattle.std.specs.Prelude.{IsSome, IfSome}
@@ -11,14 +11,14 @@ use Rattle.po_queues.specs.Least.{number_of, IsAtMost, IsLeastAt}
 use Rattle.po_queues.specs.Timed.{IsPlaced, HoldsExpirations}
 use Rattle.po_queues.specs.declared.expiration.Expiration.{Expiration}
 
--- it is placed as something that is the same
+-- a call stays placed if it and its numbers are replaced by equal ones
 pub placed_same : (clock : ℕ) (o o' : Option Expiration) (l l' d d' : Option ℕ) → o' ≡ o → l' ≡ l → d' ≡ d
     → IsPlaced clock o l d → IsPlaced clock o' l' d'
 placed_same clock o o' l l' d d' o_is l_is d_is p =
     subst (λ e. IsPlaced clock e l' d') (sym o_is)
     (subst (λ e. IsPlaced clock o e d') (sym l_is) (subst (λ e. IsPlaced clock o l e) (sym d_is) p))
 
--- what is found at a key is in the row
+-- if something is found at a key, the key is in the row
 pub found_below : {A : Type 0} (row : List (Option A)) (key : ℕ) (x : A) → get_or row key None ≡ Some x → key < length row
 found_below row key x is = elim (cases_lt key (length row)) [
   | inl below ↦ below
@@ -27,16 +27,16 @@ found_below row key x is = elim (cases_lt key (length row)) [
 
 module _ {clock : ℕ} {calls : List (Option Expiration)} {later due : List (Option ℕ)}
     (h : HoldsExpirations calls later due clock) where
-  -- a key whose call doesn't expire stands in neither row
+  -- a key whose call doesn't expire is in neither row
   pub placed_free : (key : ℕ) → call_of calls key ≡ None → (number_of later key ≡ None) × (number_of due key ≡ None)
   placed_free key none = subst (λ o. IsPlaced clock o (number_of later key) (number_of due key)) none (h.placed key)
 
-  -- a call stands in one of them
+  -- a call is in one of the rows
   placed_at : (key : ℕ) (x : Expiration) → call_of calls key ≡ Some x
       → IsPlaced clock (Some x) (number_of later key) (number_of due key)
   placed_at key x is = subst (λ o. IsPlaced clock o (number_of later key) (number_of due key)) is (h.placed key)
 
-  -- what has a time is a call
+  -- if a key has a time in the first row, it has a call
   pub has_call : (key n : ℕ) → number_of later key ≡ Some n → (x : Expiration) × (call_of calls key ≡ Some x)
   has_call key n time_is = go (call_of calls key) refl
     where
@@ -45,7 +45,7 @@ module _ {clock : ℕ} {calls : List (Option Expiration)} {later due : List (Opt
       go (Some x) is = (x, is)
 
   module _ (ahead : (k : ℕ) → IfSome (number_of later k) (λ time. clock < time)) where
-    -- a call whose time has come stands by its stamp alone
+    -- a call whose time has come is only in the second row, with its stamp
     pub come_due : (key : ℕ) (x : Expiration) → call_of calls key ≡ Some x → x.time ≤ clock
         → (number_of later key ≡ None) × (number_of due key ≡ Some x.stamp)
     come_due key x is come = elim (placed_at key x is) [
@@ -55,7 +55,7 @@ module _ {clock : ℕ} {calls : List (Option Expiration)} {later due : List (Opt
       | inr w ↦ (w.0, w.1)
     ]
 
-    -- the key of the least stamp is that of the first call that is due
+    -- the key with the least stamp is that of the first call that is due
     pub least_is_first : (key : ℕ) → IsLeastAt due key → IsFirstDue (record { clock = clock; calls = calls }) key
     least_is_first key least = first (call_of calls key) refl
       where
@@ -80,7 +80,7 @@ module _ {clock : ℕ} {calls : List (Option Expiration)} {later due : List (Opt
           }
         ]
 
-    -- where no stamp stands, no call is due
+    -- if there is no stamp, no call is due
     pub none_is_due : ((k : ℕ) → number_of due k ≡ None) → (key : ℕ) → has_come clock (expiration_of calls key) ≡ false
     none_is_due none key = go (call_of calls key) refl
       where
@@ -93,7 +93,7 @@ module _ {clock : ℕ} {calls : List (Option Expiration)} {later due : List (Opt
           | inr to_come ↦ to_come
         ]
 
--- the number of a key in a row, which is at most a bound
+-- the number of the least key in a row, if it is at most a bound
 pub number_of_least : (row : List (Option ℕ)) (key bound : ℕ) → IsLeastAt row key
     → IfSome (number_of row key) (λ n. n ≤ bound) → (n : ℕ) × (number_of row key ≡ Some n) × (n ≤ bound)
 number_of_least row key bound least within = number (number_of row key) least.0 within
@@ -108,7 +108,7 @@ numbers [] = 0
 numbers (None ∷ row) = numbers row
 numbers (Some n ∷ row) = suc (numbers row)
 
--- fewer have one, once that of a key is taken out
+-- once the number of a key is taken out, fewer keys have one
 pub fewer_numbers : (row : List (Option ℕ)) (key n : ℕ) → number_of row key ≡ Some n
     → numbers (set row key None) < numbers row
 unfolding numbers

@@ -1,4 +1,4 @@
--- What a change of the links makes of the queued keys.
+-- How a change of the links changes the queued keys.
 use Rattle.std.proofs.Common.{◌≡◌, ℕ, ◌+◌, ◌-◌, ◌^◌, ◌<◌, ◌≤◌, Bool, true, false, cond, eqb, ltb}
 use Rattle.std.proofs.Common.{List, [], ◌∷◌, ◌++◌, length, get_or, set, Option, Some, None, refl, sym, ap}
 use Rattle.std.proofs.Common.{◌∙◌, inl, inr, arith, length-append}
@@ -20,11 +20,11 @@ use Rattle.po_queues.specs.Busy.{MarksBusy, bit_when}
 use Rattle.po_queues.specs.Arrivals.{arrivals, KeepsQueues}
 use Rattle.po_queues.specs.declared.link.Link.{Link}
 
--- what is seen of links and counts
+-- what contracts see of links and counts
 abbrev pub view_of : List (Option Link) → List ℕ → QueuesView
 view_of links counts = record { total = length counts; reserved = length links; items = arrivals links }
 
--- queues that are held as these keys are queued have these keys
+-- if queues hold these keys, they are kept, and contracts see these keys
 pub packed : (links : List (Option Link)) (firsts lasts : List (Option ℕ)) (counts words : List ℕ) (queued : ℕ)
     (items : List QueuedKey)
     → HoldsQueues (length counts) links firsts lasts counts items → RiseBy (λ x. x.stamp) items → length firsts ≡ length counts
@@ -44,22 +44,22 @@ packed links firsts lasts counts words queued items h r firsts_len lasts_len few
       },
     )
 
--- as many links
+-- the number of links stays
 length_after : (links : List (Option Link)) (p a : Option ℕ) → length (write_after links p a) ≡ length links
 length_after links None a = refl
 length_after links (Some k) a = length-set links k (put_after a (get_or links k None))
 
--- as many links
+-- the number of links stays
 length_before : (links : List (Option Link)) (p a : Option ℕ) → length (write_before links p a) ≡ length links
 length_before links None a = refl
 length_before links (Some k) a = length-set links k (put_before a (get_or links k None))
 
--- as many ends
+-- the number of ends stays
 length_cond : (b : Bool) (xs : List (Option ℕ)) (i : ℕ) (v : Option ℕ) → length (cond b (set xs i v) xs) ≡ length xs
 length_cond true xs i v = length-set xs i v
 length_cond false xs i v = refl
 
--- what is seen changes in what is queued alone
+-- contracts see no change except in the queued keys
 viewed : (links links' : List (Option Link)) (counts counts' : List ℕ) (items : List QueuedKey)
     → length counts' ≡ length counts → length links' ≡ length links → arrivals links' ≡ items
     → view_of links' counts' ≡ (let v = view_of links counts in record v { items = items })
@@ -70,7 +70,7 @@ viewed links links' counts counts' items counts_len links_len items_are =
     ∙ ap (λ n. view (length counts) n (arrivals links')) links_len
     ∙ ap (view (length counts) (length links)) items_are
 
--- keys are below a bound, if each that is queued is
+-- if each queued key is below a bound, all are
 keys_below : (n : ℕ) (items : List QueuedKey) → ((k : ℕ) → occurs k (keys_of items) ≡ true → k < n)
     → All (λ x. x.key < n) items
 keys_below n [] below = All-nil (λ x. x.key < n)
@@ -79,13 +79,13 @@ keys_below n (x ∷ xs) below =
     (keys_below n xs (λ k has. below k
     (elim (cases_Bool (eqb x.key k)) [ inl equal ↦ simp equal refl | inr differ ↦ simp differ has ])))
 
--- these queues are kept, and these keys are what is queued, where links and counts were others before
+-- these queues are kept and these keys are queued, after a change from other links and counts
 pub record IsNow (links : List (Option Link)) (counts : List ℕ) (links' : List (Option Link))
     (firsts' lasts' : List (Option ℕ)) (counts' words' : List ℕ) (queued' : ℕ) (items : List QueuedKey) : Type 0 where
   pub view : view_of links' counts' ≡ (let v = view_of links counts in record v { items = items })
   pub keeps : KeepsQueues links' firsts' lasts' counts' words' queued'
 
--- as many keys are left as there were, but for the one that is taken out
+-- once a key is taken out, there is one key fewer
 length-without_key : (j : ℕ) (items : List QueuedKey) → AreDistinct (keys_of items) → occurs j (keys_of items) ≡ true
     → length (without_key j items) + 1 ≡ length items
 length-without_key j items d has =
@@ -94,7 +94,7 @@ length-without_key j items d has =
     let same = ap length (keys_of-without j items) in
     omega (arith, all, left, same, length_without j (keys_of items) d has)
 
--- what is known of a key that has a link
+-- what is known about a key that has a link
 pub record HasLink (links : List (Option Link)) (counts : List ℕ) (queued key : ℕ) (link : Link) : Type 0 where
   pub read : get_or links key None ≡ Some link
   pub entry : link.entry < length counts
@@ -137,7 +137,7 @@ module _ {links : List (Option Link)} {firsts lasts : List (Option ℕ)} {counts
         keeps = p.1;
       }
 
-  -- the same, by the index of the entry
+  -- the same, given the index of the entry
   pub push_at : (x : QueuedKey) (index : ℕ) → index ≡ x.entry → x.entry < length counts → x.key < length links
       → occurs x.key (keys_of (arrivals links)) ≡ false
       → All (λ y. y.stamp < x.stamp) (arrivals links)
@@ -197,7 +197,7 @@ module _ {links : List (Option Link)} {firsts lasts : List (Option ℕ)} {counts
         keeps = p.1;
       }
 
-  -- the same, by the index of the entry
+  -- the same, given the index of the entry
   pub remove_at : (j : ℕ) (l : Link) (index : ℕ) → index ≡ l.entry → get_or links j None ≡ Some l
       → (n : ℕ) → n ≡ get_or counts index 0
       → (links' : List (Option Link)) (firsts' lasts' : List (Option ℕ)) (words' : List ℕ)
@@ -211,7 +211,7 @@ module _ {links : List (Option Link)} {firsts lasts : List (Option ℕ)} {counts
       rw here (remove_is j l read n (rw here at n_is) links' firsts' lasts' words' links_are (rw here at firsts_are)
       (rw here at lasts_are) writes)
 
-  -- a key with a link, by what is seen
+  -- a key with a link, as contracts see it
   pub has_link : {v : QueuesView} → view_of links counts ≡ v → (j : ℕ) (l : Link) → Some l ≡ link_of v.items j
       → HasLink links counts queued j l
   has_link {v} seen j l some =
@@ -231,7 +231,7 @@ module _ {links : List (Option Link)} {firsts lasts : List (Option ℕ)} {counts
         is_one_of_all = omega (arith, q.queued_len, length-without_key j items q.holds.distinct has.2);
       }
 
-  -- the first key of an entry has the link of what is queued first
+  -- the first key of an entry has the link of the first queued item
   pub first_link : {v : QueuesView} → view_of links counts ≡ v
       → (e index : ℕ) → index ≡ e → e < v.total
       → (k : ℕ) → get_or firsts index None ≡ Some k
@@ -247,7 +247,7 @@ module _ {links : List (Option Link)} {firsts lasts : List (Option ℕ)} {counts
         link_of_found k v.items f.0 (ap (item_of k) back ∙ f.2),
       )
 
-  -- a key that is queued is reserved
+  -- a queued key is reserved
   queued_within : (k : ℕ) → occurs k (keys_of (arrivals links)) ≡ true → k < length links
   queued_within k has = elim (cases_lt k (length links)) [
     | inl lt ↦ lt

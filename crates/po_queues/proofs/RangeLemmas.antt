@@ -1,4 +1,4 @@
--- The numbers below another, from one on, and round from one.
+-- The numbers below another, those from one on, and rounds that begin at one.
 use Rattle.std.proofs.Common.{min, ◌+◌, ◌≡◌, ℕ, zero, suc, ◌-◌, ◌<◌, ◌≤◌}
 use Rattle.std.proofs.Common.{List, [], ◌∷◌, ◌++◌, map, take, drop, length, get_or}
 use Rattle.std.proofs.Common.{refl, ap, ◌∙◌, sym, arith, true, false, inl, inr, length-append}
@@ -32,7 +32,7 @@ pub get_or-map-below : (f : ℕ → ℕ) (total e : ℕ) → e < total → get_o
 get_or-map-below f total e lt =
     get_or-map f (below total) e 0 0 (omega (arith, length-below total, lt)) ∙ ap f (get_or-below total e lt)
 
--- so many numbers, each what f gives of its index
+-- `total` numbers, each the value of f at its index
 pub numbers_each : (f : ℕ → ℕ) (total : ℕ) (xs : List ℕ) → length xs ≡ total
     → ((e : ℕ) → e < total → get_or xs e 0 ≡ f e) → xs ≡ map f (below total)
 numbers_each f total xs len each =
@@ -60,17 +60,17 @@ take_all (suc k) [] h = refl
 take_all zero (y ∷ xs) h = absurd (omega arith)
 take_all (suc k) (y ∷ xs) h = ap (λ l. y ∷ l) (take_all k xs (omega arith))
 
--- what is taken is not what is put at the end
+-- taking no more than there was before doesn't reach what was put at the end
 take_front : (k : ℕ) (xs : List ℕ) (x : ℕ) → k ≤ length xs → take k (xs ++ x ∷ []) ≡ take k xs
 take_front zero xs x h = refl
 take_front (suc k) [] x h = absurd (omega arith)
 take_front (suc k) (y ∷ xs) x h = ap (λ l. y ∷ l) (take_front k xs x (omega arith))
 
--- the range up to one number more
+-- the range with one number more
 range_more : (from n : ℕ) → from ≤ n → drop from (below (suc n)) ≡ drop from (below n) ++ n ∷ []
 range_more from n h = drop_over from (below n) n (omega (arith, length-below n, h))
 
--- the range of no number
+-- an empty range
 pub no_range : (from n : ℕ) → n ≤ from → drop from (below n) ≡ []
 no_range from n h = drop_all from (below n) (omega (arith, length-below n, h))
 
@@ -83,37 +83,37 @@ take-below (suc n) k h = elim (cases_eq k (suc n)) [
   | inr other ↦ take_front k (below n) n (omega (arith, length-below n)) ∙ take-below n k (omega arith)
 ]
 
--- nothing told is made up for by the other
+-- if the first selection is quiet, the second counts
 pub or_selection-quiet : (a b : Selection) → tells_nothing a ≡ true → or_selection a b ≡ b
 or_selection-quiet Quiet b h = refl
 or_selection-quiet (Ready e) b h = absurd (cc)
 or_selection-quiet (Broken e) b h = absurd (cc)
 
--- something told stays
+-- if the first selection isn't quiet, it counts
 pub or_selection-found : (a b : Selection) → tells_nothing a ≡ false → or_selection a b ≡ a
 or_selection-found Quiet b h = absurd (cc)
 or_selection-found (Ready e) b h = refl
 or_selection-found (Broken e) b h = refl
 
--- what tells nothing is quiet
+-- a selection that names no entry is `Quiet`
 pub is_quiet : (a : Selection) → tells_nothing a ≡ true → a ≡ Quiet
 is_quiet Quiet h = refl
 is_quiet (Ready e) h = absurd (cc)
 is_quiet (Broken e) h = absurd (cc)
 
--- the first of the first two is the first of all
+-- the first of three selections, however they are grouped
 grouped : (a b c : Selection) → or_selection a (or_selection b c) ≡ or_selection (or_selection a b) c
 grouped Quiet b c = refl
 grouped (Ready e) b c = refl
 grouped (Broken e) b c = refl
 
--- nothing further is told by nothing
+-- `Quiet` after a selection adds nothing
 or_selection-none : (a : Selection) → or_selection a Quiet ≡ a
 or_selection-none Quiet = refl
 or_selection-none (Ready e) = refl
 or_selection-none (Broken e) = refl
 
--- where a round starts: at the entry after the last one, or at the end
+-- the start of a round: the entry after the last one, or the end
 pub record IsStart (n total last more start : ℕ) : Type 0 where
   pub total_is : total ≡ n
   pub few : total < 65536
@@ -126,14 +126,14 @@ module _ (f : ℕ → Selection) where
   first_selection-append (x ∷ xs) ys = ap (or_selection (f x)) (first_selection-append xs ys)
       ∙ grouped (f x) (first_selection f xs) (first_selection f ys)
 
-  -- the first of a range up to one number more
+  -- the first turn of a range with one number more
   first_selection-more : (from n : ℕ) → from ≤ n
       → first_selection f (drop from (below (suc n))) ≡ or_selection (first_selection f (drop from (below n))) (f n)
   first_selection-more from n h = rw (range_more from n h)
       (first_selection-append (drop from (below n)) (n ∷ [])
       ∙ ap (or_selection (first_selection f (drop from (below n)))) (or_selection-none (f n)))
 
-  -- where no number of a range tells anything, the range doesn't
+  -- if no number of a range has a turn, the range has none
   pub range_quiet : (from n : ℕ) → ((e : ℕ) → from ≤ e → e < n → f e ≡ Quiet)
       → first_selection f (drop from (below n)) ≡ Quiet
   range_quiet from zero quiet = ap (first_selection f) (no_range from 0 (omega arith))
@@ -143,7 +143,7 @@ module _ (f : ℕ → Selection) where
         ∙ rw (range_quiet from n (λ e low high. quiet e low (omega arith))) (quiet n here (omega arith))
   ]
 
-  -- the first number of a range that tells something is told
+  -- the first number of a range that has a turn gives the range its turn
   pub range_found : (from n e : ℕ) → from ≤ e → e < n → ((i : ℕ) → from ≤ i → i < e → f i ≡ Quiet)
       → tells_nothing (f e) ≡ false → first_selection f (drop from (below n)) ≡ f e
   range_found from zero e low high quiet found = absurd (omega arith)
@@ -154,7 +154,7 @@ module _ (f : ℕ → Selection) where
         ∙ rw (range_found from n e low (omega arith) quiet found) (or_selection-found (f e) (f n) found)
   ]
 
-  -- a round from k on, in two ranges that meet at start
+  -- a round from k on is two ranges that meet at `start`
   round : (n k start : ℕ) → start ≤ n → (k ≤ n → start ≡ k) → (n < k → start ≡ n)
       → first_selection f (drop k (below n) ++ take k (below n))
       ≡ or_selection (first_selection f (drop start (below n))) (first_selection f (drop 0 (below start)))
@@ -166,7 +166,7 @@ module _ (f : ℕ → Selection) where
         ∙ ap (λ l. or_selection (first_selection f (drop k (below n))) (first_selection f l)) (take-below n k under))
   ]
 
-  -- a round from the entry after the last one on, in two ranges
+  -- a round from the entry after the last one on is two ranges
   round_started : (n total last more start : ℕ) → IsStart n total last more start
       → first_selection f (drop (last + 1) (below n) ++ take (last + 1) (below n))
       ≡ or_selection (first_selection f (drop start (below total))) (first_selection f (drop 0 (below start)))
@@ -179,7 +179,7 @@ module _ (f : ℕ → Selection) where
       (λ h. omega (arith, total_is, start_is, more_is, few, h))
       (λ h. omega (arith, total_is, start_is, more_is, few, h)))
 
-  -- a round where one of the later tells something
+  -- the turn of a round if a later entry has one
   pub round_found : (n total last more start : ℕ) → IsStart n total last more start
       → (later : Selection) → later ≡ first_selection f (drop start (below total)) → tells_nothing later ≡ false
       → later ≡ first_selection f (drop (last + 1) (below n) ++ take (last + 1) (below n))
@@ -187,7 +187,7 @@ module _ (f : ℕ → Selection) where
       ∙ ap (λ a. or_selection a (first_selection f (drop 0 (below start)))) (sym is)
       ∙ or_selection-found later (first_selection f (drop 0 (below start))) tells)
 
-  -- a round where none of the later does
+  -- the turn of a round if no later entry has one
   pub round_on : (n total last more start : ℕ) → IsStart n total last more start
       → (later other : Selection) → later ≡ first_selection f (drop start (below total)) → tells_nothing later ≡ true
       → other ≡ first_selection f (drop 0 (below start))

@@ -1,4 +1,4 @@
--- Room for more keys, the room that the counts have, and queues with nothing queued.
+-- Room for more keys, room in the counts, and empty queues.
 use Rattle.std.proofs.Common.{◌≡◌, ℕ, zero, suc, ◌+◌, ◌/◌, ◌^◌, ◌<◌, ◌≤◌, Bool, true, false, cond, eqb, ltb}
 use Rattle.std.proofs.Common.{List, [], ◌∷◌, ◌++◌, length, get_or, replicate, take, Option, Some, None, refl, sym, ap}
 use Rattle.std.proofs.Common.{◌∙◌, inl, inr, arith}
@@ -13,12 +13,12 @@ use Rattle.po_queues.specs.Links.{HoldsQueues, link_of_item}
 use Rattle.po_queues.specs.Arrivals.{arrivals, arrivals_from, insert_item, KeepsQueues}
 use Rattle.po_queues.specs.declared.link.Link.{Link}
 
--- room for more keys holds none
+-- free links hold no queued key
 arrivals_from-none : (k m : ℕ) → arrivals_from k (replicate m None) ≡ []
 arrivals_from-none k zero = refl
 arrivals_from-none k (suc m) = arrivals_from-none (k + 1) m
 
--- what is queued stays
+-- the queued keys stay
 arrivals_room : (k m : ℕ) (links : List (Option Link))
     → arrivals_from k (links ++ replicate m None) ≡ arrivals_from k links
 arrivals_room k m [] = arrivals_from-none k m
@@ -26,7 +26,7 @@ arrivals_room k m (None ∷ links) = arrivals_room (k + 1) m links
 arrivals_room k m (Some l ∷ links) = ap (insert_item (record { entry = l.entry; key = k; stamp = l.stamp }))
     (arrivals_room (k + 1) m links)
 
--- what is read stays, with room for more
+-- what is read stays once there is more room
 pub read_room : {A : Type 0} (d : A) (xs : List A) (m k : ℕ) → get_or (xs ++ replicate m d) k d ≡ get_or xs k d
 read_room d [] zero k = refl
 read_room d [] (suc m) zero = refl
@@ -38,13 +38,13 @@ read_room d [] (suc m) (suc k) = read_room d [] m k ∙ past k
 read_room d (x ∷ xs) m zero = refl
 read_room d (x ∷ xs) m (suc k) = read_room d xs m k
 
--- the queues are kept with other links, which hold the same
+-- the queues are kept with other links that hold the same keys
 pub record HoldsSame (links links' : List (Option Link)) (firsts lasts : List (Option ℕ)) (counts words : List ℕ)
     (queued : ℕ) : Type 0 where
   pub items : arrivals links' ≡ arrivals links
   pub keeps : KeepsQueues links' firsts lasts counts words queued
 
--- room for more keys changes nothing that is queued
+-- room for more keys changes no queued key
 room_is : {links : List (Option Link)} {firsts lasts : List (Option ℕ)} {counts words : List ℕ} {queued : ℕ}
     (q : KeepsQueues links firsts lasts counts words queued) (m : ℕ)
     → HoldsSame links (links ++ replicate m None) firsts lasts counts words queued
@@ -63,7 +63,7 @@ room_is {links} {firsts} {lasts} {counts} {words} {queued} q m =
     q.busy q.queued_len in
     record { items = p.0; keeps = p.1 }
 
--- the same, where the links were made longer, or stayed as they were
+-- the same if the links were made longer or stayed as they were
 pub grown_is : {links : List (Option Link)} {firsts lasts : List (Option ℕ)} {counts words : List ℕ} {queued : ℕ}
     (q : KeepsQueues links firsts lasts counts words queued) (grown : Bool) (n m : ℕ) (links' : List (Option Link))
     → length links ≤ n → links' ≡ cond grown (take n links ++ replicate m None) links
@@ -71,7 +71,7 @@ pub grown_is : {links : List (Option Link)} {firsts lasts : List (Option ℕ)} {
 grown_is {links} q true n m links' long links_are = rw (links_are, take_all n links long) (room_is q m)
 grown_is q false n m links' long links_are = rw links_are (record { items = refl; keeps = q })
 
--- queues with no key reserved
+-- queues without a reserved key
 pub fresh : (n : ℕ) (links : List (Option Link)) (firsts lasts : List (Option ℕ)) (counts words : List ℕ) → n < 2 ^ 16
     → links ≡ [] → firsts ≡ replicate n None → lasts ≡ replicate n None → counts ≡ replicate n 0
     → words ≡ replicate (n / 64 + 1) 0 → KeepsQueues links firsts lasts counts words 0
@@ -103,7 +103,7 @@ fresh n links firsts lasts counts words few e1 e2 e3 e4 e5 =
     nothing zero = refl
     nothing (suc k) = refl
 
--- one item more
+-- the list is longer by one
 length_insert : (x : QueuedKey) (ys : List QueuedKey) → length (insert_item x ys) ≡ length ys + 1
 length_insert x [] = refl
 length_insert x (y ∷ ys) = elim (cases_Bool (ltb x.stamp y.stamp)) [
@@ -111,7 +111,7 @@ length_insert x (y ∷ ys) = elim (cases_Bool (ltb x.stamp y.stamp)) [
   | inr f ↦ simp f (omega (arith, length_insert x ys))
 ]
 
--- no more is queued than there are links
+-- at most as many keys are queued as there are links
 arrivals_few : (k : ℕ) (links : List (Option Link)) → length (arrivals_from k links) ≤ length links
 arrivals_few k [] = omega arith
 arrivals_few k (None ∷ links) = omega (arith, arrivals_few (k + 1) links)
@@ -122,7 +122,7 @@ arrivals_few k (Some l ∷ links) = omega (
       (arrivals_from (k + 1) links),
 )
 
--- less is queued than there are links, where one of them is free
+-- if a link is free, fewer keys are queued than there are links
 arrivals_fewer : (k : ℕ) (links : List (Option Link)) (i : ℕ) → i < length links → get_or links i None ≡ None
     → length (arrivals_from k links) + 1 ≤ length links
 arrivals_fewer k [] i lt none = absurd (omega arith)
@@ -136,13 +136,13 @@ arrivals_fewer k (Some l ∷ links) (suc i) lt none = omega (
       (record { entry = l.entry; key = k; stamp = l.stamp }) (arrivals_from (k + 1) links),
 )
 
--- no more is queued on an entry than on all
+-- an entry has at most as many queued keys as all together
 keys_few : (e : ℕ) (items : List QueuedKey) → length (keys_on e items) ≤ length items
 keys_few e [] = omega arith
 keys_few e (x ∷ xs) = elim (cases_Bool (eqb x.entry e))
     [ inl t ↦ simp t (omega (arith, keys_few e xs)) | inr f ↦ simp f (omega (arith, keys_few e xs)) ]
 
--- a key that isn't queued leaves room in each count, and in the number of all
+-- if a key isn't queued, there is room in each count, and in the number of queued keys
 pub record HasRoom (links : List (Option Link)) (counts : List ℕ) (queued entry : ℕ) : Type 0 where
   pub count : get_or counts entry 0 + 1 ≤ length links
   pub all : queued + 1 ≤ length links

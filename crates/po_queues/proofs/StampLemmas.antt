@@ -1,4 +1,4 @@
--- The turn of what was queued first, of the entries up to one.
+-- The turn of the key that was queued first, among the entries below one.
 use Rattle.std.proofs.Common.{◌≡◌, ℕ, ◌+◌, ◌<◌, ◌≤◌, List, [], ◌∷◌, map, length, refl, ap, ◌∙◌, sym, arith, inl, inr}
 use Rattle.std.proofs.Common.{Bool, true, false, cond, ltb, eqb, Option, Some, None}
 use Rattle.std.specs.List.{All}
@@ -12,7 +12,7 @@ use Rattle.po_queues.proofs.RangeLemmas.{is_quiet}
 use Rattle.po_queues.specs.Turns.{tells_nothing, or_selection, first_selection}
 use Rattle.po_queues.specs.Stamps.{with_stamp, older, selection_of, or_stamped, stamped_if, first_stamped}
 
--- what holds of each entry with a queued key holds of the entry of each
+-- what holds of each entry with a queued key holds of each item's entry
 pub each_item : (T : ℕ → Type 0) (items : List QueuedKey) → ((i : ℕ) → 0 < length (queue_of i items) → T i)
     → All (λ x. T x.entry) items
 each_item T [] each = All-nil (λ (x : QueuedKey). T x.entry)
@@ -21,7 +21,7 @@ each_item T (x ∷ xs) each = All-cons (λ (y : QueuedKey). T y.entry) x xs
     (each_item T xs (λ i busy. each i (elim (cases_Bool (eqb x.entry i))
     [ inl on_entry ↦ simp on_entry (omega arith) | inr elsewhere ↦ simp elsewhere busy ])))
 
--- what holds of the entry of each holds of each entry with a queued key
+-- what holds of each item's entry holds of each entry with a queued key
 pub busy_each : (T : ℕ → Type 0) (items : List QueuedKey) → All (λ x. T x.entry) items
     → (i : ℕ) → 0 < length (queue_of i items) → T i
 busy_each T [] all i busy = absurd (omega arith)
@@ -30,12 +30,12 @@ busy_each T (x ∷ xs) all i busy = elim (cases_Bool (eqb x.entry i)) [
   | inr elsewhere ↦ busy_each T xs (All-tail (λ (y : QueuedKey). T y.entry) x xs all) i (simp elsewhere at busy)
 ]
 
--- what there is has a later stamp
+-- if there is a turn, its stamp is later
 abbrev IsLater : ℕ → Option Stamped → Type 0
 IsLater s None = Unit {0}
 IsLater s (Some a) = s < a.stamp
 
--- the first of two that are later is
+-- of two later turns, the first is later
 later_or : (s t : ℕ) (b : Bool) (l : Selection) (rest : Option Stamped) → s < t → IsLater s rest
     → IsLater s (or_stamped (stamped_if b (with_stamp t l)) rest)
 later_or s t false l rest lt late = late
@@ -43,33 +43,33 @@ later_or s t true Quiet rest lt late = late
 later_or s t true (Ready e) rest lt late = lt
 later_or s t true (Broken e) rest lt late = lt
 
--- an earlier turn is the older one
+-- of a turn and a later one, the turn is the older
 older_front : (s : ℕ) (a : Stamped) (q : Option Stamped) → a.stamp ≡ s → IsLater s q → Some a ≡ older (Some a) q
 older_front s a None same late = refl
 older_front s a (Some b) same late =
     ap (λ t. cond t (Some b) (Some a)) (sym (le-ltb b.stamp a.stamp (omega (arith, same, late))))
 
--- so is an earlier one behind it
+-- the same with the later one in front
 older_back : (s : ℕ) (a : Stamped) (p : Option Stamped) → a.stamp ≡ s → IsLater s p → Some a ≡ older p (Some a)
 older_back s a None same late = refl
 older_back s a (Some b) same late =
     ap (λ t. cond t (Some a) (Some b)) (sym (lt-ltb a.stamp b.stamp (omega (arith, same, late))))
 
--- one more, at the front of the first
+-- one more, in front of the first
 front_more : (s : ℕ) (l : Selection) (p q r : Option Stamped) → r ≡ older p q → IsLater s q
     → or_stamped (with_stamp s l) r ≡ older (or_stamped (with_stamp s l) p) q
 front_more s Quiet p q r same late = same
 front_more s (Ready e) p q r same late = older_front s (record { stamp = s; selection = Ready e }) q refl late
 front_more s (Broken e) p q r same late = older_front s (record { stamp = s; selection = Broken e }) q refl late
 
--- one more, at the front of the second
+-- one more, in front of the second
 back_more : (s : ℕ) (l : Selection) (p q r : Option Stamped) → r ≡ older p q → IsLater s p
     → or_stamped (with_stamp s l) r ≡ older p (or_stamped (with_stamp s l) q)
 back_more s Quiet p q r same late = same
 back_more s (Ready e) p q r same late = older_back s (record { stamp = s; selection = Ready e }) p refl late
 back_more s (Broken e) p q r same late = older_back s (record { stamp = s; selection = Broken e }) p refl late
 
--- a turn that tells something, with its stamp
+-- a turn that isn't quiet, with its stamp
 stamp_found : (s : ℕ) (l : Selection) → tells_nothing l ≡ false → Some (record { stamp = s; selection = l }) ≡ with_stamp s l
 stamp_found s Quiet found = absurd (cc)
 stamp_found s (Ready e) found = refl
@@ -83,7 +83,7 @@ selection_more s (Ready e) rest r same = refl
 selection_more s (Broken e) rest r same = refl
 
 module _ (f : ℕ → Selection) where
-  -- what is later has a later first turn
+  -- if all stamps are later, the first turn is later
   first_later : (s : ℕ) (p : ℕ → Bool) (items : List QueuedKey) → All (λ y. s < y.stamp) items
       → IsLater s (first_stamped p f items)
   first_later s p [] all = tt
@@ -91,7 +91,7 @@ module _ (f : ℕ → Selection) where
       (All-head (λ (y : QueuedKey). s < y.stamp) x xs all)
       (first_later s p xs (All-tail (λ (y : QueuedKey). s < y.stamp) x xs all))
 
-  -- the first turn up to one entry more is the older one of two, where there is nothing between
+  -- the first turn below one entry more is the older of two, if no entry between them is busy
   older_more : (next e : ℕ) (items : List QueuedKey) → next ≤ e → RiseBy (λ x. x.stamp) items
       → All (λ x. next ≤ x.entry → e ≤ x.entry) items
       → first_stamped (λ i. ltb i (e + 1)) f items
@@ -123,7 +123,7 @@ module _ (f : ℕ → Selection) where
             ]
       ]
 
-  -- so is the older of what is found and of what one entry has
+  -- so is the older of the turn found so far and that of one entry
   pub older_step : (next e : ℕ) (items : List QueuedKey) → next ≤ e → RiseBy (λ x. x.stamp) items
       → All (λ x. next ≤ x.entry → e ≤ x.entry) items → (found other both : Option Stamped) → both ≡ older found other
       → found ≡ first_stamped (λ i. ltb i next) f items → other ≡ first_stamped (λ i. eqb i e) f items
@@ -131,12 +131,12 @@ module _ (f : ℕ → Selection) where
   older_step next e items le rise all found other both is first here =
       let more = older_more next e items le rise all in cc
 
-  -- no entry is below 0
+  -- below entry 0 there is no turn
   pub none_below : (items : List QueuedKey) → first_stamped (λ i. ltb i 0) f items ≡ None
   none_below [] = refl
   none_below (x ∷ xs) = simp (le-ltb x.entry 0 (omega arith)) (none_below xs)
 
-  -- the first turn, where all entries are below one
+  -- the first turn, if all entries are below one
   all_below : (next : ℕ) (items : List QueuedKey) → All (λ x. x.entry < next) items
       → selection_of (first_stamped (λ i. ltb i next) f items) ≡ first_selection f (map (λ x. x.entry) items)
   all_below next [] all = refl
@@ -153,7 +153,7 @@ module _ (f : ℕ → Selection) where
     | inr other ↦ simp (ne_eqb x.entry e other) (none_on e xs quiet)
   ]
 
-  -- a turn with the stamp of what is first, where nothing else has one
+  -- a turn with the stamp of the first key, if nothing else has a turn
   stamped_or : (s e : ℕ) (xs : List QueuedKey) (l : Selection) → f e ≡ l
       → or_stamped (with_stamp s l) (first_stamped (λ i. eqb i e) f xs) ≡ with_stamp s l
   stamped_or s e xs Quiet is = none_on e xs is
@@ -174,12 +174,12 @@ module _ (f : ℕ → Selection) where
     | inr other ↦ simp (ne_eqb x.entry e other) (stamped_on e k s xs (simp (ne_eqb x.entry e other) at first))
   ]
 
-  -- where the turn of an entry is quiet, there is none with a stamp
+  -- if the turn of an entry is quiet, there is none with a stamp
   pub stamped_none : (e : ℕ) (items : List QueuedKey) (selection : Selection) → selection ≡ f e → tells_nothing selection ≡ true
       → None ≡ first_stamped (λ i. eqb i e) f items
   stamped_none e items selection is tells = sym (none_on e items (sym is ∙ is_quiet selection tells))
 
-  -- where it isn't, it has the stamp of the entry's first key
+  -- if it isn't, it has the stamp of the entry's first key
   pub stamped_some : (e k s : ℕ) (items : List QueuedKey) → first_of (queue_of e items) ≡ Some (k, s)
       → (selection : Selection) → selection ≡ f e → tells_nothing selection ≡ false
       → Some (record { stamp = s; selection = selection }) ≡ first_stamped (λ i. eqb i e) f items

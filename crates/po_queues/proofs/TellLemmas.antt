@@ -1,4 +1,4 @@
--- What the entry that is serviced next tells of the queues.
+-- What the entry that is serviced next says about the queues.
 use Rattle.std.proofs.Common.{◌≡◌, ℕ, ◌<◌, List, map, refl, ap, ◌∙◌, sym, subst, Bool, true, false, Result, Ok, Err}
 use Rattle.std.proofs.Common.{Option}
 use Rattle.std.specs.List.{All}
@@ -18,7 +18,7 @@ use Rattle.po_queues.proofs.StampLemmas.{each_item, busy_each}
 use Rattle.po_queues.proofs.TurnLemmas.{busy_turn, keys_busy}
 
 module _ {S V : Type 0} (m : Meaning S V) (u : S) (queues : QueuesView) where
-  -- the entries of what is queued, in order of arrival
+  -- the entries of the queued keys, in order of arrival
   abbrev queued : List ℕ
   queued = map (λ x. x.entry) queues.items
 
@@ -26,13 +26,13 @@ module _ {S V : Type 0} (m : Meaning S V) (u : S) (queues : QueuesView) where
   in_range : IsSound queues → All (λ e. e < queues.total) queued
   in_range sound = All-map (λ e. e < queues.total) (λ x. x.entry) queues.items sound.entries
 
-  -- what an entry's turn tells
+  -- what an entry's turn says
   abbrev Found : Selection → Type 0
   Found Quiet = Unit {0}
   Found (Ready e) = IsQueuedAt m u queues e (Ok true)
   Found (Broken e) = (k : ℕ) × IsQueuedAt m u queues e (Err k)
 
-  -- what is told by its gate
+  -- what the entry's barrier says
   found_at : (e : ℕ) → e < queues.total → (b : Bool) (barrier : Result Bool ℕ)
       → has_keys (keys_on e queues.items) ≡ b → barrier_at m u queues e ≡ barrier → Found (selection_if b (turn e barrier))
   found_at e lt false barrier has is = tt
@@ -42,7 +42,7 @@ module _ {S V : Type 0} (m : Meaning S V) (u : S) (queues : QueuesView) where
   found_at e lt true (Err k) has is =
       (k, record { within = lt; queued = keys_busy (queue_of e queues.items) has; barrier_is = is })
 
-  -- what the first of the examined entries that has its turn tells
+  -- what the first of the examined entries that has its turn says
   found_next : (order : Order) (last : Option ℕ) → IsSound queues → Found (serviced_next m u queues order last)
   found_next order last sound =
       first_selection_each (turn_at m u queues) Found tt (examined order last queues.total queued)
@@ -50,7 +50,7 @@ module _ {S V : Type 0} (m : Meaning S V) (u : S) (queues : QueuesView) where
       (λ e lt. found_at e lt (has_keys (keys_on e queues.items)) (barrier_at m u queues e) refl refl)
       (examined order last queues.total queued) (examined_range order last queues.total queued (in_range sound)))
 
-  -- what is serviced next tells what each look tells
+  -- what is serviced next meets what its selection says
   pub tells : (order : Order) (last : Option ℕ) → IsSound queues → (selection : Selection)
       → selection ≡ serviced_next m u queues order last → Tells m u queues selection
   tells order last sound Quiet is =
@@ -63,7 +63,7 @@ module _ {S V : Type 0} (m : Meaning S V) (u : S) (queues : QueuesView) where
   tells order last sound (Ready e) is = subst Found (sym is) (found_next order last sound)
   tells order last sound (Broken e) is = subst Found (sym is) (found_next order last sound)
 
-  -- and so does the first of all entries by rising number
+  -- so does the first of all entries by rising number
   pub tells_textual : (last : Option ℕ) → IsSound queues → (n : ℕ) → n ≡ queues.total → (selection : Selection)
       → selection ≡ first_selection (turn_at m u queues) (below n) → Tells m u queues selection
   tells_textual last sound n all selection is =

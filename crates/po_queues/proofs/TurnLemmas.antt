@@ -1,4 +1,4 @@
--- The turns of entries with a queued key, and of those without one.
+-- The turns of entries with a queued key, and of entries without one.
 use Rattle.std.proofs.Common.{◌≡◌, ℕ, ◌<◌, ◌≤◌, List, [], ◌∷◌, length, drop, refl, ap, ◌∙◌, sym, arith}
 use Rattle.std.proofs.Common.{true, false, inl, inr}
 use Rattle.std.proofs.lemmas.Bool.{cases_lt}
@@ -11,17 +11,17 @@ use Rattle.po_queues.specs.Turns.{below, turn, tells_nothing, first_selection, s
 use Rattle.po_queues.specs.Service.{barrier_at, turn_at}
 use Rattle.po_queues.proofs.RangeLemmas.{range_quiet, range_found}
 
--- a queue with something in it has keys
+-- a queue that isn't empty has keys
 pub busy_keys : (xs : List QueuedKey) → 0 < length xs → has_keys (keys_of xs) ≡ true
 busy_keys [] some = absurd (omega arith)
 busy_keys (x ∷ xs) some = refl
 
--- a queue that has keys has something in it
+-- a queue that has keys isn't empty
 pub keys_busy : (xs : List QueuedKey) → has_keys (keys_of xs) ≡ true → 0 < length xs
 keys_busy [] has = absurd (cc)
 keys_busy (x ∷ xs) has = omega arith
 
--- no entry with a queued key stands before the next busy one
+-- no entry before the next busy one has a queued key
 pub past_next : (queues : QueuesView) (next e : ℕ) → IsNextBusy queues next e → (i : ℕ)
     → 0 < length (queue_of i queues.items) → next ≤ i → e ≤ i
 past_next queues next e found i busy low = elim (cases_lt i e) [
@@ -29,7 +29,7 @@ past_next queues next e found i busy low = elim (cases_lt i e) [
   | inr after ↦ after
 ]
 
--- where none is busy from one on, those with a queued key are below
+-- if no entry from one on is busy, the entries with a queued key are below it
 pub below_next : (queues : QueuesView) (next : ℕ) → ((e : ℕ) → next ≤ e → queue_of e queues.items ≡ [])
     → (i : ℕ) → 0 < length (queue_of i queues.items) → i < next
 below_next queues next idle i busy = elim (cases_lt i next) [
@@ -47,11 +47,11 @@ module _ {S V : Type 0} (m : Meaning S V) (u : S) (queues : QueuesView) where
   pub idle_turn : (e : ℕ) → queue_of e queues.items ≡ [] → turn_at m u queues e ≡ Quiet
   idle_turn e idle = ap (λ l. selection_if (has_keys (keys_of l)) (turn e (barrier_at m u queues e))) idle
 
-  -- no entry has its turn from one on and below the other
+  -- no entry from one on and below another has its turn
   abbrev pub AllQuiet : ℕ → ℕ → Type 0
   AllQuiet from n = (e : ℕ) → from ≤ e → e < n → turn_at m u queues e ≡ Quiet
 
-  -- nor has one up to the next busy entry
+  -- neither has one before the next busy entry
   pub quiet_before : (from next e : ℕ) → AllQuiet from next → IsNextBusy queues next e → AllQuiet from e
   quiet_before from next e quiet found = λ i low high. elim (cases_lt i next) [
     | inl before ↦ quiet i low before
@@ -66,14 +66,14 @@ module _ {S V : Type 0} (m : Meaning S V) (u : S) (queues : QueuesView) where
       ∙ sym (range_found (turn_at m u queues) from to e (omega (arith, low, found.from_here)) within
       (quiet_before from next e quiet found) (ap tells_nothing (sym is) ∙ tells))
 
-  -- the next busy entry is past the range
+  -- if the next busy entry is past the range, no entry of the range has its turn
   pub none_within : (from next to e : ℕ) → AllQuiet from next → IsNextBusy queues next e → to ≤ e
       → first_selection (turn_at m u queues) (drop from (below to)) ≡ Quiet
   none_within from next to e quiet found past =
       range_quiet (turn_at m u queues) from to
       (λ i low high. quiet_before from next e quiet found i low (omega arith))
 
-  -- there is no further busy entry
+  -- if there is no further busy entry, no entry of the range has its turn
   pub none_left : (from next to : ℕ) → AllQuiet from next
       → ((e : ℕ) → next ≤ e → queue_of e queues.items ≡ [])
       → first_selection (turn_at m u queues) (drop from (below to)) ≡ Quiet

@@ -1,4 +1,4 @@
--- What the writes of links use: that a write past the end changes nothing, and the usual steps.
+-- What the writes of links need: a write past the end changes nothing; and the usual steps.
 use Rattle.std.proofs.lemmas.List.{set_past}
 use Rattle.std.proofs.lemmas.Grind.{common_steps}
 

@@ -1,3 +1,4 @@
+-- SPDX-License-Identifier: MIT
 -- Which entries have a queued key, and the bits that say so.
 use Rattle.std.specs.Prelude.{ℕ, ◌≡◌, ◌<◌, ◌≤◌, ◌*◌, ◌/◌, ◌%◌, Bool, true, false, List, [], ◌∷◌, length, slice_index_or}
 use Rattle.std.specs.Prelude.{nat_lt}
@@ -11,11 +12,11 @@ pub record IsNextBusy (queues : QueuesView) (from entry : ℕ) : Type 0 where
   pub busy : 0 < length (queue_of entry queues.items)
   pub idle_before : (e : ℕ) → from ≤ e → e < entry → queue_of e queues.items ≡ []
 
--- The bit of an entry, where a word has the bits of 64 entries.
+-- The bit of an entry. Each word has the bits of 64 entries.
 abbrev pub bit_of : List ℕ → ℕ → ℕ
 bit_of words e = bit_at (slice_index_or words (e / 64) 0) (e % 64)
 
--- The bit that says this.
+-- The bit for true or false.
 abbrev pub bit_when : Bool → ℕ
 bit_when true = 1
 bit_when false = 0
@@ -26,7 +27,7 @@ pub record IsNextBit (words : List ℕ) (from entry : ℕ) : Type 0 where
   pub is_set : bit_of words entry ≡ 1
   pub clear_before : (e : ℕ) → from ≤ e → e < entry → bit_of words e ≡ 0
 
--- A bit for each word says whether one of its own bits is set, and there are words for so many of them.
+-- A bit for each word says whether one of the word's own bits is set, and there are enough words of such bits.
 pub record SumsUp (words sums : List ℕ) : Type 0 where
   pub marks : (w : ℕ) → bit_of sums w ≡ bit_when (nat_lt 0 (slice_index_or words w 0))
   pub enough : length words ≤ 64 * length sums
@@ -37,7 +38,7 @@ abbrev pub has_keys : List ℕ → Bool
 has_keys [] = false
 has_keys (x ∷ xs) = true
 
--- The bits of all entries say which have a queued key, and there are words for so many entries.
+-- The bits of all entries say which have a queued key, and there are enough words for them.
 pub record MarksBusy (total : ℕ) (words : List ℕ) (items : List QueuedKey) : Type 0 where
   pub marks : (e : ℕ) → bit_of words e ≡ bit_when (has_keys (keys_on e items))
   pub enough : total ≤ 64 * length words

@@ -1,8 +1,9 @@
--- The waiting calls that may be cancelled when their time comes, beside the clock (9.7.2).
+-- SPDX-License-Identifier: MIT
+-- The waiting calls that may be cancelled when their time comes, and the clock (9.7.2).
 use Rattle.std.specs.Prelude.{ℕ, ◌≡◌, ◌≤◌, List, Option, Some, None, option_map, slice_index_or, IfSome}
 use Rattle.po_queues.specs.declared.expiration.Expiration.{Expiration}
 
--- What is seen of expirations: the clock, and by reserved key how its call expires, if it does (9.7.2).
+-- What contracts see of expirations: the clock, and for each reserved key how its call expires, if it does (9.7.2).
 pub record ExpirationsView : Type 0 where
   pub clock : ℕ
   pub calls : List (Option Expiration)

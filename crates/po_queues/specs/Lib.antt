@@ -1,3 +1,4 @@
+-- SPDX-License-Identifier: MIT
 pub mod Arrivals
 pub mod Arrived
 pub mod Busy

@@ -1,3 +1,4 @@
+-- SPDX-License-Identifier: MIT
 -- How links, by key, and ends and counts, by entry, hold the queued keys.
 use Rattle.std.specs.Prelude.{ℕ, ◌≡◌, ◌<◌, List, length, Option, Some, None, slice_index_or, slice_set, slice_index}
 use Rattle.std.specs.List.{All}
@@ -5,12 +6,12 @@ use Rattle.po_queues.specs.QueuedKeys.{QueuedKey, keys_of, keys_on, item_of, fir
 use Rattle.po_queues.specs.QueuedKeys.{key_before_or, AreDistinct}
 use Rattle.po_queues.specs.declared.link.Link.{Link}
 
--- The link of what is queued, where these are the keys of its queue.
+-- The link of a queued key, given the keys of its queue.
 abbrev pub link_with : List ℕ → QueuedKey → Link
 link_with ks x =
     record { entry = x.entry; stamp = x.stamp; before = key_before_or None x.key ks; after = key_after x.key ks }
 
--- The link of this, if it is queued.
+-- The link of this queued key, if there is one.
 abbrev pub link_of_item : List QueuedKey → Option QueuedKey → Option Link
 link_of_item items None = None
 link_of_item items (Some x) = Some (link_with (keys_on x.entry items) x)
@@ -39,12 +40,12 @@ abbrev pub put_before : Option ℕ → Option Link → Option Link
 put_before b None = None
 put_before b (Some l) = Some (record l { before = b })
 
--- The links, with what stands after a key changed, if there is a key.
+-- The links with another key put after this one, if there is a key.
 abbrev pub write_after : List (Option Link) → Option ℕ → Option ℕ → List (Option Link)
 write_after links None a = links
 write_after links (Some k) a = slice_set links k (put_after a (slice_index_or links k None))
 
--- The links, with what stands before a key changed, if there is a key.
+-- The links with another key put before this one, if there is a key.
 abbrev pub write_before : List (Option Link) → Option ℕ → Option ℕ → List (Option Link)
 write_before links None b = links
 write_before links (Some k) b = slice_set links k (put_before b (slice_index_or links k None))

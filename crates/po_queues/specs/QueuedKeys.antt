@@ -1,4 +1,5 @@
--- The queued keys in order of arrival, and each entry's queue of them.
+-- SPDX-License-Identifier: MIT
+-- The queued keys in order of arrival, and the queue of each entry.
 use Rattle.std.specs.Prelude.{ℕ, ◌≡◌, ◌<◌, ◌^◌, ◌==◌, Bool, true, false, not, List, [], ◌∷◌, map, Option, Some, None}
 use Rattle.std.specs.Prelude.{if◌then◌else◌}
 use Rattle.std.specs.List.{filter, find, All}
@@ -9,13 +10,13 @@ pub record QueuedKey : Type 0 where
   pub key : ℕ
   pub stamp : ℕ
 
--- What is seen of queues: the number of entries, how many keys are reserved, and what is queued in order of arrival.
+-- What contracts see of queues: the number of entries, how many keys are reserved, and the queued keys in order of arrival.
 pub record QueuesView : Type 0 where
   pub total : ℕ
   pub reserved : ℕ
   pub items : List QueuedKey
 
--- The queue of an entry: what is queued on it, in order of arrival (9.5.3, FIFO_Queuing of D.4).
+-- The queue of an entry: the keys queued on it, in order of arrival (9.5.3, FIFO_Queuing of D.4).
 abbrev pub queue_of : ℕ → List QueuedKey → List QueuedKey
 queue_of e items = filter (λ x. x.entry == e) items
 
@@ -45,36 +46,36 @@ abbrev pub first_key : List ℕ → Option ℕ
 first_key [] = None
 first_key (x ∷ xs) = Some x
 
--- The last of these keys, or what is before them.
+-- The last of these keys; if there are none, what was before them.
 abbrev pub last_key_or : Option ℕ → List ℕ → Option ℕ
 last_key_or before [] = before
 last_key_or before (x ∷ xs) = last_key_or (Some x) xs
 
--- The key that stands right after a key.
+-- The key right after a key.
 abbrev pub key_after : ℕ → List ℕ → Option ℕ
 key_after k [] = None
 key_after k (x ∷ xs) = if x == k then first_key xs else key_after k xs
 
--- The key that stands right before a key, or, for the first, what is before them all.
+-- The key right before a key; for the first, what was before them all.
 abbrev pub key_before_or : Option ℕ → ℕ → List ℕ → Option ℕ
 key_before_or before k [] = None
 key_before_or before k (x ∷ xs) = if x == k then before else key_before_or (Some x) k xs
 
--- What is queued first, as its key and its stamp.
+-- The first queued key, with its stamp.
 abbrev pub first_of : List QueuedKey → Option (ℕ × ℕ)
 first_of [] = None
 first_of (x ∷ xs) = Some (x.key, x.stamp)
 
--- The key that stands right after this one in its queue.
+-- The key right after this one in its queue.
 abbrev pub after_item : List QueuedKey → Option QueuedKey → Option ℕ
 after_item items None = None
 after_item items (Some x) = key_after x.key (keys_on x.entry items)
 
--- The key that stands right after a key in the queue that it is in, if it is queued and isn't the last.
+-- The key right after a key in that key's queue, if the key is queued and isn't the last.
 abbrev pub key_after_in_queue : ℕ → List QueuedKey → Option ℕ
 key_after_in_queue k items = after_item items (item_of k items)
 
--- The stamp of this.
+-- The stamp of this queued key, if there is one.
 abbrev pub stamp_of_item : Option QueuedKey → Option ℕ
 stamp_of_item None = None
 stamp_of_item (Some x) = Some x.stamp
@@ -83,20 +84,20 @@ stamp_of_item (Some x) = Some x.stamp
 abbrev pub stamp_of : ℕ → List QueuedKey → Option ℕ
 stamp_of k items = stamp_of_item (item_of k items)
 
--- The keys but this one.
+-- The keys, except this one.
 abbrev pub without : ℕ → List ℕ → List ℕ
 without j ks = filter (λ k. not (k == j)) ks
 
--- What is queued but this key.
+-- The queued keys, except this one.
 abbrev pub without_key : ℕ → List QueuedKey → List QueuedKey
 without_key j items = filter (λ x. not (x.key == j)) items
 
--- What is queued but the key that was taken, if one was.
+-- The queued keys, except the one that was taken, if one was.
 abbrev pub without_taken : Option ℕ → List QueuedKey → List QueuedKey
 without_taken None items = items
 without_taken (Some k) items = without_key k items
 
--- No key stands twice among these.
+-- No key is in the list twice.
 abbrev pub AreDistinct : List ℕ → Type 0
 AreDistinct [] = Unit {0}
 AreDistinct (x ∷ xs) = (occurs x xs ≡ false) × AreDistinct xs
@@ -106,7 +107,7 @@ abbrev pub RiseBy : {X : Type 0} → (X → ℕ) → List X → Type 0
 RiseBy stamp [] = Unit {0}
 RiseBy stamp (x ∷ xs) = All (λ y. stamp x < stamp y) xs × RiseBy stamp xs
 
--- What all queues keep: each key is queued once at most, on an entry that there is, and stamps rise (9.5.3).
+-- What all queues keep: each key is queued at most once, on an entry that exists, and stamps rise (9.5.3).
 pub record IsSound (queues : QueuesView) : Type 0 where
   pub distinct : AreDistinct (keys_of queues.items)
   pub rising : RiseBy (λ x. x.stamp) queues.items

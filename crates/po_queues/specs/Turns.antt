@@ -1,5 +1,6 @@
--- The turns of entries: in which order they are examined, what examining one tells, and which of some comes first. The
--- orders are this project's own, within what FIFO_Queuing (D.4) leaves open.
+-- SPDX-License-Identifier: MIT
+-- The turns of entries: in which order entries are examined, what examining one finds, and whose turn comes first. The orders
+-- are this project's own, within what FIFO_Queuing (D.4) leaves open.
 use Rattle.std.specs.Prelude.{ℕ, zero, suc, ◌+◌, Bool, true, false, Result, Ok, Err, List, [], ◌∷◌, ◌++◌, take, drop}
 use Rattle.std.specs.Prelude.{Option, Some, None}
 use Rattle.po_queues.specs.declared.selection.Selection.{Selection}
@@ -12,17 +13,17 @@ abbrev pub below : ℕ → List ℕ
 below zero = []
 below (suc n) = below n ++ n ∷ []
 
--- The entries in the order in which they are examined, where these are the entries of what is queued, in order of
--- arrival: by rising number; by the arrival of what is first on them; or from the one after the entry that was served
--- last, and round to it.
+-- The entries in the order in which they are examined: by rising number; by the arrival of the first key on each; or from the
+-- entry after the one that was served last, around to that one. `queued` are the entries of the queued keys, in order of
+-- arrival.
 abbrev pub examined : Order → Option ℕ → ℕ → List ℕ → List ℕ
 examined Textual last total queued = below total
 examined Oldest last total queued = queued
 examined Rotating None total queued = below total
 examined Rotating (Some e) total queued = drop (e + 1) (below total) ++ take (e + 1) (below total)
 
--- The turn of an entry on which a key is queued, by its barrier: an open one is served, and one whose barrier
--- propagates an exception ends all calls (9.5.3).
+-- The turn of an entry on which a key is queued, by its barrier. An open entry is served, and one whose barrier propagates an
+-- exception ends all calls (9.5.3).
 abbrev pub turn : ℕ → Result Bool ℕ → Selection
 turn e (Ok true) = Ready e
 turn e (Ok false) = Quiet
@@ -34,7 +35,7 @@ tells_nothing Quiet = true
 tells_nothing (Ready e) = false
 tells_nothing (Broken e) = false
 
--- The first, or the second where the first tells nothing.
+-- The first, or the second if the first is `Quiet`.
 abbrev pub or_selection : Selection → Selection → Selection
 or_selection Quiet other = other
 or_selection (Ready e) other = Ready e

@@ -1,3 +1,4 @@
+// SPDX-License-Identifier: MIT
 //! Keys in order of arrival.
 
 ghost use Rattle.std.specs.Prelude.{◌≡◌, ◌<◌, ◌≤◌, ◌+◌, ◌*◌, ◌++◌, [], ◌∷◌, length};
@@ -10,9 +11,9 @@ use crate::room::grown;
 use std::alloc::{AllocError, Global};
 use std::marker::Model;
 
-/// Keys in order of arrival, each between its neighbours.
+/// Keys in order of arrival, each with its neighbours.
 ///
-/// But for `new` and `reserve`, no method takes memory, and its time doesn't depend on how many keys there are.
+/// Except for `new` and `reserve`, methods take no memory, and their time doesn't depend on how many keys there are.
 #[derive(Debug, Drop)]
 pub(crate) struct Arrivals {
     chain: Chain,
@@ -34,7 +35,7 @@ impl Model for Arrivals {
 }
 
 impl Arrivals {
-    /// No key, and none reserved.
+    /// Makes an order with no key, and none reserved.
     pub(crate) fn new(alloc: Global) -> Arrivals
         ensures { result ≡ record { reserved = 0; keys = [] } }
     {
@@ -49,8 +50,8 @@ impl Arrivals {
 
     /// Reserves the key and all keys below it, which stay reserved.
     ///
-    /// Where it isn't, the number of reserved keys at least doubles, so that many calls take little
-    /// memory and time each; it grows no further than that or this key asks for.
+    /// If it isn't yet, the reserve at least doubles, so the cost per call is constant on average. It grows no further than to
+    /// twice its size or to what this key needs.
     pub(crate) fn reserve(&mut self, key: usize) -> Result<(), AllocError>
         ensures ok { OnOk result (key < self.new.reserved) }
         ensures err { OnErr result (self.new ≡ self.old) }
@@ -90,14 +91,14 @@ impl Arrivals {
         self.chain.join(before, after);
     }
 
-    /// The key that arrived first.
+    /// Returns the key that arrived first.
     pub(crate) fn first(&self) -> Option<usize>
         ensures { result ≡ first_key self.now.keys }
     {
         self.chain.first
     }
 
-    /// The key that arrived next after this one, if it has arrived and isn't the last.
+    /// Returns the key that arrived next after this one, if this one has arrived and isn't the last.
     pub(crate) fn after(&self, key: usize) -> Option<usize>
         ensures { result ≡ key_after key self.now.keys }
     {

@@ -1,3 +1,4 @@
+// SPDX-License-Identifier: MIT
 //! A row of bits, in words of 64.
 
 ghost use Rattle.std.specs.Prelude.{◌≡◌, ◌≢◌, ℕ, ◌<◌, ◌≤◌, ◌*◌, ◌+◌, ◌/◌, length, replicate, slice_index_or, IfOk};
@@ -10,14 +11,14 @@ use std::alloc::{AllocError, Global};
 /// How many bits one word has.
 pub(crate) const WORD: u16 = 64;
 
-/// A row of bits, each of which is set or cleared, in words of 64.
+/// A row of bits, each set or cleared, in words of 64.
 #[derive(Debug, Drop)]
 pub(crate) struct Bits {
     words: Vec<u64>,
 }
 
 impl Bits {
-    /// Bits from 0 to the last one, none of which is set.
+    /// Makes bits from 0 to `last`, all cleared.
     pub(crate) fn new(alloc: Global, last: u16) -> Result<Bits, AllocError>
         ensures { IfOk result (λ b. b.words.items ≡ replicate (last / 64 + 1) 0) }
     {
@@ -39,7 +40,7 @@ impl Bits {
         self.words[word] = with_bit(self.words[word], bit % WORD, is_set);
     }
 
-    /// Whether a bit of the word is set.
+    /// Returns whether a bit of the word is set.
     pub(crate) fn has_any(&self, word: u16) -> bool
         requires { word < length self.now.words.items }
         ensures { result ≡ nat_lt 0 (slice_index_or self.now.words.items word 0) }
@@ -47,7 +48,7 @@ impl Bits {
         self.words[usize::from(word)] > 0
     }
 
-    /// The first bit from here on that is set, if it is in the same word.
+    /// Returns the first set bit from this one on, if it is in the same word.
     pub(crate) fn next_in_word(&self, from: u16) -> Option<u16>
         requires { length self.now.words.items ≤ 1024 }
         ensures some { IfSome result (λ b. IsNextBit self.now.words.items from b) }
@@ -65,7 +66,7 @@ impl Bits {
         Some(WORD * word + later.trailing_zeros() as u16)
     }
 
-    /// The first bit from here on that is set.
+    /// Returns the first set bit from this one on.
     pub(crate) fn next(&self, from: u16) -> Option<u16>
         requires { length self.now.words.items ≤ 1024 }
         ensures some { IfSome result (λ b. IsNextBit self.now.words.items from b) }
@@ -82,7 +83,7 @@ impl Bits {
     }
 }
 
-/// The word with this bit set or cleared.
+/// Returns the word with this bit set or cleared.
 fn with_bit(word: u64, bit: u16, is_set: bool) -> u64
     requires { bit < 64 }
     ensures same { bit_at result bit ≡ bit_when is_set }

@@ -1,3 +1,4 @@
+// SPDX-License-Identifier: MIT
 //! Which entries have a queued key.
 
 ghost use Rattle.std.specs.Prelude.{◌≡◌, ◌≢◌, ℕ, ◌<◌, ◌≤◌, ◌*◌, ◌+◌, ◌/◌, length, replicate, IfOk};
@@ -8,15 +9,15 @@ use crate::bits::{Bits, WORD};
 use std::alloc::{AllocError, Global};
 use std::marker::Model;
 
-/// Which entries have a queued key: a bit for each, in words of 64, and a bit for each of these words, which says whether
-/// a bit of it is set.
+/// Which entries have a queued key: a bit for each entry, in words of 64, and a bit for each of these words, which says whether
+/// any bit of the word is set.
 ///
-/// So of the entries that have no queued key 4,096 are passed at once.
+/// So a search passes 4,096 entries without a queued key in one step.
 #[derive(Debug, Drop)]
 pub(crate) struct BusyEntries {
     // By entry: whether it has a queued key.
     entries: Bits,
-    // By word of the bits of entries: whether one of them is set.
+    // By word of `entries`: whether one of its bits is set.
     words: Bits,
 }
 
@@ -32,7 +33,7 @@ impl Model for BusyEntries {
 }
 
 impl BusyEntries {
-    /// So many entries, none of which has a queued key.
+    /// Makes the bits of `total` entries without queued keys.
     pub(crate) fn new(alloc: Global, total: u16) -> Result<BusyEntries, AllocError>
         ensures { IfOk result (λ b. b ≡ replicate (total / 64 + 1) 0) }
     {
@@ -54,7 +55,7 @@ impl BusyEntries {
         self.words.write(word, self.entries.has_any(word));
     }
 
-    /// The first entry from here on that has a queued key.
+    /// Returns the first entry from this one on that has a queued key.
     pub(crate) fn next(&self, from: u16) -> Option<u16>
         requires { length self.now ≤ 1024 }
         ensures some { IfSome result (λ e. IsNextBit self.now from e) }

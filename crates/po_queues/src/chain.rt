@@ -1,22 +1,23 @@
-//! Keys, each between its neighbours.
+// SPDX-License-Identifier: MIT
+//! Keys that are linked to their neighbours.
 
 ghost use Rattle.std.specs.Prelude.{◌≡◌, ◌<◌, length, IfSome};
 ghost use Rattle.po_queues.specs.InOrder.{either_end, with_after, with_before};
 
 use crate::neighbours::Neighbours;
 
-/// Keys between their neighbours, and the keys at the two ends.
+/// Keys that are linked to their neighbours, and the keys at the two ends.
 #[derive(Debug, Drop)]
 pub(crate) struct Chain {
-    // By key: its neighbours; what hasn't arrived has none.
+    // By key: its neighbours. A key that hasn't arrived has none.
     pub(crate) neighbours: Vec<Neighbours>,
     pub(crate) first: Option<usize>,
     pub(crate) last: Option<usize>,
 }
 
 impl Chain {
-    /// Makes the two keys neighbours. Where there is none before, the other one is the first, and where there is none
-    /// after, the last.
+    /// Makes the two keys neighbours. If there is no key before, the other one becomes the first; if there is none after, the
+    /// other one becomes the last.
     pub(crate) fn join(&mut self, before: Option<usize>, after: Option<usize>)
         requires before { IfSome before (λ k. k < length self.old.neighbours.items) }
         requires after { IfSome after (λ k. k < length self.old.neighbours.items) }

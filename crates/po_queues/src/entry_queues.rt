@@ -1,4 +1,5 @@
-//! The entry queues of an object, as one list of what is queued, in order of arrival.
+// SPDX-License-Identifier: MIT
+//! The entry queues of an object, seen as one list of queued keys in order of arrival.
 
 ghost use Rattle.std.specs.Prelude.{◌≡◌, ◌<◌, ◌≤◌, ◌∷◌, ◌++◌, [], length, slice_index, false, max, ℕ};
 ghost use Rattle.std.specs.Prelude.{◌+◌, IfOk, IsOk, IfSome, IfNone, OnOk, OnErr};
@@ -12,15 +13,15 @@ use crate::queues::Queues;
 use std::alloc::{AllocError, Global};
 use std::marker::Model;
 
-/// The entry queues of a protected object (9.5.3, FIFO_Queuing of D.4): keys that stand for calls, queued by entry
-/// and in order of arrival over all entries, and those whose calls expire at some time (9.7.2).
+/// The entry queues of a protected object (9.5.3, FIFO_Queuing of D.4). Keys stand for calls. They are kept by entry, in order
+/// of arrival over all entries, and by the times at which their calls expire, if they do (9.7.2).
 ///
-/// But for `new` and `reserve`, no method takes memory.
+/// Except for `new` and `reserve`, no method takes memory.
 #[derive(Debug, Drop)]
 pub struct EntryQueues {
     /// The queue of each entry.
     by_entry: Queues,
-    /// The keys of all that is queued.
+    /// All queued keys, in order of arrival.
     arrivals: Arrivals,
     /// The keys whose calls expire, with their times.
     expirations: Expirations,
@@ -45,7 +46,7 @@ impl Model for EntryQueues {
 }
 
 impl EntryQueues {
-    /// Queues for so many entries, with no key reserved, at clock 0.
+    /// Makes queues for `total` entries, with no key reserved, at clock 0.
     pub fn new(alloc: Global, total: u16) -> Result<EntryQueues, AllocError>
         ensures { IfOk result (λ q. q ≡ record { total = total; reserved = 0; clock = 0; items = [] }) }
     {
@@ -59,7 +60,7 @@ impl EntryQueues {
 
     /// Reserves the key and all keys below it, which stay reserved.
     ///
-    /// The memory is that of three calls, one for each list, which say how much they take; no clause here sees it.
+    /// Takes the memory that `reserve` takes in each of the three lists. Their clauses say how much; no clause here does.
     pub fn reserve(&mut self, key: usize) -> Result<(), AllocError>
         ensures ok { OnOk result (key < self.new.reserved) }
         ensures err { OnErr result (self.new ≡ self.old) }
@@ -79,11 +80,11 @@ impl EntryQueues {
         Ok(())
     }
 
-    /// Queues the key on the entry, after all that are queued there (9.5.3, D.4). Its call expires at this time, if at
-    /// any (9.7.2).
+    /// Queues the key on the entry, after all that are queued there (9.5.3, D.4). Its call expires at this time, if there is
+    /// one (9.7.2).
     ///
-    /// The entries are those of `counts`, and `reserved` and `contains` tell whether the key may be queued. That the stamp
-    /// is above all others the caller knows, who takes the stamps from a count that only rises.
+    /// The entries are those of `counts`. `reserved` and `contains` let the caller check whether the key may be queued. The
+    /// caller takes stamps from a count that only rises, so it knows that this one is above all others.
     pub fn append(&mut self, entry: u16, key: usize, stamp: u128, expires: Option<u64>)
         requires entry { entry < self.old.total }
         requires reserved { key < self.old.reserved }
@@ -101,7 +102,7 @@ impl EntryQueues {
         }
     }
 
-    /// Takes the key out of its queue, and says whether it was queued.
+    /// Takes the key out of its queue, and returns whether it was queued.
     pub fn remove(&mut self, key: usize) -> bool
         ensures was_queued { result ≡ occurs key (arrived_keys self.old.items) }
         ensures others { self.new ≡ record self.old { items = without_arrived key self.old.items } }
@@ -114,7 +115,7 @@ impl EntryQueues {
         true
     }
 
-    /// Takes the first key out of the entry's queue, if it has one: the next to be served (D.4).
+    /// Takes out and returns the first key of the entry's queue, if it has one: the next to be served (D.4).
     pub fn take_first(&mut self, entry: u16) -> Option<usize>
         requires { entry < self.old.total }
         ensures first { result ≡ first_key (keys_on entry (all_queued self.old.items)) }
@@ -128,42 +129,42 @@ impl EntryQueues {
         Some(key)
     }
 
-    /// The key that was queued first, of all that are queued.
+    /// Returns the key that was queued first, of all that are queued.
     pub fn oldest(&self) -> Option<usize>
         ensures { result ≡ first_key (arrived_keys self.now.items) }
     {
         self.arrivals.first()
     }
 
-    /// The key that was queued next after this one, on whatever entry.
+    /// Returns the key that was queued next after this one, on any entry.
     pub fn next(&self, key: usize) -> Option<usize>
         ensures { result ≡ key_after key (arrived_keys self.now.items) }
     {
         self.arrivals.after(key)
     }
 
-    /// How many keys are reserved: those below this one.
+    /// Returns how many keys are reserved: all keys below this number.
     pub fn reserved(&self) -> usize
         ensures { result ≡ self.now.reserved }
     {
         self.reserved
     }
 
-    /// The stamp with which the key was queued, if it is queued.
+    /// Returns the stamp with which the key was queued, if it is queued.
     pub fn stamp(&self, key: usize) -> Option<u128>
         ensures { result ≡ stamp_of key (all_queued self.now.items) }
     {
         self.by_entry.stamp(key)
     }
 
-    /// Whether the key is queued on some entry.
+    /// Returns whether the key is queued on some entry.
     pub fn contains(&self, key: usize) -> bool
         ensures { result ≡ occurs key (arrived_keys self.now.items) }
     {
         self.by_entry.contains(key)
     }
 
-    /// How many keys are queued on the entry: the attribute Count (9.9).
+    /// Returns how many keys are queued on the entry: the attribute Count (9.9).
     pub fn count(&self, entry: u16) -> u64
         requires { entry < self.now.total }
         ensures { result ≡ length (queue_of entry (all_queued self.now.items)) }
@@ -171,7 +172,7 @@ impl EntryQueues {
         self.by_entry.count(entry)
     }
 
-    /// How many keys are queued on each entry, by entry (9.9).
+    /// Returns how many keys are queued on each entry, by entry (9.9).
     pub fn counts(&self) -> &[u64]
         ensures one_each { length result.now ≡ self.now.total }
         ensures each { (e : ℕ) → e < self.now.total →
@@ -180,7 +181,7 @@ impl EntryQueues {
         self.by_entry.counts()
     }
 
-    /// The queue of each entry.
+    /// Returns the queue of each entry.
     pub fn by_entry(&self) -> &Queues
         ensures items { result.now.items ≡ all_queued self.now.items }
         ensures total { result.now.total ≡ self.now.total }
@@ -188,7 +189,7 @@ impl EntryQueues {
         &self.by_entry
     }
 
-    /// The first key whose call has expired by now, in order of arrival (9.7.2).
+    /// Returns the first key, in order of arrival, whose call has expired by now (9.7.2).
     pub fn first_due(&self) -> Option<usize>
         ensures found { result ≡ first_due self.now }
     {
@@ -196,21 +197,21 @@ impl EntryQueues {
         self.expirations.first_due()
     }
 
-    /// The clock rises to this time, if it is lower.
+    /// Sets the clock to this time, if that is later.
     pub fn rise(&mut self, time: u64)
         ensures { self.new ≡ record self.old { clock = max self.old.clock time } }
     {
         self.expirations.rise(time);
     }
 
-    /// The clock.
+    /// Returns the clock.
     pub fn clock(&self) -> u64
         ensures { result ≡ self.now.clock }
     {
         self.expirations.clock()
     }
 
-    /// What all entry queues keep.
+    /// Brings what all entry queues keep into the proof. Does nothing at run time.
     pub fn recall_invariant(&self)
         ensures { AreInOrder self.now }
     {

@@ -1,4 +1,5 @@
-//! Which entry is serviced next: the entries on which keys are queued are examined in the service order (9.5.3).
+// SPDX-License-Identifier: MIT
+//! Which entry is serviced next. Entries on which keys are queued are examined in the service order (9.5.3).
 
 ghost use Rattle.std.specs.Prelude.{◌≡◌, ◌<◌, ◌≤◌, ◌==◌, drop, length, map};
 ghost use Rattle.po_queues.specs.QueuedKeys.{queue_of};
@@ -12,11 +13,11 @@ use crate::selection::Selection;
 use crate::stamped::{Stamped, older_of, selection_in};
 use po_unit::Unit;
 
-/// Which entry is serviced next, if one is, where `last` is the entry that servicing served last (9.5.3).
+/// Returns which entry is serviced next, if one is (9.5.3). `last` is the entry that servicing served last.
 ///
-/// Only the barriers of entries on which a key is queued are evaluated, each once at most, which a test shows, since no
-/// clause counts calls. It takes no memory.
-// What calls it stays small so, and becomes part of the loop of a command.
+/// Only the barriers of entries with a queued key are evaluated, each at most once. A test shows that, since no clause counts
+/// calls. Takes no memory.
+// Never inlined, so that its caller is small enough to be.
 #[inline(never)]
 pub fn examine<U: Unit>(unit: &U, queues: &Queues, order: Order, last: Option<u16>) -> Selection
     requires { U.meaning.entries unit.now ≡ queues.now.total }
@@ -31,7 +32,7 @@ pub fn examine<U: Unit>(unit: &U, queues: &Queues, order: Order, last: Option<u1
     }
 }
 
-/// The turn of the first entry that has one, from the one after the last served and round to it.
+/// Returns the turn of the first entry that has one, from the entry after the one last served, around to that one.
 fn rotating_turn<U: Unit>(unit: &U, queues: &Queues, last: Option<u16>) -> Selection
     requires { U.meaning.entries unit.now ≡ queues.now.total }
     ensures { result ≡ first_selection (turn_at U.meaning unit.now queues.now)
@@ -49,7 +50,7 @@ fn rotating_turn<U: Unit>(unit: &U, queues: &Queues, last: Option<u16>) -> Selec
     turn_from(unit, queues, 0, start)
 }
 
-/// The turn of the first entry that has one, of those from one on and below another.
+/// Returns the turn of the first entry that has one, among the entries from `from` on and below `to`.
 fn turn_from<U: Unit>(unit: &U, queues: &Queues, from: u16, to: u16) -> Selection
     requires entries { U.meaning.entries unit.now ≡ queues.now.total }
     requires to { to ≤ queues.now.total }
@@ -69,7 +70,7 @@ fn turn_from<U: Unit>(unit: &U, queues: &Queues, from: u16, to: u16) -> Selectio
     Selection::Quiet
 }
 
-/// The turn of the entry that has one and whose first key arrived before those of the others.
+/// Returns the turn of the entry whose first key arrived earliest, among the entries that have a turn.
 fn oldest_turn<U: Unit>(unit: &U, queues: &Queues) -> Selection
     requires { U.meaning.entries unit.now ≡ queues.now.total }
     ensures { result ≡ first_selection (turn_at U.meaning unit.now queues.now)
@@ -85,7 +86,7 @@ fn oldest_turn<U: Unit>(unit: &U, queues: &Queues) -> Selection
     selection_in(found)
 }
 
-/// The turn of an entry, with the stamp of its first key.
+/// Returns the turn of an entry, with the stamp of its first key, if it has a turn.
 fn stamped_turn<U: Unit>(unit: &U, queues: &Queues, entry: u16) -> Option<Stamped>
     requires entries { U.meaning.entries unit.now ≡ queues.now.total }
     requires busy { 0 < length (queue_of entry queues.now.items) }
@@ -100,7 +101,7 @@ fn stamped_turn<U: Unit>(unit: &U, queues: &Queues, entry: u16) -> Option<Stampe
     Some(Stamped { stamp, selection })
 }
 
-/// The turn of an entry on which a key is queued.
+/// Returns the turn of an entry on which a key is queued.
 #[tactic(auto, using(crate::proofs::TurnLemmas::busy_turn))]
 fn turn_of<U: Unit>(unit: &U, queues: &Queues, entry: u16) -> Selection
     requires entries { U.meaning.entries unit.now ≡ queues.now.total }
@@ -115,7 +116,7 @@ fn turn_of<U: Unit>(unit: &U, queues: &Queues, entry: u16) -> Selection
     }
 }
 
-/// How many keys are queued on each entry, by entry (9.9).
+/// Returns how many keys are queued on each entry, by entry (9.9).
 fn counts_in(queues: &Queues) -> &[u64]
     ensures counts { result.now ≡ counts_of queues.now }
     ensures one_each { length result.now ≡ queues.now.total }

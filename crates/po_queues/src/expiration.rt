@@ -1,3 +1,4 @@
+// SPDX-License-Identifier: MIT
 //! How a call expires.
 
 /// When the call of a key expires (9.7.2), and the stamp of its arrival (9.5.3).

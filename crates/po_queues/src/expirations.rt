@@ -1,4 +1,5 @@
-//! The calls that expire, beside the clock.
+// SPDX-License-Identifier: MIT
+//! The calls that expire, and the clock.
 
 ghost use Rattle.std.specs.Prelude.{◌≡◌, ◌<◌, ◌≤◌, ◌+◌, ◌-◌, ◌*◌, ◌++◌, [], ℕ, length, replicate, slice_set, max};
 ghost use Rattle.std.specs.Prelude.{false, is_some, None, Some, option_map, IfOk, IfSome, IsNone, IsOk, OnOk, OnErr};
@@ -11,18 +12,18 @@ use crate::room::grown;
 use std::alloc::{AllocError, Global};
 use std::marker::Model;
 
-/// The waiting calls that may be cancelled when their time comes, beside the clock (9.7.2).
+/// The waiting calls that may be cancelled when their time comes, and the clock (9.7.2).
 ///
-/// A key stands for a call. Times and the clock count the same unit, from the same start. But for `new` and `reserve`, no
-/// method takes memory. The time of each grows with the logarithm of how many keys are reserved, and that of `rise` also
-/// with how many times come by it.
+/// A key stands for a call. Times and the clock count the same unit, from the same start. Except for `new` and `reserve`, no
+/// method takes memory. The time that each takes grows with the logarithm of how many keys are reserved. That of `rise` also
+/// grows with how many calls' times come.
 #[derive(Debug, Drop)]
 pub struct Expirations {
     // By key: how its call expires, if it does.
     calls: Vec<Option<Expiration>>,
-    // By key: the time of its call, where that hasn't come.
+    // By key: the time of its call, if that hasn't come.
     later: Minima,
-    // By key: the stamp of its call, whose time has come.
+    // By key: the stamp of its call, if the call's time has come.
     due: Minima,
     clock: u64,
 }
@@ -39,7 +40,7 @@ impl Model for Expirations {
 }
 
 impl Expirations {
-    /// No key reserved, and the clock at 0.
+    /// Makes expirations with no key reserved, and the clock at 0.
     pub fn new(alloc: Global) -> Expirations
         ensures { result ≡ record { clock = 0; calls = [] } }
     {
@@ -53,8 +54,8 @@ impl Expirations {
 
     /// Reserves the key and all keys below it, which stay reserved.
     ///
-    /// Where it isn't, the number of reserved keys at least doubles, so that many calls take little
-    /// memory and time each; it grows no further than that or this key asks for.
+    /// If it isn't yet, the reserve at least doubles, so the cost per call is constant on average. It grows no further than to
+    /// twice its size or to what this key needs.
     pub fn reserve(&mut self, key: usize) -> Result<(), AllocError>
         ensures ok { OnOk result (key < length self.new.calls) }
         ensures err { OnErr result (self.new ≡ self.old) }
@@ -79,7 +80,7 @@ impl Expirations {
 
     /// Adds the call of the key, which expires at this time (9.7.2).
     ///
-    /// The caller knows which keys it has reserved and added.
+    /// The caller itself knows which keys it has reserved and added.
     pub fn append(&mut self, key: usize, stamp: u128, time: u64)
         requires reserved { key < length self.old.calls }
         requires not_there { call_of self.old.calls key ≡ None }
@@ -95,7 +96,7 @@ impl Expirations {
         }
     }
 
-    /// Takes out the call of the key, and says whether it was there.
+    /// Takes out the call of the key, and returns whether it was there.
     pub fn remove(&mut self, key: usize) -> bool
         ensures was_there { result ≡ is_some (call_of self.old.calls key) }
         ensures others { self.new ≡ record self.old { calls = slice_set self.old.calls key None } }
@@ -112,7 +113,7 @@ impl Expirations {
         true
     }
 
-    /// The key of the call whose time has come, and which arrived first of those, if the time of one has come (9.7.2).
+    /// Returns the key of the call that arrived first of those whose time has come, if there is one (9.7.2).
     pub fn first_due(&self) -> Option<usize>
         ensures found { IfSome result (λ key. IsFirstDue self.now key) }
         ensures none { IsNone result →
@@ -133,7 +134,7 @@ impl Expirations {
         self.clock = clock;
     }
 
-    /// The latest time that has come.
+    /// Returns the latest time that has come.
     pub fn clock(&self) -> u64
         ensures { result ≡ self.now.clock }
     {
@@ -141,14 +142,14 @@ impl Expirations {
     }
 }
 
-/// How the call of the key expires, if it does.
+/// Returns how the call of the key expires, if it does.
 fn call_at(calls: &Vec<Option<Expiration>>, key: usize) -> Option<Expiration>
     ensures { result ≡ call_of calls.now.items key }
 {
     calls.get(key).copied().flatten()
 }
 
-/// The stamp of the key's call, if it expires.
+/// Returns the stamp of the key's call, if it expires.
 fn stamp_at(calls: &Vec<Option<Expiration>>, key: usize) -> Option<u128>
     ensures { result ≡ option_map (λ x. x.stamp) (call_of calls.now.items key) }
 {

@@ -1,6 +1,7 @@
-//! How a key stands in its queue.
+// SPDX-License-Identifier: MIT
+//! A key's place in its queue.
 
-/// How a key stands in its entry's queue: between which keys, and with which stamp of its arrival.
+/// A key's place in its entry's queue: the keys before and after it, and the stamp of its arrival.
 #[derive(Clone, Copy, Debug)]
 pub(crate) struct Link {
     pub(crate) entry: u16,

@@ -1,4 +1,5 @@
-//! A row of optional numbers, of which the least is found at once.
+// SPDX-License-Identifier: MIT
+//! A row of optional numbers, whose least is known at once.
 
 ghost use Rattle.std.specs.Prelude.{◌≡◌, ◌≢◌, ◌<◌, ◌≤◌, ◌+◌, ◌-◌, ◌*◌, ◌/◌, ◌++◌, ℕ, [], length, take, replicate};
 ghost use Rattle.std.specs.Prelude.{None, slice_set, IfOk, IfSome, IsNone, OnOk, OnErr};
@@ -7,14 +8,14 @@ ghost use Rattle.po_queues.specs.Least.{number_of, lesser, IsLeastAt, IsMinimum,
 use std::alloc::{AllocError, Global};
 use std::marker::Model;
 
-/// A number, or none, by key: a tournament, in which the least number wins.
+/// A number, or none, for each key: a tournament that the least number wins.
 ///
-/// A change takes time by the logarithm of how many keys there are, and so does it to find the key of the least number;
-/// whether that is at most some bound is seen at once. But for `grow`, no method takes memory.
+/// A change takes time that grows with the logarithm of how many keys there are, and so does finding the key of the least
+/// number. Whether that number is at most some bound is known at once. Except for `grow`, no method takes memory.
 #[derive(Debug, Drop)]
 pub(crate) struct Minima {
-    // The leaves, by key, and above them node `leaves + m`, the lesser of the nodes `2 * m` and `2 * m + 1`: the last
-    // one is the least of all.
+    // The leaves, by key, and after them the nodes above. Node `leaves + m` is the lesser of nodes `2 * m` and `2 * m + 1`, so
+    // the last one is the least of all.
     nodes: Vec<Option<u128>>,
     leaves: usize,
 }
@@ -31,7 +32,7 @@ impl Model for Minima {
 }
 
 impl Minima {
-    /// No key.
+    /// Makes a row with no key.
     pub(crate) fn new(alloc: Global) -> Minima
         ensures { result ≡ [] }
     {
@@ -41,7 +42,7 @@ impl Minima {
         }
     }
 
-    /// Makes room for so many keys, if there are fewer. The new ones have no number.
+    /// Makes room for `keys` keys, if there are fewer. The new ones have no number.
     pub(crate) fn grow(&mut self, keys: usize) -> Result<(), AllocError>
         ensures ok { OnOk result (self.new
             ≡ self.old ++ replicate (keys - length self.old) None) }
@@ -69,16 +70,17 @@ impl Minima {
         settle_above(&mut self.nodes, self.leaves, key);
     }
 
-    /// A key that has the least number, if any has one.
+    /// Returns a key that has the least number, if any key has one.
     pub(crate) fn least(&self) -> Option<usize>
         ensures some { IfSome result (λ key. IsLeastAt self.now key) }
         ensures none { IsNone result → (key : ℕ) → number_of self.now key ≡ None }
     {
+        // Returns `None` if there is no key, or if no key has a number: then the root, the last node, has none.
         let _least = (*self.nodes.last()?)?;
         Some(least_leaf(&self.nodes, self.leaves))
     }
 
-    /// A key that has the least number, if that is at most this one.
+    /// Returns a key that has the least number, if that is at most this limit.
     pub(crate) fn least_within(&self, limit: u128) -> Option<usize>
         ensures some { IfSome result (λ key. IsLeastAt self.now key) }
         ensures within { IfSome result (λ key. IfSome (number_of self.now key) (λ n. n ≤ limit)) }
@@ -92,7 +94,7 @@ impl Minima {
     }
 }
 
-/// The lesser of two numbers, if there are any.
+/// Returns the lesser of two numbers, or the only one that there is.
 fn lesser_of(a: Option<u128>, b: Option<u128>) -> Option<u128>
     ensures { result ≡ lesser a b }
 {
@@ -114,9 +116,9 @@ fn settle(nodes: &mut Vec<Option<u128>>, leaves: usize)
     }
 }
 
-/// Makes each node above this one the lesser of its children, where only the next one above may not be.
+/// Makes each node above this one the lesser of its children. Only the next node above may not be so already.
 ///
-/// It ends at the first that stays as it is.
+/// It ends at the first node that stays as it is.
 fn settle_above(nodes: &mut Vec<Option<u128>>, leaves: usize, changed: usize)
     requires node { changed < length nodes.old.items }
     requires len { length nodes.old.items ≡ 2 * leaves - 1 }
@@ -137,7 +139,7 @@ fn settle_above(nodes: &mut Vec<Option<u128>>, leaves: usize, changed: usize)
     }
 }
 
-/// A leaf that has the number of the root.
+/// Returns a leaf that has the number of the root.
 fn least_leaf(nodes: &Vec<Option<u128>>, leaves: usize) -> usize
     requires some { 0 < leaves }
     requires keeps { KeepsMinima leaves nodes.now.items }

@@ -1,6 +1,7 @@
-//! Between which keys a key stands.
+// SPDX-License-Identifier: MIT
+//! The neighbours of a key.
 
-/// The key before a key, and the one after it, if there are any.
+/// The key before a key and the key after it, if there are any.
 #[derive(Clone, Copy, Debug)]
 pub(crate) struct Neighbours {
     pub(crate) before: Option<usize>,

@@ -1,3 +1,4 @@
+// SPDX-License-Identifier: MIT
 //! The entry queues of a protected object.
 
 ghost use Rattle.std.specs.Prelude.{◌≡◌, ◌<◌, ◌≤◌, ◌+◌, ◌*◌, ◌↔◌, ℕ, [], ◌∷◌, ◌++◌, length};
@@ -19,8 +20,8 @@ use std::marker::Model;
 
 /// A queue of keys for each entry, in order of arrival (9.5.3, FIFO_Queuing of D.4).
 ///
-/// A key stands for a call, and is queued on one entry at most. But for `new` and `reserve`, no
-/// method takes memory, and its time doesn't depend on how many keys are queued.
+/// A key stands for a call, and is queued on at most one entry. Except for `new` and `reserve`, methods take no memory, and
+/// their time doesn't depend on how many keys are queued.
 #[derive(Debug, Drop)]
 pub struct Queues {
     // By key: its link, if it is queued.
@@ -52,7 +53,7 @@ impl Model for Queues {
 }
 
 impl Queues {
-    /// Queues for so many entries, with no key reserved.
+    /// Makes queues for `total` entries, with no key reserved.
     pub fn new(alloc: Global, total: u16) -> Result<Queues, AllocError>
         ensures { IfOk result (λ q. q ≡ record { total = total; reserved = 0; items = [] }) }
     {
@@ -69,8 +70,8 @@ impl Queues {
 
     /// Reserves the key and all keys below it, which stay reserved.
     ///
-    /// Where it isn't, the number of reserved keys at least doubles, so that many calls take little
-    /// memory and time each; it grows no further than that or this key asks for.
+    /// If it isn't yet, the reserve at least doubles, so the cost per call is constant on average. It grows no further than to
+    /// twice its size or to what this key needs.
     pub fn reserve(&mut self, key: usize) -> Result<(), AllocError>
         ensures ok { OnOk result (key < self.new.reserved) }
         ensures err { OnErr result (self.new ≡ self.old) }
@@ -90,8 +91,8 @@ impl Queues {
 
     /// Queues the key on the entry, after all that are queued there (9.5.3, D.4).
     ///
-    /// `total`, `reserved` and `contains` tell whether the key may be queued so. That the stamp is above all others the
-    /// caller knows, who takes the stamps from a count that only rises.
+    /// `total`, `reserved` and `contains` let the caller check the first three conditions. The caller takes stamps from a count
+    /// that only rises, so it knows the last.
     pub fn append(&mut self, entry: u16, key: usize, stamp: u128)
         requires entry { entry < self.old.total }
         requires reserved { key < self.old.reserved }
@@ -118,7 +119,7 @@ impl Queues {
         self.queued += 1;
     }
 
-    /// The first key of the entry's queue, with its stamp: the next to be served (D.4).
+    /// Returns the first key of the entry's queue, with its stamp: the next to be served (D.4).
     pub fn first(&self, entry: u16) -> Option<(usize, u128)>
         requires { entry < self.now.total }
         ensures { result ≡ first_of (queue_of entry self.now.items) }
@@ -128,14 +129,14 @@ impl Queues {
         Some((key, link.stamp))
     }
 
-    /// The key after this one in its queue, if it is queued and isn't the last.
+    /// Returns the key after this one in its queue, if this one is queued and isn't the last.
     pub fn after(&self, key: usize) -> Option<usize>
         ensures { result ≡ key_after_in_queue key self.now.items }
     {
         self.link(key)?.after
     }
 
-    /// Takes the first key out of the entry's queue, if it has one.
+    /// Takes out and returns the first key of the entry's queue, if it has one.
     pub fn take_first(&mut self, entry: u16) -> Option<usize>
         requires { entry < self.old.total }
         ensures first { result ≡ first_key (keys_on entry self.old.items) }
@@ -147,7 +148,7 @@ impl Queues {
         Some(key)
     }
 
-    /// Takes the key out of its queue, and says whether it was queued.
+    /// Takes the key out of its queue, and returns whether it was queued.
     pub fn remove(&mut self, key: usize) -> bool
         ensures was_queued { result ≡ is_queued key self.old.items }
         ensures others { self.new ≡ record self.old { items = without_key key self.old.items } }
@@ -168,7 +169,7 @@ impl Queues {
         true
     }
 
-    /// How many keys are queued on the entry: the attribute Count (9.9).
+    /// Returns how many keys are queued on the entry: the attribute Count (9.9).
     pub fn count(&self, entry: u16) -> u64
         requires { entry < self.now.total }
         ensures { result ≡ length (queue_of entry self.now.items) }
@@ -176,7 +177,7 @@ impl Queues {
         self.counts[usize::from(entry)]
     }
 
-    /// How many keys are queued on each entry, by entry (9.9).
+    /// Returns how many keys are queued on each entry, by entry (9.9).
     pub fn counts(&self) -> &[u64]
         ensures one_each { length result.now ≡ self.now.total }
         ensures each { (e : ℕ) → e < self.now.total →
@@ -185,23 +186,23 @@ impl Queues {
         self.counts.as_slice()
     }
 
-    /// The stamp with which the key was queued, if it is queued.
+    /// Returns the stamp with which the key was queued, if it is queued.
     pub fn stamp(&self, key: usize) -> Option<u128>
         ensures { result ≡ stamp_of key self.now.items }
     {
         Some(self.link(key)?.stamp)
     }
 
-    /// Whether the key is queued on some entry.
+    /// Returns whether the key is queued on some entry.
     pub fn contains(&self, key: usize) -> bool
         ensures { result ≡ is_queued key self.now.items }
     {
         self.link(key).is_some()
     }
 
-    /// The first entry from here on that has a queued key.
+    /// Returns the first entry from this one on that has a queued key.
     ///
-    /// It reads three words of bits, and one more for each 4,096 entries that it passes.
+    /// Reads three words of bits, and one more for each 4,096 entries that it passes.
     pub fn next_busy(&self, from: u16) -> Option<u16>
         ensures some { IfSome result (λ e. IsNextBusy self.now from e) }
         ensures none { IsNone result → (e : ℕ) → from ≤ e → queue_of e self.now.items ≡ [] }
@@ -209,35 +210,36 @@ impl Queues {
         self.busy.next(from)
     }
 
-    /// How many entries there are; the entries are the numbers below.
+    /// Returns how many entries there are. The entries are the numbers below it.
     pub fn total(&self) -> u16
         ensures { result ≡ self.now.total }
     {
         self.counts.len() as u16
     }
 
-    /// How many keys are reserved: those below this one.
+    /// Returns how many keys are reserved: all keys below this number.
     pub fn reserved(&self) -> usize
         ensures { result ≡ self.now.reserved }
     {
         self.links.len()
     }
 
-    /// Whether no key is queued.
+    /// Returns whether no key is queued.
     pub fn is_empty(&self) -> bool
         ensures { IsTrue result ↔ (self.now.items ≡ []) }
     {
         self.queued == 0
     }
 
-    /// What all queues keep.
+    /// Brings what all queues keep into the proof. Does nothing at run time.
     pub fn recall_invariant(&self)
         ensures { IsSound self.now }
     {
+        // Only for the prover: a field is borrowed so that the invariant is known.
         let _ = &self.queued;
     }
 
-    /// The link of the key, if it is queued.
+    /// Returns the link of the key, if it is queued.
     fn link(&self, key: usize) -> Option<Link>
         ensures { result ≡ link_of self.now.items key }
     {

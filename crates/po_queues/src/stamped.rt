@@ -1,4 +1,5 @@
-//! A turn with the stamp of the arrival that it comes from.
+// SPDX-License-Identifier: MIT
+//! A turn, with the stamp of the arrival that it comes from.
 
 ghost use Rattle.std.specs.Prelude.{◌≡◌};
 ghost use Rattle.po_queues.specs.Stamps.{older, selection_of};
@@ -12,7 +13,7 @@ pub(crate) struct Stamped {
     pub(crate) selection: Selection,
 }
 
-/// The one with the lower stamp, or the one that there is.
+/// Returns the one with the lower stamp, or the only one that there is.
 pub(crate) fn older_of(found: Option<Stamped>, other: Option<Stamped>) -> Option<Stamped>
     ensures { result ≡ older found other }
 {
@@ -23,7 +24,7 @@ pub(crate) fn older_of(found: Option<Stamped>, other: Option<Stamped>) -> Option
     }
 }
 
-/// The turn, if there is one.
+/// Returns the turn, or `Quiet` if there is none.
 pub(crate) fn selection_in(found: Option<Stamped>) -> Selection
     ensures { result ≡ selection_of found }
 {

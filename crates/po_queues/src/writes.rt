@@ -1,4 +1,5 @@
-//! Writes of one side of a link, and of one end of a queue.
+// SPDX-License-Identifier: MIT
+//! Writes to one side of a link, and to one end of a queue.
 
 ghost use Rattle.std.specs.Prelude.{◌≡◌, ◌<◌, length, None, Some, slice_index_or, slice_set};
 ghost use Rattle.std.specs.Prelude.{if◌then◌else◌};
@@ -7,7 +8,7 @@ ghost use Rattle.po_queues.specs.Links.{write_after, write_before};
 
 use crate::link::Link;
 
-/// Sets what stands after the key, if there is a key and it is queued.
+/// Sets which key comes after this one, if there is a key and it is queued.
 #[tactic(auto, using(crate::proofs::WriteLemmas::write_steps))]
 pub(crate) fn set_after(links: &mut Vec<Option<Link>>, key: Option<usize>, after: Option<usize>)
     ensures { links.new.items ≡ write_after links.old.items key after }
@@ -22,7 +23,7 @@ pub(crate) fn set_after(links: &mut Vec<Option<Link>>, key: Option<usize>, after
     }
 }
 
-/// Sets what stands before the key, if there is a key and it is queued.
+/// Sets which key comes before this one, if there is a key and it is queued.
 #[tactic(auto, using(crate::proofs::WriteLemmas::write_steps))]
 pub(crate) fn set_before(links: &mut Vec<Option<Link>>, key: Option<usize>, before: Option<usize>)
     ensures { links.new.items ≡ write_before links.old.items key before }
@@ -37,7 +38,7 @@ pub(crate) fn set_before(links: &mut Vec<Option<Link>>, key: Option<usize>, befo
     }
 }
 
-/// Makes the key the first one of the entry with this index, if none was the last one there.
+/// Makes the key the first of the entry with this index, if the entry had no last one.
 pub(crate) fn set_first(
     firsts: &mut Vec<Option<usize>>,
     last: Option<usize>,
@@ -55,7 +56,7 @@ pub(crate) fn set_first(
     }
 }
 
-/// Where the key is the end of the queue of the entry with this index, makes another key the end, or none.
+/// Replaces the end of the queue of the entry with this index by another key or none, if the end is this key.
 pub(crate) fn replace_if(
     ends: &mut Vec<Option<usize>>,
     index: usize,

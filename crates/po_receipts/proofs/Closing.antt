@@ -1,5 +1,5 @@
--- At the closing the receipts of each seat are those that are due: each says what happened, one behind the other, and by the
--- closing totals there are no others.
+-- When the object is closed, the receipts of each seat are those that are due: each says what happened, one after another, and
+-- by the closing totals there are no others.
 use Rattle.std.proofs.Common.{◌≡◌, ◌<◌, ◌≤◌, ◌+◌, ℕ, zero, suc, List, [], ◌∷◌, ◌++◌, length, take, map, refl, sym, ap, subst, ◌∙◌, arith, append_assoc, length-append, Option, Some, None, true, cond, get_or, inl, inr}
 use Rattle.std.specs.List.{All, slice_get, count_by, sum_by}
 use Rattle.std.specs.Prelude.{option_map}
@@ -31,7 +31,7 @@ use Rattle.po_receipts.proofs.Told.{longer}
 use Rattle.po_receipts.proofs.NoOthers.{asked_below, is_asked, receipts_in, waits_in, count_none, count_more, below_all, total_of, none_waits}
 
 module _ {V : Type 0} (ended : List (Ended V)) (seat : ℕ) where
-  -- there are no more receipts than the seat asked for, and if as many, they are those that are due
+  -- there are no more receipts than the seat asked for, and if there are as many, they are those that are due
   record Fits (receipts : List (Receipt V)) (events : List (Event V)) : Type 0 where
     most : length receipts ≤ length (asked_by events seat)
     all : length receipts ≡ length (asked_by events seat) → map Some receipts ≡ receipts_due ended events seat
@@ -42,7 +42,7 @@ module _ {V : Type 0} (ended : List (Ended V)) (seat : ℕ) where
   asked-append : (xs ys : List (Event V)) → asked_by (xs ++ ys) seat ≡ asked_by xs seat ++ asked_by ys seat
   asked-append xs ys = filter-append (is_asked_by seat) xs ys
 
-  -- what the seat asked for behind a gap, and behind one gap more
+  -- what the seat asked for: before an event, the event itself, and after it
   asked-behind : (gap : List (Event V)) (event : Event V) (other events : List (Event V)) → is_asked_by seat event ≡ true
       → asked_by (gap ++ (event ∷ (other ++ events))) seat ≡ asked_by gap seat ++ (event ∷ (asked_by other seat ++ asked_by events seat))
   asked-behind gap event other events is =
@@ -109,12 +109,12 @@ module _ {V : Type 0} (ended : List (Ended V)) (seat : ℕ) (end_of : List (Even
   reaches-one (R.Called n e v d answer) before here is p = reaches-by (Issue n seat e v d) before here is.0 p
   reaches-one (R.Ran op v reply) before here is p = reaches-by (Ran seat op v reply) before here is p
 
-  -- where answers reach the log, so does each beginning of them
+  -- if answers end within the log, they begin within it
   reaches : (receipts : List (Receipt V)) (here : List (Event V)) → AreAnswersBetween seat end_of receipts here log → IsPrefix here log
   reaches [] here told = told
   reaches (receipt ∷ receipts) here told = reaches-one receipt here told.0 told.1.0 (reaches receipts told.0 told.1.1)
 
-  -- the rest of the log behind what was there before, into which the receipts fit
+  -- the rest of the log after what was there before, into which the receipts fit
   record Rest (receipts : List (Receipt V)) (before : List (Event V)) : Type 0 where
     events : List (Event V)
     is : before ++ events ≡ log
@@ -142,7 +142,7 @@ module _ {V : Type 0} (ended : List (Ended V)) (seat : ℕ) (end_of : List (Even
   fits-in receipts told = let r = rest-of receipts [] told in subst (Fits ended seat receipts) r.is r.fits
 
 module _ {V : Type 0} (ended : List (Ended V)) (history : List (Event V)) (passes : List (PassView V)) (fit : (seat : ℕ) (pass : PassView V) → slice_get passes seat ≡ Some pass → Fits ended seat pass.receipts history) where
-  -- one pass more of the first ones
+  -- one more pass among the first ones
   sum-more : (limit : ℕ) → limit < length passes → sum_by receipts_in (take (limit + 1) passes) ≡ sum_by receipts_in (take limit passes) + receipts_in (get_or passes limit (fresh 0))
   sum-more limit within =
       let pass = get_or passes limit (fresh 0) in
@@ -154,7 +154,7 @@ module _ {V : Type 0} (ended : List (Ended V)) (history : List (Event V)) (passe
   at : (limit : ℕ) → limit < length passes → Fits ended limit (get_or passes limit (fresh 0)).receipts history
   at limit within = fit limit (get_or passes limit (fresh 0)) (slice_get-get_or passes limit (fresh 0) within)
 
-  -- the receipts of the first seats are no more than what these asked for
+  -- the first seats have no more receipts than they asked for
   under : (limit : ℕ) → limit ≤ length passes → sum_by receipts_in (take limit passes) ≤ count_by (asked_below limit) history
   under zero h = let none = count_none history in omega (arith, none)
   under (suc limit) h =
@@ -168,7 +168,7 @@ module _ {V : Type 0} (ended : List (Ended V)) (history : List (Event V)) (passe
       let all : sum_by receipts_in (take (limit + 1) passes) ≤ count_by (asked_below (limit + 1)) history = omega (arith, more, counts, most, len, rest) in
       subst (λ n. sum_by receipts_in (take n passes) ≤ count_by (asked_below n) history) (sym last) all
 
-  -- where they are as many, so are those of each
+  -- if together they have as many, each of them has
   each : (limit : ℕ) → limit ≤ length passes → sum_by receipts_in (take limit passes) ≡ count_by (asked_below limit) history
       → (seat : ℕ) → seat < limit → receipts_in (get_or passes seat (fresh 0)) ≡ length (asked_by history seat)
   each zero h same seat lt = absurd (omega (arith, lt))
@@ -215,7 +215,7 @@ module _ {S V : Type 0} (m : Meaning S V) (core : CoreView S V) (passes : List (
       let seen : IsPrefix here pass.seen = subst (λ o. IsAskedBetween pass.seat o here pass.seen) pending t.1.0.1.1 in
       subst (λ s. AreAnswersBetween s end_of pass.receipts [] log) t.0 (longer pass.seat end_of pass.receipts [] here log t.1.0.1.0 (prefix_trans here pass.seen log seen t.1.1))
 
-  -- where no call is pending, the receipts of each seat are those that are due to it
+  -- if no call is pending, the receipts of each seat are those that are due to it
   pub receipts-due : end_of ≡ end_in m core.object.setup → Headline m core.object → IsWholeLog m core.object log → All IsTallied passes → HasClosingTotals core passes → HasNoOthers log passes → AllTold → NonePending passes
       → AllAgree core.object.state.ended log passes
   receipts-due ends h w tallied totals alone told none =

@@ -1,4 +1,4 @@
--- A reconciliation has at most one fault, and none where all agree.
+-- A reconciliation has at most one fault, and none if all agree.
 use Rattle.std.proofs.Common.{◌≡◌, ◌<◌, ◌+◌, ◌==◌, ℕ, List, [], ◌∷◌, take, length, map, refl, sym, ap, subst, ◌∙◌, arith, Option, Some, None, inl, inr, ◌⊎◌, ◌↔◌, Result, Ok, Err, zero, suc, if◌then◌else◌}
 use Rattle.std.specs.List.{slice_get}
 use Rattle.std.proofs.lemmas.Option.{same_Some}
@@ -6,9 +6,9 @@ use Rattle.std.proofs.lemmas.Bool.{cases_eq, cond-true, cond-false, eq-eqb, ne_e
 use Rattle.po_engine.specs.declared.ended.Ended.{Ended}
 use Rattle.po_history.specs.declared.event.Event.{Event}
 use Rattle.po_history.specs.Histories.{VolumeView, RunOn}
-use Rattle.po_receipts.specs.declared.fault.ReconcileFault.{ReconcileFault}
+use Rattle.po_receipts.specs.declared.error.ReconcileError.{ReconcileError}
 use Rattle.po_receipts.specs.declared.comparison.Agreed.{Agreed}
-use Rattle.po_receipts.specs.declared.fault.ReconcileFault.TheVariants.{Gap, Mismatch}
+use Rattle.po_receipts.specs.declared.error.ReconcileError.TheVariants.{Gap, Mismatch}
 use Rattle.po_receipts.specs.Receipts.{receipts_due}
 use Rattle.po_receipts.specs.Passes.{PassView}
 use Rattle.po_receipts.specs.Agreement.{IsFirstDifference, IsMismatch, gap, history_of, IsAgreed, IsFaultOf}
@@ -18,13 +18,13 @@ use Rattle.po_receipts.proofs.Rounds.{mismatch_disagrees}
 some_none : {X : Type 0} (x : X) → Some x ≡ None → ⊥
 some_none x same = cc
 
-same_err : (a b : ReconcileFault) → ◌≡◌ {A = Result Agreed ReconcileFault} (Err a) (Err b) → a ≡ b
+same_err : (a b : ReconcileError) → ◌≡◌ {A = Result Agreed ReconcileError} (Err a) (Err b) → a ≡ b
 same_err a b same = cc
 
-ok_err : (agreed : Agreed) (b : ReconcileFault) → ◌≡◌ {A = Result Agreed ReconcileFault} (Ok agreed) (Err b) → ⊥
+ok_err : (agreed : Agreed) (b : ReconcileError) → ◌≡◌ {A = Result Agreed ReconcileError} (Ok agreed) (Err b) → ⊥
 ok_err agreed b same = cc
 
--- where lists agree further on, they agree at each place before
+-- an item among the first ones of a list is at the same place in the list
 item_taken : {X : Type 0} (xs : List X) (more place : ℕ) → place < more → slice_get (take more xs) place ≡ slice_get xs place
 item_taken xs zero place under = absurd (omega (arith, under))
 item_taken [] (suc more) place under = refl
@@ -54,7 +54,7 @@ one_place xs ys a b one other = elim (cases_eq a b) [
   ]
 ]
 
--- a test of two numbers, by what it gives
+-- a test of two numbers, by its result
 by_test : (a b : ℕ) {X : Type 0} (rest : Option X) (x : X) → (if a == b then rest else Some x) ≡ None → (a ≡ b) × (rest ≡ None)
 by_test a b rest x none = elim (cases_eq a b) [
   | inl same ↦ (same, sym (cond-true (a == b) rest (Some x) (eq-eqb a b same)) ∙ none)
@@ -62,14 +62,14 @@ by_test a b rest x none = elim (cases_eq a b) [
 ]
 
 module _ {V : Type 0} where
-  -- where there is no gap the volumes run on
+  -- if there is no gap, the volumes run on
   pub runs_on : (from : ℕ) (volumes : List (VolumeView V)) (to : ℕ) → gap from volumes to ≡ None → RunOn from volumes to
   runs_on from [] to none = sym (by_test to from None from none).0
   runs_on from (volume ∷ volumes) to none =
       let at = by_test volume.first_place from (gap (from + length volume.events) volumes to) from none in
       (at.0, runs_on (from + length volume.events) volumes to at.1)
 
-  -- where they run on there is no gap
+  -- if they run on, there is no gap
   no_gap : (from : ℕ) (volumes : List (VolumeView V)) (to : ℕ) → RunOn from volumes to → gap from volumes to ≡ None
   no_gap from [] to runs = cond-true (to == from) None (Some from) (eq-eqb to from (sym runs))
   no_gap from (volume ∷ volumes) to runs =
@@ -109,24 +109,24 @@ module _ {V : Type 0} (ended : List (Ended V)) (history : List (Event V)) (passe
       ap (λ s. Mismatch s place) seats ∙ ap (Mismatch more) places
 
 module _ {S V : Type 0} (core : CoreView S V) (passes : List (PassView V)) (volumes : List (VolumeView V)) where
-  one_fault : (a b : ReconcileFault) → IsFaultOf core passes volumes a → IsFaultOf core passes volumes b → a ≡ b
+  one_fault : (a b : ReconcileError) → IsFaultOf core passes volumes a → IsFaultOf core passes volumes b → a ≡ b
   one_fault (Gap p) (Gap q) one other = let same : p ≡ q = same_Some p q (sym one ∙ other) in ap Gap same
   one_fault (Gap p) (Mismatch s q) one other = absurd (not_both core.object.setup.first_place volumes core.object.base.place p one other.0)
   one_fault (Mismatch s p) (Gap q) one other = absurd (not_both core.object.setup.first_place volumes core.object.base.place q other one.0)
   one_fault (Mismatch s p) (Mismatch t q) one other =
       one_mismatch core.object.state.ended (history_of core volumes) passes s p t q one.1 other.1
 
-  pub no_fault : (a : ReconcileFault) → IsFaultOf core passes volumes a → IsAgreed core passes volumes → ⊥
+  pub no_fault : (a : ReconcileError) → IsFaultOf core passes volumes a → IsAgreed core passes volumes → ⊥
   no_fault (Gap p) one agreed = not_both core.object.setup.first_place volumes core.object.base.place p one agreed.whole
   no_fault (Mismatch s p) one agreed =
       mismatch_disagrees core.object.state.ended (history_of core volumes) passes s p one.1 agreed.agree
 
-  -- that fault and no other
-  pub is_fault : (a : ReconcileFault) → IsFaultOf core passes volumes a → (b : ReconcileFault)
-      → (◌≡◌ {A = Result Agreed ReconcileFault} (Err a) (Err b)) ↔ IsFaultOf core passes volumes b
+  -- it is that fault and no other
+  pub is_fault : (a : ReconcileError) → IsFaultOf core passes volumes a → (b : ReconcileError)
+      → (◌≡◌ {A = Result Agreed ReconcileError} (Err a) (Err b)) ↔ IsFaultOf core passes volumes b
   is_fault a holds b = (λ same. subst (IsFaultOf core passes volumes) (same_err a b same) holds, λ other. ap Err (one_fault a b holds other))
 
-  -- no fault
-  pub is_none : (agreed : Agreed) → IsAgreed core passes volumes → (b : ReconcileFault)
-      → (◌≡◌ {A = Result Agreed ReconcileFault} (Ok agreed) (Err b)) ↔ IsFaultOf core passes volumes b
+  -- there is no fault
+  pub is_none : (agreed : Agreed) → IsAgreed core passes volumes → (b : ReconcileError)
+      → (◌≡◌ {A = Result Agreed ReconcileError} (Ok agreed) (Err b)) ↔ IsFaultOf core passes volumes b
   is_none agreed holds b = (λ same. absurd (ok_err agreed b same), λ other. absurd (no_fault b other holds))

@@ -1,4 +1,4 @@
--- How a mark goes on as more becomes due, and what it tells in the end.
+-- How a mark goes on as more becomes due, and what it says in the end.
 use Rattle.std.proofs.Common.{◌≡◌, ◌≢◌, ◌<◌, ◌≤◌, ◌+◌, ℕ, zero, suc, List, [], ◌∷◌, ◌++◌, length, take, refl, sym, ap, ◌∙◌, arith, Some, None, get_or}
 use Rattle.std.specs.List.{slice_get}
 use Rattle.std.proofs.lemmas.List.{take_all, take_at, take-append-le, take_more, length-append, length_push}
@@ -19,13 +19,13 @@ module _ {X : Type 0} where
   item_seam [] y ys = refl
   item_seam (x ∷ xs) y ys = item_seam xs y ys
 
-  -- an item within a list is there
+  -- there is an item at each index within a list
   filed_is_not_over : (xs : List X) (i : ℕ) → i < length xs → slice_get xs i ≢ None
   filed_is_not_over [] i within = absurd (omega (arith, within))
   filed_is_not_over (x ∷ xs) zero within = λ same. cc
   filed_is_not_over (x ∷ xs) (suc i) within = filed_is_not_over xs i (omega (arith, within))
 
-  -- the one that is filed next is the one that is due
+  -- the receipt that is filed next is the one that is due
   pub follows_on : (filed due : List X) (place : ℕ) (x : X) → IsMark filed due (Follows place)
       → slice_get filed place ≡ Some x
       → IsMark filed (due ++ x ∷ []) (Follows (place + 1))
@@ -52,7 +52,7 @@ module _ {X : Type 0} where
         },
       )
 
-  -- a difference stays the first one
+  -- the first difference stays the first
   pub differs_still : (filed due more : List X) (place : ℕ) → IsMark filed due (Differs place)
       → IsMark filed (due ++ more) (Differs place)
   differs_still filed due more place mark =

@@ -1,4 +1,4 @@
--- Where receipts and closing totals agree with the history, it has no other calls and procedures.
+-- If receipts and closing totals agree with the history, it has no other calls and procedures.
 use Rattle.std.proofs.Common.{◌≡◌, ◌==◌, ◌<◌, ◌≤◌, ◌+◌, ℕ, zero, suc, List, [], ◌∷◌, length, take, refl, sym, ap, subst, ◌∙◌, arith, Option, Some, None, Bool, true, false, cond, get_or, ◌⊎◌, inl, inr}
 use Rattle.std.specs.List.{All, slice_get, count_by, sum_by}
 use Rattle.std.specs.Option.{IfSome}
@@ -11,7 +11,7 @@ use Rattle.std.proofs.lemmas.List.Sums.{sum_by-append, sum_by-cons, length-filte
 use Rattle.std.proofs.lemmas.Option.{slice_get-get_or}
 use Rattle.po_unit.specs.Meaning.{Meaning}
 use Rattle.po_history.specs.declared.event.Event.{Event}
-use Rattle.po_history.specs.declared.event.Event.TheVariants.{Issue, Ran, Abort, Tick, Final, Serve, Break, Expire}
+use Rattle.po_history.specs.declared.event.Event.TheVariants.{Issue, Ran, Cancel, Tick, Final, Serve, Break, Expire}
 use Rattle.po_history.specs.Histories.{VolumeView, RunOn, joined}
 use Rattle.po_engine.specs.declared.ended.Ended.{Ended}
 use Rattle.po_core.specs.Base.{is_issue, is_ran}
@@ -32,7 +32,7 @@ use Rattle.po_receipts.specs.OneHistory.{IsWholeLog}
 use Rattle.po_receipts.proofs.OneHistory.{whole-history, whole-leads}
 use Rattle.po_receipts.proofs.OwnAnswers.{as_many}
 
--- what a test counts
+-- what a test adds to a count
 abbrev pub one_if : Bool → ℕ
 one_if b = cond b 1 0
 
@@ -51,7 +51,7 @@ seat_more : (limit : ℕ) (o : Option ℕ) → one_if (is_below (limit + 1) o) �
 seat_more limit None = refl
 seat_more limit (Some seat) = grind (arith, nat_tests)
 
--- there is none below 0
+-- no seat is below 0
 below_none : (o : Option ℕ) → one_if (is_below 0 o) ≡ zero
 below_none None = refl
 below_none (Some seat) = grind (arith, nat_tests)
@@ -61,7 +61,7 @@ below_some : (limit : ℕ) (o : Option ℕ) → one_if (is_below limit o) ≤ on
 below_some limit None = omega arith
 below_some limit (Some seat) = grind (arith, nat_tests)
 
--- where the two count the same, the asker is one of the first seats
+-- if the two count the same, the asker is one of the first seats
 asker_below : (limit : ℕ) (o : Option ℕ) → one_if (is_below limit o) ≡ one_if (is_some o) → IfSome o (λ seat. seat < limit)
 asker_below limit None same = tt
 asker_below limit (Some seat) same = one_below (nat_lt seat limit) refl same
@@ -87,7 +87,7 @@ module _ {V : Type 0} where
   asked_is : (seat : ℕ) (event : Event V) → is_asked_by seat event ≡ is_seat seat (asker_of event)
   asked_is seat (Issue n owner e v deadline) = refl
   asked_is seat (Ran owner op v reply) = refl
-  asked_is seat (Abort n) = refl
+  asked_is seat (Cancel n) = refl
   asked_is seat (Tick t) = refl
   asked_is seat Final = refl
   asked_is seat (Serve e) = refl
@@ -100,7 +100,7 @@ module _ {V : Type 0} where
   below_more limit event =
       seat_more limit (asker_of event) ∙ ap (λ b. one_if (asked_below limit event) + one_if b) (sym (asked_is limit event))
 
-  -- there are as many of the first seats and one more as of the two
+  -- the first seats and one more asked for as many as both together
   pub count_more : (limit : ℕ) (events : List (Event V))
       → count_by (asked_below (limit + 1)) events ≡ count_by (asked_below limit) events + count_by (is_asked_by limit) events
   count_more limit [] = refl
@@ -112,7 +112,7 @@ module _ {V : Type 0} where
       let rest = count_more limit events in
       omega (arith, a, b, d, here, rest)
 
-  -- none of no seats
+  -- no seats asked for none
   pub count_none : (events : List (Event V)) → count_by (asked_below 0) events ≡ 0
   count_none [] = refl
   count_none (event ∷ events) =
@@ -121,7 +121,7 @@ module _ {V : Type 0} where
       let rest = count_none events in
       omega (arith, a, here, rest)
 
-  -- those of the first seats are no more than all
+  -- the first seats asked for no more than all
   count_le : (limit : ℕ) (events : List (Event V)) → count_by (asked_below limit) events ≤ count_by is_asked events
   count_le limit [] = omega arith
   count_le limit (event ∷ events) =
@@ -131,7 +131,7 @@ module _ {V : Type 0} where
       let rest = count_le limit events in
       omega (arith, a, b, here, rest)
 
-  -- where they are as many as all, each is of one of the first seats
+  -- if they asked for as many as all, each event is of one of the first seats
   all_below : (limit : ℕ) (events : List (Event V)) → count_by (asked_below limit) events ≡ count_by is_asked events
       → All (λ event. IfSome (asker_of event) (λ seat. seat < limit)) events
   all_below limit [] same = All-nil (λ event. IfSome (asker_of event) (λ seat. seat < limit))
@@ -144,7 +144,7 @@ module _ {V : Type 0} where
       (asker_below limit (asker_of event) (omega (arith, same, a, b, here, rest)))
       (all_below limit events (omega (arith, same, a, b, here, rest)))
 
-  -- where each is of one of the first seats, they are as many as all
+  -- if each event is of one of the first seats, they asked for as many as all
   pub below_all : (limit : ℕ) (events : List (Event V)) → AskedBySeats limit events → count_by (asked_below limit) events ≡ count_by is_asked events
   below_all limit [] h = refl
   below_all limit (event ∷ events) h =
@@ -155,11 +155,11 @@ module _ {V : Type 0} where
       let rest = below_all limit events (All-tail P event events h) in
       omega (arith, a, b, here, rest)
 
-  -- an event that is asked for is a call or a procedure
+  -- an event that was asked for is a call or a procedure
   asked_kinds : (event : Event V) → one_if (is_asked event) ≡ one_if (is_issue event) + one_if (is_ran event)
   asked_kinds (Issue n owner e v deadline) = refl
   asked_kinds (Ran owner op v reply) = refl
-  asked_kinds (Abort n) = refl
+  asked_kinds (Cancel n) = refl
   asked_kinds (Tick t) = refl
   asked_kinds Final = refl
   asked_kinds (Serve e) = refl
@@ -176,7 +176,7 @@ module _ {V : Type 0} where
       let rest = count_kinds events in
       omega (arith, a, b, d, here, rest)
 
-  -- a receipt is of a call or of a procedure
+  -- a receipt is that of a call or of a procedure
   filed_kinds : (receipt : Receipt V) → one_if (is_call receipt) + one_if (is_procedure receipt) ≡ 1
   filed_kinds (R.Called number entry value deadline answer) = refl
   filed_kinds (R.Ran op value reply) = refl
@@ -198,7 +198,7 @@ module _ {V : Type 0} where
   abbrev pub waits_in : PassView V → ℕ
   waits_in pass = unfiled pass.pending
 
-  -- the tallies of a pass are its receipts, and the call that has none yet
+  -- the tallies of a pass count its receipts, and the call that has none yet
   pass_tallied : (pass : PassView V) → IsTallied pass → receipts_in pass + waits_in pass ≡ pass.calls + pass.procedures
   pass_tallied pass tallied =
       let kinds = length_kinds pass.receipts in
@@ -206,7 +206,7 @@ module _ {V : Type 0} where
       let procedures = tallied.procedures in
       omega (arith, kinds, calls, procedures)
 
-  -- and those of all passes are all receipts, and all calls that have none yet
+  -- and those of all passes count all receipts, and all calls that have none yet
   all_tallied : (passes : List (PassView V)) → All IsTallied passes
       → sum_by receipts_in passes + sum_by waits_in passes ≡ sum_by (λ pass. pass.calls) passes + sum_by (λ pass. pass.procedures) passes
   all_tallied [] tallied = refl
@@ -219,7 +219,7 @@ module _ {V : Type 0} where
       let rest = all_tallied passes (All-tail IsTallied pass passes tallied) in
       omega (arith, a, b, d, e, here, rest)
 
-  -- where no pass has a call pending, none waits for its receipt
+  -- if no pass has a call pending, none waits for its receipt
   pub none_waits : (passes : List (PassView V)) → NonePending passes → sum_by waits_in passes ≡ 0
   none_waits [] none = refl
   none_waits (pass ∷ passes) none =
@@ -232,7 +232,7 @@ module _ {V : Type 0} where
   none_there None none = refl
   none_there (Some asked) none = absurd (omega (arith, none))
 
-  -- and where none waits, no pass has a call pending
+  -- and if none waits, no pass has a call pending
   none_pend : (passes : List (PassView V)) → sum_by waits_in passes ≡ 0 → NonePending passes
   none_pend [] none = All-nil (λ p. p.pending ≡ None)
   none_pend (pass ∷ passes) none =
@@ -262,17 +262,17 @@ module _ {V : Type 0} (ended : List (Ended V)) (history : List (Event V)) (passe
       let all : sum_by receipts_in (take (limit + 1) passes) ≡ count_by (asked_below (limit + 1)) history = omega (arith, many, split, one, rest, more) in
       subst (λ n. sum_by receipts_in (take n passes) ≡ count_by (asked_below n) history) (sym last) all
 
-  -- the receipts are as many as the calls and procedures of the seats
+  -- there are as many receipts as calls and procedures of the seats
   receipts_are : AllAgree ended history passes → sum_by receipts_in passes ≡ count_by (asked_below (length passes)) history
   receipts_are agree =
       let all : take (length passes) passes ≡ passes = take_all (length passes) passes (omega arith) in
       sym (ap (sum_by receipts_in) all) ∙ count_first agree (length passes) (omega arith)
 
-  -- where the calls and procedures are as many as the receipts, there are no others
+  -- if there are as many calls and procedures as receipts, there are no others
   no_others : AllAgree ended history passes → count_by is_asked history ≡ sum_by receipts_in passes → HasNoOthers history passes
   no_others agree total = all_below (length passes) history (sym (receipts_are agree) ∙ sym total)
 
-  -- and where there are no others, they are as many as the receipts
+  -- and if there are no others, there are as many as receipts
   as_receipts : AllAgree ended history passes → HasNoOthers history passes → count_by is_asked history ≡ sum_by receipts_in passes
   as_receipts agree none = sym (below_all (length passes) history none) ∙ sym (receipts_are agree)
 
@@ -307,7 +307,7 @@ module _ {S V : Type 0} (m : Meaning S V) (core : CoreView S V) (passes : List (
       let procedures = totals.procedures in
       omega (arith, ran, based, procedures)
 
-  -- so it has as many of both as there are receipts, and calls that have none yet
+  -- so it has as many of both as there are receipts and calls that have none yet
   pub total_of : AreVolumes m core.object volumes → Headline m core.object → All IsTallied passes → HasClosingTotals core passes
       → count_by is_asked (history_of core volumes) ≡ sum_by receipts_in passes + sum_by waits_in passes
   total_of are headline tallied totals =
@@ -317,7 +317,7 @@ module _ {S V : Type 0} (m : Meaning S V) (core : CoreView S V) (passes : List (
       let filed = all_tallied passes tallied in
       omega (arith, kinds, calls, procedures, filed)
 
-  -- where no call is pending, there are no others; and where there are no others, none is pending
+  -- if no call is pending, there are no others; and if there are no others, none is pending
   pub filed_alone : AreVolumes m core.object volumes → Headline m core.object → All IsTallied passes → HasClosingTotals core passes
       → AllAgree core.object.state.ended (history_of core volumes) passes
       → NonePending passes ⊎ HasNoOthers (history_of core volumes) passes
@@ -331,7 +331,7 @@ module _ {S V : Type 0} (m : Meaning S V) (core : CoreView S V) (passes : List (
       let total = total_of are headline tallied totals in
       (none, none_pend passes (omega (arith, receipts, total)))
 
--- where there is no gap, no volumes are those that were cut off
+-- if there is no gap and no volumes are given, none were cut off
 pub cut_off_before : {S V : Type 0} (m : Meaning S V) (view : View S V) (volumes : List (VolumeView V))
     → (view.base.place ≡ view.setup.first_place → AreVolumes m view [])
     → RunOn view.setup.first_place volumes view.base.place

@@ -1,4 +1,4 @@
--- Where the receipts of each seat are those that the history gives it, each answer is the caller's own.
+-- If the receipts of each seat are those that the history gives it, each answer is the caller's own.
 use Rattle.std.proofs.Common.{◌≡◌, ℕ, List, length, refl, sym, ap, subst, ◌∙◌, Option, Some, None, Bool, true}
 use Rattle.std.specs.List.{All, slice_get}
 use Rattle.std.specs.Prelude.{option_map}
@@ -7,7 +7,7 @@ use Rattle.std.proofs.lemmas.List.{length-map}
 use Rattle.std.proofs.lemmas.List.Elements.{All-get_or, filter_passes}
 use Rattle.std.proofs.lemmas.Option.{none-some, same_Some, slice_get-map, slice_get_within, get_or_from_slice_get}
 use Rattle.po_history.specs.declared.event.Event.{Event}
-use Rattle.po_history.specs.declared.event.Event.TheVariants.{Issue, Ran, Abort, Tick, Final, Serve, Break, Expire}
+use Rattle.po_history.specs.declared.event.Event.TheVariants.{Issue, Ran, Cancel, Tick, Final, Serve, Break, Expire}
 use Rattle.po_engine.specs.declared.ended.Ended.{Ended}
 use Rattle.po_receipts.specs.declared.receipt.Receipt.{Receipt}
 use Rattle.po_receipts.specs.declared.receipt.Receipt.TheVariants as R
@@ -16,7 +16,7 @@ use Rattle.po_receipts.specs.Receipts.{is_asked_by, asked_by, answer_of, receipt
 use Rattle.po_receipts.specs.Agreement.{Agrees, AllAgree}
 use Rattle.po_receipts.specs.Answers.{IsOwnAnswer, AnswersAreOwn}
 
--- what an option is, from what its map is
+-- what an option is, by what its map is
 record Mapped {X Y : Type 0} (f : X → Y) (o : Option X) (y : Y) : Type 0 where
   item : X
   is : o ≡ Some item
@@ -26,7 +26,7 @@ mapped : {X Y : Type 0} (f : X → Y) (o : Option X) (y : Y) → option_map f o 
 mapped f None y is = absurd (none-some y is)
 mapped f (Some x) y is = record { item = x; is = refl; gives = same_Some (f x) y is }
 
--- an item of those that pass a test passes it
+-- an item of a list whose items all pass a test passes it
 item_passes : {X : Type 0} (p : X → Bool) (xs : List X) (x : X) (k : ℕ) → slice_get xs k ≡ Some x → All (λ y. p y ≡ true) xs → p x ≡ true
 item_passes p xs x k at all =
     subst (λ y. p y ≡ true) (get_or_from_slice_get xs k x x at) (All-get_or (λ y. p y ≡ true) xs k x (slice_get_within xs k x at) all)
@@ -47,7 +47,7 @@ module _ {V : Type 0} (ended : List (Ended V)) (history : List (Event V)) where
       let ran : slice_get (asked_by history seat) place ≡ Some (Ran seat op v reply) =
       at ∙ ap (λ o. Some (Ran o op v reply)) (eqb-true owner seat asked) in
       subst (IsOwnAnswer ended history seat place) (same_Some (R.Ran op v reply) receipt due) ran
-  is_own seat place (Abort n) receipt at asked due = absurd (false≢true asked)
+  is_own seat place (Cancel n) receipt at asked due = absurd (false≢true asked)
   is_own seat place (Tick t) receipt at asked due = absurd (false≢true asked)
   is_own seat place Final receipt at asked due = absurd (false≢true asked)
   is_own seat place (Serve e) receipt at asked due = absurd (false≢true asked)

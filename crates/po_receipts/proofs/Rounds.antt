@@ -70,7 +70,7 @@ module _ {V : Type 0} (ended : List (Ended V)) where
     marks_stay seen event marks other are i pass within at =
         marks_stay_at seen event (get_or marks i (Follows 0)) i pass (other i within) (are i pass within at)
 
-    -- an event of a seat of the round, whose pass has these receipts, moves on that seat's mark
+    -- an event of a seat of the round, whose pass has these receipts, advances that seat's mark
     pub marks_move : (seen : List (Event V)) (event : Event V) (marks : List Mark) (index : ℕ) (mark : Mark) (own : PassView V)
         (receipts : List (Receipt V)) (due : Option (Receipt V))
         → index < length marks
@@ -106,7 +106,7 @@ module _ {V : Type 0} (ended : List (Ended V)) where
               subst (Marks after pass i) (sym (get_or-set_other marks index i mark (Follows 0) isnt)) old)
         ]
 
--- one more of a list's items, behind others
+-- one more of a list's items, after others
 pub seen_more : {X : Type 0} (seen xs : List X) (i : ℕ) (x : X) → i < length xs → x ≡ get_or xs i x
     → seen ++ take (i + 1) xs ≡ (seen ++ take i xs) ++ x ∷ []
 seen_more {X} seen xs i x within is =
@@ -144,7 +144,7 @@ module _ {V : Type 0} (ended : List (Ended V)) (history : List (Event V)) (passe
     lowest = below;
   }
 
-  -- they agree, and so one seat more does
+  -- they agree, and so one more seat does
   pub agree_more : (limit : ℕ) (receipts : List (Receipt V)) → HasReceipts limit receipts
       → Agrees ended history limit receipts
       → AgreeBelow ended history passes limit
@@ -166,7 +166,7 @@ module _ {V : Type 0} (ended : List (Ended V)) (history : List (Event V)) (passe
       let within : seat < length passes = slice_get_within passes seat pass at in
       below seat pass (omega (arith, within, over)) at
 
-  -- a mismatch excludes that all agree
+  -- if there is a mismatch, not all agree
   pub mismatch_disagrees : (seat place : ℕ) → IsMismatch ended history passes seat place → AllAgree ended history passes → ⊥
   mismatch_disagrees seat place mismatch agree =
       mismatch.first.differ (ap (λ xs. slice_get xs place) (agree seat mismatch.pass mismatch.of_seat))

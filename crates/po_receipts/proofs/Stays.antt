@@ -1,4 +1,4 @@
--- An answer stays an answer as the history goes on.
+-- An answer stays the same as the history goes on.
 use Rattle.std.proofs.Common.{◌≡◌, ℕ, List, [], ◌∷◌, ◌++◌, sym, subst, Bool, true, false, Option, Some}
 use Rattle.std.specs.Prelude.{find, option_map, if◌then◌else◌}
 use mathlib.Core.List.{IsPrefix}

@@ -1,4 +1,4 @@
--- What a pass was told goes on being so: as its caller sees more of the history, and as it files receipts.
+-- What a pass was told stays true as its caller sees more of the history and as it files receipts.
 use Rattle.std.proofs.Common.{◌≡◌, ℕ, List, [], ◌∷◌, ◌++◌, sym, subst, Option, Some, None, Result}
 use mathlib.Core.List.{IsPrefix}
 use base.Growing.{prefix_refl, prefix_trans}
@@ -11,11 +11,11 @@ use Rattle.po_receipts.specs.declared.receipt.Receipt.TheVariants as R
 use Rattle.po_receipts.specs.Told.{HappensBetween, IsAskedBetween, IsAnswerBetween, AreAnswersBetween}
 
 module _ {V : Type 0} where
-  -- it has happened for good
+  -- what has happened stays so in a longer history
   pub further : (event : Event V) (before mid after : List (Event V)) → HappensBetween event before mid → IsPrefix mid after → HappensBetween event before after
   further event before mid after h p = record { here = h.here; later = h.later; within = prefix_trans (h.here ++ event ∷ []) mid after h.within p }
 
-  -- what happened behind more happened behind less
+  -- what happened after more events happened after fewer
   earlier : (event : Event V) (before mid after : List (Event V)) → IsPrefix before mid → HappensBetween event mid after → HappensBetween event before after
   earlier event before mid after p h = record { here = h.here; later = prefix_trans before mid h.here p h.later; within = h.within }
 
@@ -39,7 +39,7 @@ module _ {V : Type 0} (seat : ℕ) (end_of : List (Event V) → ℕ → Option (
   longer [] before here after told p = prefix_trans before here after told p
   longer (receipt ∷ receipts) before here after told p = (told.0, (told.1.0, longer receipts told.0 here after told.1.1 p))
 
-  -- what a pass was told goes on being so as its caller sees more
+  -- what a pass was told stays true as its caller sees more
   pub told-later : (pending : Option (Asked V)) (receipts : List (Receipt V)) (seen after : List (Event V)) → Told pending receipts seen → IsPrefix seen after → Told pending receipts after
   told-later None receipts seen after told p = (told.0, (told.1.0, prefix_trans told.0 seen after told.1.1 p))
   told-later (Some asked) receipts seen after told p = (told.0, (told.1.0, further (Issue asked.ticket.number seat asked.entry asked.value asked.deadline) told.0 seen after told.1.1 p))

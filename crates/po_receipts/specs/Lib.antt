@@ -1,3 +1,4 @@
+-- SPDX-License-Identifier: MIT
 pub mod Agreement
 pub mod Answers
 pub mod Marks

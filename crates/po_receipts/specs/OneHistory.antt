@@ -1,5 +1,6 @@
--- What an answer of an object says of its one history (9.5.1, 9.5.3, 9.7.2; the words are this project's own). Who asks has seen
--- a beginning of the history before, and sees a longer one after.
+-- SPDX-License-Identifier: MIT
+-- What an answer of an object says of its one history (9.5.1, 9.5.3, 9.7.2; the words are this project's own). Before it asks,
+-- a caller has seen a beginning of the history; afterwards it has seen further.
 use Rattle.std.specs.Prelude.{ℕ, ◌≡◌, ◌<◌, ◌+◌, length, List, [], ◌∷◌, ◌++◌, Option, Some, Result, find, slice_index, if◌then◌else◌, ◌&&◌}
 use mathlib.Core.List.{IsPrefix}
 use Rattle.po_unit.specs.Meaning.{Meaning}
@@ -7,12 +8,12 @@ use Rattle.po_calls.specs.declared.call.Call.{Call}
 use Rattle.po_calls.specs.declared.call.Deadline.{Deadline}
 use Rattle.po_calls.specs.declared.end.End.{End}
 use Rattle.po_history.specs.declared.event.Event.{Event}
-use Rattle.po_history.specs.declared.event.Event.TheVariants.{Issue, Tick, Abort}
+use Rattle.po_history.specs.declared.event.Event.TheVariants.{Issue, Tick, Cancel}
 use Rattle.po_history.specs.Histories.{VolumeView, joined}
 use Rattle.po_engine.specs.Finding.{IsFound}
 use Rattle.po_engine.specs.WaitingCalls.{has_number, is_of}
-use Rattle.po_core.specs.declared.aborted.Aborted.{Aborted}
-use Rattle.po_core.specs.declared.aborted.Aborted.TheVariants.{Cancelled, Kept}
+use Rattle.po_core.specs.declared.attempt.Attempt.{Attempt}
+use Rattle.po_core.specs.declared.attempt.Attempt.TheVariants.{Cancelled, Kept}
 use Rattle.po_core.specs.Setup.{Setup}
 use Rattle.po_core.specs.Public.{AllPublic}
 use Rattle.po_core.specs.View.{View, opening_view}
@@ -23,13 +24,14 @@ use Rattle.po_receipts.specs.Receipts.{answer_of}
 use Rattle.po_receipts.specs.Told.{HappensBetween}
 
 module _ {V : Type 0} where
-  -- the history right after an attempt to cancel the call with number n: one that was marked before leaves no event (9.5.3, 9.5.4)
+  -- the history right after an attempt to cancel the call with number n: if the call was marked before, no event is added
+  -- (9.5.3, 9.5.4)
   abbrev pub attempted : ℕ → List (Event V) → Call V → List (Event V)
-  attempted n here x = if x.without_abort && x.aborted then here else here ++ Abort n ∷ []
+  attempted n here x = if x.without_abort && x.aborted then here else here ++ Cancel n ∷ []
 
-  -- The call with number n waits in this state, and an attempt to cancel it came to this: a call requeued without abort is kept. The history
-  -- is seen beyond the attempt.
-  abbrev pub IsAttempt : {S : Type 0} → ℕ → Aborted → List (Event V) → ObjectState S V → List (Event V) → Type 0
+  -- The call with number n waits in this state, and this is the result of an attempt to cancel it: a call requeued without
+  -- abort is kept. The history is seen beyond the attempt.
+  abbrev pub IsAttempt : {S : Type 0} → ℕ → Attempt → List (Event V) → ObjectState S V → List (Event V) → Type 0
   IsAttempt n aborted here s after =
       IsFound (λ x. IsPrefix (attempted n here x) after × (aborted ≡ (if x.without_abort then Kept else Cancelled))) (find (has_number n) s.waiting)
 
@@ -49,51 +51,51 @@ module _ {S V : Type 0} (m : Meaning S V) (setup : Setup S) where
     pub public : AllPublic setup.shape log
     pub rest : IsAtRest m (state_after log)
 
-  -- how the call with this number has ended at the end of these events, if it has
+  -- how the call with this number has ended by the end of these events, if it has
   abbrev pub end_in : List (Event V) → ℕ → Option (End V)
   end_in log number = answer_of (state_after log).ended number
 
-  -- The event stands in the history, behind all that was seen before, and the history is now seen beyond it.
+  -- The event is in the history, after all that was seen before, and the history is now seen beyond it.
   pub record Stands (event : Event V) (before after : List (Event V)) : Type 0 where
     pub happens : HappensBetween event before after
     pub history : IsWholeHistory after
 
-  -- The history is seen further, and in it the call with this number has ended so (9.5.3).
+  -- The history is seen further, and in it the call with this number has ended with this end (9.5.3).
   pub record HasEnded (number : ℕ) (end : End V) (before after : List (Event V)) : Type 0 where
     pub later : IsPrefix before after
     pub history : IsWholeHistory after
     pub ended : end_in after number ≡ Some end
 
-  -- A call was issued behind all that was seen before, from this seat, on this entry, with this value and this deadline; and in
-  -- the history that is now seen it has ended so (9.5.3).
+  -- A call was issued after all that was seen before, from this seat, on this entry, with this value and this deadline. In the
+  -- history that is now seen it has ended with this end (9.5.3).
   pub record IsAnswered (seat entry : ℕ) (value : V) (deadline : Deadline) (end : End V) (before after : List (Event V)) : Type 0 where
     pub number : ℕ
     pub issued : Stands (Issue number seat entry value deadline) before after
     pub ended : end_in after number ≡ Some end
 
-  -- The clock was raised behind all that was seen before, and at the end of what is now seen it is this (9.7.2).
+  -- The clock was raised after all that was seen before, and at the end of what is now seen this is its value (9.7.2).
   pub record IsTicked (t clock : ℕ) (before after : List (Event V)) : Type 0 where
     pub ticked : Stands (Tick t) before after
     pub clock_is : clock ≡ (state_after after).clock
 
-  -- The history is seen further, to a moment at which this holds of the object.
+  -- The history is seen further, to a moment at which `holds` is true of the object.
   pub record HoldsAt (holds : View S V → Type 0) (before after : List (Event V)) : Type 0 where
     pub later : IsPrefix before after
     pub history : IsWholeHistory after
     pub held : holds (view_after after)
 
-  -- The history is seen further, to a moment at which the unit has the function, and it gives this (9.5.1).
-  abbrev pub IsReadAt : ℕ → V → Result V ℕ → List (Event V) → List (Event V) → Type 0
-  IsReadAt op value reply before after =
+  -- The history is seen further, to a moment at which the unit has the function and the function gives this reply (9.5.1).
+  abbrev pub IsFunctionAt : ℕ → V → Result V ℕ → List (Event V) → List (Event V) → Type 0
+  IsFunctionAt op value reply before after =
       HoldsAt (λ view. (op < m.functions view.state.unit) × (reply ≡ m.function view.state.unit op value (counts_in m view.state))) before after
 
-  -- The history is seen further, to a moment at which so many calls are queued on the entry (9.9).
+  -- The history is seen further, to a moment at which `count` calls are queued on the entry (9.9).
   abbrev pub IsCountAt : ℕ → ℕ → List (Event V) → List (Event V) → Type 0
   IsCountAt entry count before after = HoldsAt (λ view. count ≡ slice_index (counts_in m view.state) entry) before after
 
-  -- At some moment behind all that was seen before, an attempt to cancel the seat's earliest queued call came to this
+  -- At some moment after all that was seen before, this was the result of an attempt to cancel the seat's earliest queued call
   -- (9.5.3, 9.5.4). The history is now seen beyond it.
-  pub record IsAborted (seat : ℕ) (aborted : Aborted) (before after : List (Event V)) : Type 0 where
+  pub record IsAttempted (seat : ℕ) (aborted : Attempt) (before after : List (Event V)) : Type 0 where
     pub here : List (Event V)
     pub later : IsPrefix before here
     pub moment : IsWholeHistory here

@@ -1,12 +1,13 @@
--- What a pass shows: the calls and procedures of one seat, and the receipts that were filed of them (this project's own).
+-- SPDX-License-Identifier: MIT
+-- What a pass shows: the calls and procedures of one seat, and the receipts that were filed for them (this project's own).
 use Rattle.std.specs.Prelude.{ℕ, ◌≡◌, ◌+◌, Bool, true, false, List, [], Option, None, Some, count_by}
 use Rattle.po_history.specs.declared.event.Event.{Event}
 use Rattle.po_receipts.specs.declared.asked.Asked.{Asked}
 use Rattle.po_receipts.specs.declared.receipt.Receipt.{Receipt}
 use Rattle.po_receipts.specs.declared.receipt.Receipt.TheVariants.{Called, Ran}
 
--- A pass: its seat, how many calls and procedures were accepted from it, the call that has no receipt yet, the receipts
--- in the order in which they were filed, and how the history of its object begins, as far as its caller has seen it.
+-- A pass: its seat, how many calls and procedures were accepted from it, the call that has no receipt yet, the receipts in the
+-- order in which they were filed, and the beginning of its object's history that its caller has seen.
 pub record PassView (V : Type 0) : Type 0 where
   pub seat : ℕ
   pub calls : ℕ
@@ -35,7 +36,7 @@ module _ {V : Type 0} where
   unfiled None = 0
   unfiled (Some asked) = 1
 
-  -- The tallies are the numbers of receipts of each kind, with the call that has none yet.
+  -- The tallies count the receipts of each kind, and the call that has none yet.
   pub record IsTallied (pass : PassView V) : Type 0 where
     pub calls : pass.calls ≡ count_by is_call pass.receipts + unfiled pass.pending
     pub procedures : pass.procedures ≡ count_by is_procedure pass.receipts

@@ -1,5 +1,6 @@
--- What the history says of each seat: the calls and procedures that it asked for, and the receipts that are due for them
--- (this project's own).
+-- SPDX-License-Identifier: MIT
+-- What the history says of each seat: the calls and procedures that it asked for, and the receipts that are due for them (this
+-- project's own).
 use Rattle.std.specs.Prelude.{ℕ, ◌==◌, List, filter, map, find, Bool, false, Option, Some, None, option_map}
 use Rattle.po_calls.specs.declared.end.End.{End}
 use Rattle.po_history.specs.declared.event.Event.{Event}
@@ -23,8 +24,8 @@ module _ {V : Type 0} where
   abbrev pub answer_of : List (Ended V) → ℕ → Option (End V)
   answer_of ended n = option_map (λ x. x.end) (find (has_ended n) ended)
 
-  -- The receipt that is due for an event: for a call that has ended, what was asked and its answer; for a procedure, what
-  -- was asked and its reply. None is due for a call that hasn't ended, or for any other event.
+  -- The receipt that is due for an event: for a call that has ended, what was asked and its answer; for a procedure, what was
+  -- asked and its reply. None is due for a call that hasn't ended, or for any other event.
   abbrev pub receipt_of : List (Ended V) → Event V → Option (Receipt V)
   receipt_of ended (Issue n owner e v deadline) = option_map (λ answer. Receipt.Called n e v deadline answer) (answer_of ended n)
   receipt_of ended (Ran owner op v reply) = Some (Receipt.Ran op v reply)

@@ -1,3 +1,4 @@
+// SPDX-License-Identifier: MIT
 //! What a caller has asked for.
 
 use po_calls::{Deadline, Ticket};
@@ -5,12 +6,12 @@ use po_calls::{Deadline, Ticket};
 /// A call that was accepted and has no receipt yet.
 #[derive(Clone, Copy, Debug, PartialEq, Eq)]
 pub struct Asked<V> {
-    /// Where the call is found.
+    /// The ticket that finds the call.
     pub ticket: Ticket,
-    /// The flat number of the entry that was asked for.
+    /// The flat number of the entry that was called.
     pub entry: u16,
-    /// The value with which it was called.
+    /// The value that was passed.
     pub value: V,
-    /// Until when the caller is ready to wait (9.7.2, 9.7.3).
+    /// How long the caller is ready to wait (9.7.2, 9.7.3).
     pub deadline: Deadline,
 }

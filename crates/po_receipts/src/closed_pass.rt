@@ -1,3 +1,4 @@
+// SPDX-License-Identifier: MIT
 //! The passes of a closed object.
 
 ghost use Rattle.std.specs.Prelude.{◌≡◌};
@@ -10,7 +11,7 @@ use po_core::Event;
 use po_log::Seen;
 use std::marker::Model;
 
-/// A pass with which nobody can call any more. Contracts see it as they saw the pass.
+/// A pass that can make no more calls. Contracts see it as the same `PassView` as before.
 #[derive(Drop)]
 pub struct ClosedPass<V: Copy, Q: Receipts<V> = Vec<Receipt<V>>> {
     seat: u16,
@@ -46,8 +47,8 @@ impl<V: Copy, Q: Receipts<V>> Model for ClosedPass<V, Q> {
 }
 
 impl<V: Copy, Q: Receipts<V>> ClosedPass<V, Q> {
-    /// The pass of this seat, with so many accepted calls and procedures, the call that has no receipt yet, the receipts
-    /// of all others, and what its caller has seen of the history.
+    /// Returns the pass of this seat, from the numbers of accepted calls and procedures, the call that has no receipt yet, the
+    /// receipts of all others, and what its caller has seen of the history.
     pub fn new(
         seat: u16,
         calls: u64,
@@ -69,50 +70,48 @@ impl<V: Copy, Q: Receipts<V>> ClosedPass<V, Q> {
         }
     }
 
-    /// The seat whose calls these are: their owner in the history.
+    /// Returns the seat that made these calls: their owner in the history.
     pub fn seat(&self) -> u16
         ensures { result ≡ self.now.seat }
     {
         self.seat
     }
 
-    /// How many calls were accepted.
+    /// Returns how many calls were accepted.
     pub fn calls(&self) -> u64
         ensures { result ≡ self.now.calls }
     {
         self.calls
     }
 
-    /// How many procedures were accepted.
+    /// Returns how many procedures were accepted.
     pub fn procedures(&self) -> u64
         ensures { result ≡ self.now.procedures }
     {
         self.procedures
     }
 
-    /// The call that was accepted and has no receipt, if there is one.
+    /// Returns the call that was accepted but has no receipt, if there is one.
     pub fn pending(&self) -> Option<Asked<V>>
         ensures { result ≡ self.now.pending }
     {
         self.pending
     }
 
-    /// There are as many receipts of calls as calls, but for one that is pending, and as many of procedures as procedures.
+    /// Proves the tallies: there is one receipt for each call, except a pending one, and one for each procedure.
     pub fn recall_invariant(&self)
         ensures { IsTallied self.now }
     {
+        // Only for the prover: the use of a field brings in the invariant.
         let _ = &self.receipts;
     }
 }
 
 impl<V: Copy> ClosedPass<V, Vec<Receipt<V>>> {
-    /// The receipts, in the order in which they were filed.
+    /// Returns the receipts, in the order in which they were filed.
     pub fn receipts(&self) -> &[Receipt<V>]
         ensures { result.now ≡ self.now.receipts }
     {
         self.receipts.as_slice()
     }
 }
-
-/// `ClosedPass`, for callers that know it by this name.
-pub type Spent<V> = ClosedPass<V>;

@@ -1,3 +1,4 @@
+// SPDX-License-Identifier: MIT
 //! The receipt that the history gives for an event.
 
 ghost use Rattle.std.specs.Prelude.{◌≡◌, ◌==◌, ◌↔◌, ℕ, MatchOption, false, true};
@@ -7,7 +8,7 @@ use crate::receipt::Receipt;
 use po_core::{Core, Event};
 use po_unit::Unit;
 
-/// The seat that asked for the event, if it is a call or a procedure.
+/// Returns the seat that asked for the event, if it is a call or a procedure.
 pub(crate) fn seat_of<V: Copy>(event: Event<V>) -> Option<u16>
     ensures { MatchOption result
         ((seat : ℕ) → is_asked_by seat event ≡ false)
@@ -20,7 +21,7 @@ pub(crate) fn seat_of<V: Copy>(event: Event<V>) -> Option<u16>
     }
 }
 
-/// The receipt that is due for an event, if one is.
+/// Returns the receipt that is due for an event, if one is.
 pub(crate) fn receipt_of<U: Unit>(
     core: &Core<U>,
     event: Event<U::Value>,
@@ -53,7 +54,7 @@ pub(crate) fn receipt_of<U: Unit>(
     }
 }
 
-/// Whether a receipt is the one that is due.
+/// Returns whether a receipt is the one that is due.
 pub(crate) fn is_due<U: Unit>(due: Option<Receipt<U::Value>>, receipt: Receipt<U::Value>) -> bool
     ensures { (result ≡ true) ↔ (due ≡ Some receipt) }
 {

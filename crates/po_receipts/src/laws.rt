@@ -1,4 +1,5 @@
-//! What follows where receipts and history agree.
+// SPDX-License-Identifier: MIT
+//! What follows if receipts and history agree.
 
 ghost use Rattle.std.specs.Prelude.{◌≡◌, ◌↔◌, true, ◌⊎◌, [], All, count_by, sum_by};
 ghost use Rattle.po_core.specs.Base.{is_issue, is_ran};
@@ -13,8 +14,8 @@ use crate::receipts::Receipts;
 use po_core::{Core, Volume};
 use po_unit::Unit;
 
-/// Where receipts and history agree, every answer that a caller got is the history's answer to that caller's own call,
-/// each once and in the caller's order.
+/// Proves that every answer a caller got is the history's answer to that caller's own call, each once and in the caller's
+/// order, if receipts and history agree.
 pub fn own_answers<U: Unit>(
     core: &Core<U>,
     passes: &[ClosedPass<U::Value>],
@@ -24,9 +25,9 @@ pub fn own_answers<U: Unit>(
     ensures { AnswersAreOwn core.now.object.state.ended (history_of core.now volumes.now) passes.now }
 {}
 
-/// Where besides the passes are all that the object had, and the volumes are those that were cut off from its history, or
-/// there are none, these are the answers of the serial object. Where no pass has a call pending, the history has no other
-/// calls and procedures; and where it has no others, no pass has a call pending.
+/// Proves that these are the answers of the serial object. This needs the passes to be all that the object had, and the volumes
+/// to be those that were cut off from its history, or none. If no pass has a call pending, the history has no other calls and
+/// procedures; and if it has no others, no pass has a call pending.
 pub fn every_answer<U: Unit>(
     core: &Core<U>,
     passes: &[ClosedPass<U::Value>],
@@ -39,7 +40,7 @@ pub fn every_answer<U: Unit>(
     ensures own { AnswersAreOwn core.now.object.state.ended (history_of core.now volumes.now) passes.now }
     // The volumes, or none, are the history before the base.
     ensures volumes { AreVolumes U.meaning core.now.object volumes.now }
-    // The whole history replays from the opening as serial protected actions of one thread, and the calls end so.
+    // The whole history replays from the opening as serial protected actions of one thread, and leads to the calls' ends.
     ensures serial { Leads U.meaning core.now.object.setup (history_of core.now volumes.now)
         (opening_state core.now.object.setup.opening core.now.object.setup.first_number) core.now.object.state }
     ensures none_other { HasNoOthers (history_of core.now volumes.now) passes.now }
@@ -49,7 +50,7 @@ pub fn every_answer<U: Unit>(
     recall_tallies(passes);
 }
 
-/// Whether no pass has a call that was accepted and has no receipt yet.
+/// Returns whether no pass has a call that was accepted but has no receipt yet.
 pub fn none_pending<V: Copy, Q: Receipts<V>>(passes: &[ClosedPass<V, Q>]) -> bool
     ensures { (result ≡ true) ↔ NonePending passes.now }
 {
@@ -61,8 +62,8 @@ pub fn none_pending<V: Copy, Q: Receipts<V>>(passes: &[ClosedPass<V, Q>]) -> boo
     true
 }
 
-/// Where the closing totals hold, and the volumes are those that were cut off from this object's history, as many calls were
-/// issued in the whole history, and as many procedures ran, as were accepted from the passes.
+/// Proves that the whole history has as many calls and procedures as were accepted from the passes. This needs the closing
+/// totals to hold, and the volumes to be those that were cut off from this object's history.
 pub fn closing_counts<U: Unit>(
     core: &Core<U>,
     passes: &[ClosedPass<U::Value>],
@@ -76,7 +77,7 @@ pub fn closing_counts<U: Unit>(
     core.headline();
 }
 
-/// The tallies of each pass are the numbers of its receipts, with the call that has none yet.
+/// Proves that the tallies of each pass count its receipts, and the call that has none yet.
 fn recall_tallies<V: Copy>(passes: &[ClosedPass<V>])
     ensures { All IsTallied passes.now }
 {

@@ -1,3 +1,4 @@
+// SPDX-License-Identifier: MIT
 //! How far the receipts of a seat agree with the events so far.
 
 ghost use Rattle.std.specs.Prelude.{◌≡◌, ◌↔◌, ◌∷◌, ◌++◌, [], true, map, slice_get, List, Option, Some, MatchOption};
@@ -12,13 +13,13 @@ use po_unit::Unit;
 /// How far the receipts of a seat agree with the events so far.
 #[derive(Clone, Copy)]
 pub(crate) enum Mark {
-    /// So many receipts are those of the events so far.
+    /// That many receipts are those of the events so far.
     Follows(usize),
-    /// They first differ at this place.
+    /// The receipts first differ at this place.
     Differs(usize),
 }
 
-/// Whether the receipt at this place is the one that is due.
+/// Returns whether the receipt at this place is the one that is due.
 fn is_next<U: Unit>(
     receipts: &[Receipt<U::Value>],
     place: usize,
@@ -32,7 +33,7 @@ fn is_next<U: Unit>(
     }
 }
 
-/// The mark after one more event of the seat, for which this receipt is due.
+/// Returns the mark after one more event of the seat, for which this receipt is due.
 pub(crate) fn advanced<U: Unit>(
     mark: Mark,
     receipts: &[Receipt<U::Value>],
@@ -48,7 +49,7 @@ pub(crate) fn advanced<U: Unit>(
     }
 }
 
-/// The first place where the receipts differ from what is due, after all events.
+/// Returns the first place at which the receipts differ from what is due after all events.
 pub(crate) fn first_difference<V: Copy>(mark: Mark, receipts: &[Receipt<V>]) -> Option<usize>
     ensures { (due : List (Option (Filed V))) → IsMark (map Some receipts.now) due mark →
         MatchOption result

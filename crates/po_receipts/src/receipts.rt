@@ -1,4 +1,5 @@
-//! Where the receipts of a pass are filed: in memory, or for proofs alone.
+// SPDX-License-Identifier: MIT
+//! How the receipts of a pass are kept: in memory, or only for proofs.
 
 ghost use Rattle.std.specs.Prelude.{◌≡◌, ◌<◌, ◌∷◌, ◌++◌, [], Bool, true, false, List, IfOk, OnOk, OnErr, vec_len, vec_capacity};
 ghost use Rattle.po_receipts.specs.declared.receipt.Receipt.{Receipt as Filed};
@@ -7,7 +8,7 @@ use crate::receipt::Receipt;
 use po_history::Trace;
 use std::alloc::{AllocError, Global};
 
-/// The receipts of a pass, in the order in which they were filed: in memory, or known to proofs alone.
+/// The receipts of a pass, in the order in which they were filed: in memory, or known only to proofs.
 pub trait Receipts<V: Copy>: Drop {
     /// The receipts.
     ghost items: { Self → List (Filed V) };
@@ -18,7 +19,7 @@ pub trait Receipts<V: Copy>: Drop {
     /// They take no memory.
     ghost is_bounded: { Bool };
 
-    /// None yet.
+    /// Returns no receipts.
     fn none(alloc: Global) -> Self
         ensures { items result ≡ [] };
 
@@ -29,7 +30,7 @@ pub trait Receipts<V: Copy>: Drop {
         ensures kept { OnErr result (HasRoom self.old → HasRoom self.new) }
         ensures refused { OnErr result (is_bounded ≡ false) };
 
-    /// Files a receipt as the last.
+    /// Files a receipt as the last one.
     fn file(&mut self, receipt: Receipt<V>)
         requires { HasRoom self.old }
         ensures { items self.new ≡ items self.old ++ receipt ∷ [] };

@@ -1,4 +1,5 @@
-//! One round over the history, for some seats at once.
+// SPDX-License-Identifier: MIT
+//! One round over the history, for several seats at once.
 
 ghost use Rattle.std.specs.Prelude.{ℕ, ◌≡◌, ◌≢◌, ◌<◌, ◌≤◌, ◌+◌, ◌∷◌, ◌++◌, [], List, true, false, length, MatchOption};
 ghost use Rattle.po_history.specs.declared.event.Event.{Event as Noted};
@@ -14,7 +15,7 @@ use crate::mark::{Mark, advanced, first_difference};
 use po_core::{Core, Event, Volume};
 use po_unit::Unit;
 
-/// For how many seats a round has room.
+/// How many seats a round has room for.
 pub(crate) const SEATS: usize = 1024;
 
 /// A seat, and a place among its receipts.
@@ -24,8 +25,8 @@ pub(crate) struct Difference {
     pub place: usize,
 }
 
-/// Goes over the whole history for so many seats from the first on: the lowest of them whose receipts differ from those
-/// that are due, with the first place at which they do.
+/// Goes over the whole history for `seats` seats, beginning with `first`. Returns the lowest of them whose receipts differ from
+/// those that are due, with the first place at which they do.
 pub(crate) fn difference_in_round<U: Unit>(
     core: &Core<U>,
     passes: &[ClosedPass<U::Value>],
@@ -44,7 +45,7 @@ pub(crate) fn difference_in_round<U: Unit>(
     difference_by_marks(core, passes, volumes, first, &mut room[..seats])
 }
 
-/// The same for as many seats as there are marks, whatever these were.
+/// Does the same for as many seats as there are marks, whatever the marks were.
 fn difference_by_marks<U: Unit>(
     core: &Core<U>,
     passes: &[ClosedPass<U::Value>],
@@ -118,7 +119,7 @@ fn note<U: Unit>(
     marks[i] = advanced::<U>(marks[i], receipts, receipt_of(core, event));
 }
 
-/// Which seat of a round, counted from its first, asked for the event, if one did.
+/// Returns which seat of a round asked for the event, counted from the round's first seat, if one did.
 fn index_in_round<V: Copy>(event: Event<V>, first: usize, seats: usize) -> Option<usize>
     ensures { MatchOption result
         ((i : ℕ) → i < seats → is_asked_by (first + i) event ≡ false)
@@ -129,7 +130,7 @@ fn index_in_round<V: Copy>(event: Event<V>, first: usize, seats: usize) -> Optio
     if index < seats { Some(index) } else { None }
 }
 
-/// The lowest seat of a round whose receipts differ from those that are due, with the first place at which they do.
+/// Returns the lowest seat of a round whose receipts differ from those that are due, with the first place at which they do.
 fn lowest_difference<V: Copy>(
     passes: &[ClosedPass<V>],
     first: usize,

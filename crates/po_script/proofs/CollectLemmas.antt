@@ -1,4 +1,4 @@
--- The tickets that a script keeps: one more, and the ended calls collected one after another.
+-- The tickets that a script keeps: one more is added, and the ended calls are collected one after another.
 use Rattle.std.proofs.Common.{◌≡◌, ◌≢◌, ℕ, zero, suc, ◌+◌, ◌<◌, true, List, [], ◌∷◌, length, drop, get_or, Bool}
 use Rattle.std.proofs.Common.{Option, Some, None, refl, sym, ap, subst, ◌∙◌, inl, inr, arith, length-drop}
 use Rattle.std.specs.List.{find, slice_index_or}
@@ -27,7 +27,7 @@ found p (x ∷ xs) (suc i) d h e = elim (cases_Bool (p x)) [
   | inr fails ↦ simp fails (found p xs i d (omega (arith, h)) e)
 ]
 
--- a call of the last ones that ended is found among all
+-- each of the calls that ended last is found among all ended ones
 pub found_ended : (xs : List (Ended ℕ)) (before i : ℕ) (d : Ended ℕ)
     → i < length (drop before xs) → IsSome (find (has_ended (get_or (drop before xs) i d).number) xs)
 found_ended xs before i d h =
@@ -35,7 +35,7 @@ found_ended xs before i d h =
     let n = (get_or xs (before + i) d).number in
     rw (get_or-drop before xs i d) (found (has_ended n) xs (before + i) d low (eq-eqb n n refl))
 
--- The first calls of xs, so many, were collected.
+-- The first `many` calls of xs are collected.
 abbrev pub AreCollectedTo : List (Option ℕ) → List (Ended ℕ) → ℕ → Type 0
 AreCollectedTo core xs many =
     (k : ℕ) (d : Ended ℕ) → k < many → k < length xs → IsCollected core (slice_index_or xs k d).number
@@ -54,7 +54,7 @@ collected_more old new xs index e before others this = λ k d low within. elim (
   | inr other ↦ others _ (before k d (omega (arith, low, other)) within)
 ]
 
--- the tickets with that of a new call
+-- the tickets after that of a new call is added
 pub knows_issued : (old new : List (Option ℕ)) (t u : Tickets) (key n : ℕ)
     → Knows old t
     → ((k j : ℕ) → number_at old k ≡ Some j → j < n)

@@ -1,10 +1,10 @@
--- Bytes cut at their newlines, put together.
+-- Bytes cut at their newlines, and cut parts put together.
 use Rattle.std.proofs.Common.{◌≡◌, ℕ, eqb, false, List, [], ◌∷◌, ◌++◌, refl, sym, ap, ◌∙◌, inl, inr}
 use Rattle.std.proofs.lemmas.Bool.{cases_Bool}
 use Rattle.std.proofs.lemmas.List.{append-nil}
 use Rattle.po_script.specs.Script.{Cut, cut, onto}
 
--- the lines and the rest of some bytes, and then those of more bytes
+-- the lines and the rest of some bytes, followed by those of more bytes
 abbrev pub glue : List (List ℕ) → List ℕ → List (List ℕ) → List ℕ → Cut
 glue fs r [] s = record { full = fs; rest = r ++ s }
 glue fs r (l ∷ ls) s = record { full = fs ++ (r ++ l) ∷ ls; rest = s }

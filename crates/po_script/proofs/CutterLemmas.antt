@@ -1,4 +1,4 @@
--- What a source gave, cut byte by byte.
+-- The bytes of a source, cut one by one.
 use Rattle.std.proofs.Common.{◌≡◌, ℕ, zero, suc, ◌+◌, ◌<◌, ◌≤◌, eqb, ltb, false, List, [], ◌∷◌, ◌++◌, length, take, drop, get_or, min, Option, Result, Ok, Err, OnErr, refl, sym, ap, ◌∙◌, inl, inr, arith, append_assoc}
 use Rattle.std.proofs.lemmas.List.{append-nil, length_push, length-take-le, get_or-take, drop_more, take_all}
 use Rattle.std.proofs.lemmas.Bool.{cases_Bool, lt-ltb, ltb-true, ltb-false}
@@ -11,12 +11,12 @@ use Rattle.po_script.specs.Cutter.{CutsBy}
 use Rattle.po_script.specs.Script.{Cut, cut}
 use Rattle.po_streams.specs.Source.{CountsMore}
 
--- the first of the bytes that wait
+-- the first of the waiting bytes
 pub first_waits : (bytes : List ℕ) (taken count : ℕ) → taken < count → count ≤ length bytes → drop taken (take count bytes) ≡ get_or bytes taken 0 ∷ drop (taken + 1) (take count bytes)
 first_waits bytes taken count some within =
     drop_more (take count bytes) taken 0 (omega (arith, some, length-take-le count bytes within)) ∙ ap (λ b. b ∷ drop (taken + 1) (take count bytes)) (get_or-take count bytes taken 0 some)
 
--- one more read, where all that was given is taken
+-- one more read, after all given bytes are taken
 pub given_read : (more bytes buffer : List ℕ) (n : ℕ) (start left has : Option (List ℕ)) (first before reads : Option ℕ) → more ≡ [] → Given more bytes start left first before → n ≤ length buffer → Consumes left has (take n buffer) → CountsMore before reads (min n 1) → Given (take n buffer) bytes start has first reads
 given_read more bytes buffer n start left has first before reads none s within gave told =
     let old : (count : ℕ) × (count ≤ length bytes) × CountsMore first before count = (s.counted.0, omega (arith, s.counted.1, ap (λ (l : List ℕ). length l) none), s.counted.2) in
@@ -26,7 +26,7 @@ given_read more bytes buffer n start left has first before reads none s within g
       counted = (counted.0, omega (arith, counted.1, length-take-le n buffer within), counted.2);
     }
 
--- one of the bytes that were given is taken
+-- one of the given bytes is taken
 given_taken : (byte : ℕ) (more later bytes : List ℕ) (start left : Option (List ℕ)) (first reads : Option ℕ) → Given more bytes start left first reads → more ≡ byte ∷ later → Given later (bytes ++ byte ∷ []) start left first reads
 given_taken byte more later bytes start left first reads s is =
     record {
@@ -34,7 +34,7 @@ given_taken byte more later bytes start left first reads s is =
       counted = (s.counted.0, omega (arith, s.counted.1, length_push bytes byte, ap (λ (l : List ℕ). length l) is), s.counted.2);
     }
 
--- the first of some bytes are those of their first and more
+-- the first n of (the first n of xs) and ys are the first n of xs and ys
 take-take-append : (n : ℕ) (xs ys : List ℕ) → take n (take n xs ++ ys) ≡ take n (xs ++ ys)
 take-take-append zero xs ys = refl
 take-take-append (suc n) [] ys = refl
@@ -71,7 +71,7 @@ module _ (line : List ℕ) (number total : ℕ) (more later bytes : List ℕ) (s
 pub few_reads : (line : List ℕ) (number total : ℕ) (more bytes : List ℕ) (start left : Option (List ℕ)) (first reads : Option ℕ) → CutsBy line number total more bytes start left first reads → total ≤ 67108864 → (count : ℕ) × (count ≤ 67108865) × CountsMore first reads count
 few_reads line number total more bytes start left first reads s few = (s.source.counted.0, omega (arith, few, s.total_is, s.source.counted.1), s.source.counted.2)
 
--- whether a line is too long is seen from the bytes that are kept
+-- the bytes that are kept show whether a line is too long
 pub kept_long : (rest : List ℕ) → ltb 4096 (length (take 4097 rest)) ≡ ltb 4096 (length rest)
 kept_long rest = elim (cases_Bool (ltb 4096 (length rest))) [
   | inl long ↦
@@ -80,7 +80,7 @@ kept_long rest = elim (cases_Bool (ltb 4096 (length rest))) [
   | inr few ↦ ap (λ (l : List ℕ). ltb 4096 (length l)) (take_all 4097 rest (omega (arith, ltb-false 4096 (length rest) few)))
 ]
 
--- what holds at any error
+-- what holds anyway holds of any error
 pub on_err : {T E : Type 0} (P : Type 0) (r : Result T E) → P → OnErr r P
 on_err P (Ok v) h = tt
 on_err P (Err e) h = h

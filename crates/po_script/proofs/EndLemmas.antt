@@ -14,8 +14,8 @@ use Rattle.po_script.specs.Run.{Tells}
 use Rattle.po_language.specs.declared.command.Command.{Command}
 use Rattle.po_language.specs.declared.command.FaultKind.{FaultKind}
 use Rattle.po_language.specs.declared.command.FaultKind.TheVariants.{ScriptTooLong, LineTooLong, UnknownCommand, NoUnit, SecondUnit, BadUnit, BadArgument}
-use Rattle.po_language.specs.declared.run_fault.RunFault.{RunFault}
-use Rattle.po_language.specs.declared.run_fault.RunFault.TheVariants.{Script, Read, Write, Memory}
+use Rattle.po_language.specs.declared.run_error.RunError.{RunError}
+use Rattle.po_language.specs.declared.run_error.RunError.TheVariants.{Script, Read, Write, Memory}
 use Rattle.po_script.specs.declared.interpreter.Interpreter.{Interpreter}
 
 line_read : (k : FaultKind) (n : ℕ) (bytes : List ℕ) (ended : Bool) → (n ≤ length (cut bytes).full) ⊎ (ended ≡ true) → IsLineRead k n bytes ended
@@ -28,8 +28,8 @@ line_read BadUnit n bytes ended h = h
 line_read BadArgument n bytes ended h = h
 
 module _ {O : Type 0} (units : ScriptUnits) (object : O → Object units) (interpreter : Interpreter O) (bytes : List ℕ) (start now : Option (List ℕ)) (s : Tells units object interpreter bytes start now) (short : length (cut bytes).rest ≤ 4096) where
-  -- a newline whose line isn't carried out
-  pub newline_ends : (fault : RunFault) (number : ℕ) (more : List ℕ) (later : Option (List ℕ)) (before bad ended : Bool) → length bytes < 67108864 → number ≡ length (cut bytes).full + 1 → before ≡ false → Fails units object fault interpreter number (cut bytes).rest now later before bad → EndsAs units fault (bytes ++ 10 ∷ more) start later ended false bad
+  -- a line that a newline ends isn't carried out
+  pub newline_ends : (fault : RunError) (number : ℕ) (more : List ℕ) (later : Option (List ℕ)) (before bad ended : Bool) → length bytes < 67108864 → number ≡ length (cut bytes).full + 1 → before ≡ false → Fails units object fault interpreter number (cut bytes).rest now later before bad → EndsAs units fault (bytes ++ 10 ∷ more) start later ended false bad
   newline_ends (Script n k) number more later before bad ended room same fine h =
       let e = script_ends _ _ _ _ _ _ bytes start now s more n k room short h.0 (h.1 ∙ same) in
       (e.0, line_read k n (bytes ++ 10 ∷ more) ended (inl e.1), refl, h.3 ∙ fine, rw h.2 e.2)
@@ -45,7 +45,7 @@ module _ {O : Type 0} (units : ScriptUnits) (object : O → Object units) (inter
   run_past_ends number b more ended all same = let e = past_ends _ _ _ _ _ _ bytes start now s b more all short in rw same (e.0, tt, refl, refl, e.1)
 
   -- the last line isn't carried out
-  pub end_ends : (fault : RunFault) (number : ℕ) (later : Option (List ℕ)) (before bad : Bool) → length bytes ≤ 67108864 → number ≡ length (cut bytes).full + 1 → before ≡ false → Fails units object fault interpreter number (cut bytes).rest now later before bad → EndsAs units fault bytes start later true false bad
+  pub end_ends : (fault : RunError) (number : ℕ) (later : Option (List ℕ)) (before bad : Bool) → length bytes ≤ 67108864 → number ≡ length (cut bytes).full + 1 → before ≡ false → Fails units object fault interpreter number (cut bytes).rest now later before bad → EndsAs units fault bytes start later true false bad
   end_ends (Script n k) number later before bad room same fine h =
       let e = end_script _ _ _ _ _ _ bytes start now s n k room short h.0 (h.1 ∙ same) in
       (e.0, line_read k n bytes true (inr refl), refl, h.3 ∙ fine, rw h.2 e.1)
@@ -60,25 +60,25 @@ module _ {O : Type 0} (units : ScriptUnits) (object : O → Object units) (inter
   pub run_end_well : (c : Option Command) (later : Option (List ℕ)) (bad : Bool) → length bytes ≤ 67108864 → command_of (listed units) interpreter.begun (cut bytes).rest ≡ Ok c → Appends now later (text_with (answer units) (state_of object interpreter.session) c) → bad ≡ false → EndsWell units bytes start later true false bad
   run_end_well c later bad room says told fine = let e = end_well _ _ _ _ _ _ bytes start now s c later room short says told in (refl, refl, fine, e.0, e.1)
 
--- a line has more bytes than it may have
+-- a line has more bytes than a line may have
 pub run_long_ends : {O : Type 0} (units : ScriptUnits) (object : O → Object units) (interpreter : Interpreter O) (bytes : List ℕ) (start now : Option (List ℕ)) → Tells units object interpreter bytes start now → (number : ℕ) (more : List ℕ) (ended : Bool) → length bytes ≤ 67108864 → number ≡ length (cut bytes).full + 1 → 4096 < length (cut bytes).rest → EndsAs units (Script number LineTooLong) (bytes ++ more) start now ended false false
 run_long_ends units object interpreter bytes start now s number more ended room same long = let e = long_ends _ _ _ _ _ _ bytes start now s more room long in rw same (e.0, tt, refl, refl, e.1)
 
--- what is kept of a line that isn't too long is the line
+-- if a line isn't too long, all of it is kept
 pub whole_line : (line rest : List ℕ) → line ≡ take 4097 rest → length rest ≤ 4096 → line ≡ rest
 whole_line line rest kept short = kept ∙ take_all 4097 rest (omega (arith, short))
 
--- what holds of the error, and what follows from it
+-- if P holds of the error and Q follows from it, Q holds
 pub err_weaker : {T E : Type 0} (P Q : E → Type 0) (r : Result T E) → ((e : E) → P e → Q e) → IfErr r P → IfErr r Q
 err_weaker P Q (Ok x) f h = tt
 err_weaker P Q (Err e) f h = f e h
 
--- a call that gave no byte has come to the end
+-- a read that gave no byte has come to the end
 pub or_true : (b : Bool) (n : ℕ) → n ≡ 0 → (b || (n == 0)) ≡ true
 or_true true n h = refl
 or_true false n h = rw h refl
 
--- what holds of a success, and what follows from it
+-- if P holds of the success and Q follows from it, Q holds
 pub ok_weaker : {T E : Type 0} (P Q : Type 0) (r : Result T E) → (P → Q) → OnOk r P → OnOk r Q
 ok_weaker P Q (Ok x) f h = f h
 ok_weaker P Q (Err e) f h = tt

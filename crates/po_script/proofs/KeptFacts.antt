@@ -1,4 +1,4 @@
--- What is carried out on an object leaves its facts as they are.
+-- Operations on an object leave its facts as they are.
 use Rattle.std.proofs.Common.{◌≡◌, ℕ, ◌+◌, Bool, true, false, cond, ◌&&◌, List, [], ◌∷◌, Option, Some, None, Result, Ok, Err, refl, sym, subst, ◌∙◌}
 use Rattle.std.specs.Prelude.{find}
 use Rattle.po_unit.specs.Meaning.{Meaning, IsLawful, SameNumbers}
@@ -7,21 +7,21 @@ use Rattle.po_unit.specs.declared.outcome.Outcome.TheVariants.{Complete, Raise, 
 use Rattle.po_calls.specs.declared.call.Call.{Call}
 use Rattle.po_calls.specs.declared.end.End.TheVariants.{Cancelled, ProgramError}
 use Rattle.po_history.specs.declared.event.Event.{Event}
-use Rattle.po_history.specs.declared.event.Event.TheVariants.{Issue, Ran, Abort, Tick, Final, Serve, Break, Expire}
+use Rattle.po_history.specs.declared.event.Event.TheVariants.{Issue, Ran, Cancel, Tick, Final, Serve, Break, Expire}
 use Rattle.po_engine.specs.WaitingCalls.{is_on, has_number, mark}
 use Rattle.std.specs.Prelude.{map, not, count_by}
 use Rattle.po_core.specs.declared.refusal.Refusal.{Refusal}
 use Rattle.po_engine.specs.ObjectState.{ObjectState, counts_in, barrier_in}
-use Rattle.po_core.specs.ProtectedAction.{inner_events, begun, after_action, after_abort_of, without_event}
-use Rattle.po_engine.specs.Step.{is_full, end_call, queue, enter, conclude, run_body, arrive, take_out, serve, cancel, abort, step, replay}
+use Rattle.po_core.specs.ProtectedAction.{inner_events, begun, after_action, after_attempt_of, without_event}
+use Rattle.po_engine.specs.Step.{is_full, end_call, queue, enter, conclude, run_body, arrive, take_out, serve, cancel, attempt_cancel, step, replay}
 use Rattle.po_core.specs.View.{View}
 use Rattle.po_language.specs.declared.command.Operation.{Operation}
-use Rattle.po_language.specs.declared.command.Operation.TheVariants.{Call as CallEntry, Run, Read, Abort as AbortCall, Tick as MoveClock, Finalize, Show}
+use Rattle.po_language.specs.declared.command.Operation.TheVariants.{Call as CallEntry, Procedure, Function, Cancel as CancelCall, Tick as MoveClock, Finalize, Show}
 use Rattle.po_script.specs.Facts.{Facts, AreFacts}
 use Rattle.po_script.specs.Operations.{refusal_of, done, view_by, after_operation}
 
 module _ {S : Type 0} (m : Meaning S ℕ) (law : IsLawful m) where
-  -- the unit has as many entries, procedures and functions as in the other state
+  -- the unit has the same number of entries, procedures and functions in both states
   abbrev Same : ObjectState S ℕ → ObjectState S ℕ → Type 0
   Same s t = SameNumbers m s.unit t.unit
 
@@ -62,15 +62,15 @@ module _ {S : Type 0} (m : Meaning S ℕ) (law : IsLawful m) where
     cancel_unit s n None = refl
     cancel_unit s n (Some x) = refl
 
-    abort_unit : (s : ObjectState S ℕ) (n : ℕ) (found : Option (Call ℕ)) → (abort s n found).unit ≡ s.unit
-    abort_unit s n None = refl
-    abort_unit s n (Some x) = same_if x.without_abort s (record s { waiting = map (mark n) s.waiting }) (cancel s n (Some x)) refl refl
+    attempt_unit : (s : ObjectState S ℕ) (n : ℕ) (found : Option (Call ℕ)) → (attempt_cancel s n found).unit ≡ s.unit
+    attempt_unit s n None = refl
+    attempt_unit s n (Some x) = same_if x.without_abort s (record s { waiting = map (mark n) s.waiting }) (cancel s n (Some x)) refl refl
 
     step_same : (s : ObjectState S ℕ) (event : Event ℕ) → Same s (step m limit s event)
     step_same s (Issue n owner e v deadline) =
         arrive_same (record s { next = s.next + 1 }) (record { number = n; owner = owner; entry = e; value = v; without_abort = false; aborted = false; deadline = deadline }) (barrier_in m s e)
     step_same s (Ran owner op v reply) = law.procedure_numbers s.unit op v (counts_in m s)
-    step_same s (Abort n) = same s (step m limit s (Abort n)) (abort_unit s n (find (has_number n) s.waiting))
+    step_same s (Cancel n) = same s (step m limit s (Cancel n)) (attempt_unit s n (find (has_number n) s.waiting))
     step_same s (Tick t) = same s s refl
     step_same s Final = same s s refl
     step_same s (Serve e) = serve_same s e (find (is_on e) s.waiting)
@@ -90,19 +90,19 @@ module _ {S : Type 0} (m : Meaning S ℕ) (law : IsLawful m) where
         let moved = replay_same view.setup.max_queue view.state (own ∷ inner_events m (begun m view own)) in
         record { shape = are.shape; procedures = moved.procedures ∙ are.procedures; functions = moved.functions ∙ are.functions }
 
-    abort_if : (b : Bool) (view : View S ℕ) (n : ℕ) → AreFacts m facts view → AreFacts m facts (cond b (without_event view) (after_action m view (Abort n)))
-    abort_if true view n are = record { shape = are.shape; procedures = are.procedures; functions = are.functions }
-    abort_if false view n are = action_facts view (Abort n) are
+    attempt_if : (b : Bool) (view : View S ℕ) (n : ℕ) → AreFacts m facts view → AreFacts m facts (cond b (without_event view) (after_action m view (Cancel n)))
+    attempt_if true view n are = record { shape = are.shape; procedures = are.procedures; functions = are.functions }
+    attempt_if false view n are = action_facts view (Cancel n) are
 
-    abort_facts : (view : View S ℕ) (n : ℕ) (found : Option (Call ℕ)) → AreFacts m facts view → AreFacts m facts (after_abort_of m view n found)
-    abort_facts view n None are = are
-    abort_facts view n (Some x) are = abort_if (x.without_abort && x.aborted) view n are
+    attempt_facts : (view : View S ℕ) (n : ℕ) (found : Option (Call ℕ)) → AreFacts m facts view → AreFacts m facts (after_attempt_of m view n found)
+    attempt_facts view n None are = are
+    attempt_facts view n (Some x) are = attempt_if (x.without_abort && x.aborted) view n are
 
     done_facts : (view : View S ℕ) (operation : Operation) → AreFacts m facts view → AreFacts m facts (done m view operation)
     done_facts view (CallEntry entry value deadline) are = action_facts view _ are
-    done_facts view (Run op value) are = action_facts view _ are
-    done_facts view (Read op value) are = are
-    done_facts view (AbortCall n) are = abort_facts view n (find (has_number n) view.state.waiting) are
+    done_facts view (Procedure op value) are = action_facts view _ are
+    done_facts view (Function op value) are = are
+    done_facts view (CancelCall n) are = attempt_facts view n (find (has_number n) view.state.waiting) are
     done_facts view (MoveClock time) are = action_facts view _ are
     done_facts view Finalize are = action_facts view _ are
     done_facts view Show are = are

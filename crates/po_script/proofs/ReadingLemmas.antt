@@ -1,4 +1,4 @@
--- What lines say that are put together, and what their commands lead to.
+-- What lines say that are put together, and what follows from their commands.
 use Rattle.std.proofs.Common.{◌≡◌, ℕ, suc, ◌+◌, List, [], ◌∷◌, ◌++◌, length, Option, Some, None, Result, Ok, Err, refl, sym, ap, ◌∙◌, arith, append_assoc}
 use Rattle.po_script.specs.Script.{Reading, reading, with_line, prepend, line_of, begun_after}
 use Rattle.po_script.specs.AnySession.{begun_by, state_by, text_by}

@@ -1,4 +1,4 @@
--- A refusal that isn't want of memory is the one that is stated, where memory is taken for each call and each event.
+-- If memory is taken for each call and each event, a refusal other than for memory is the one that is stated.
 use Rattle.std.proofs.Common.{◌≡◌, ℕ, true, false, sym, ap, ◌∙◌, List, Option, Some, None, unwrap_or}
 use Rattle.po_core.specs.declared.refusal.Refusal.{Refusal}
 use Rattle.po_core.specs.declared.refusal.Refusal.TheVariants.{OutOfMemory}
@@ -19,6 +19,6 @@ call_refused_or capacity o tickets r none h k = stated_or o r (call_or_memory ca
 pub tick_refused_or : (capacity : Option ℕ) (o : Option Refusal) (place : ℕ) (r : Refusal) → capacity ≡ None → MayRefuse capacity (or_else o (if_uncounted capacity place)) r → is_memory r ≡ false → o ≡ Some r
 tick_refused_or capacity o place r none h k = stated_or o r (tick_or_memory capacity o place r none h) k
 
--- what is allowed isn't refused by the state of the object
+-- if nothing refuses, the state of the object doesn't
 pub let_pass : (o other : Option Refusal) → or_else o other ≡ None → o ≡ None
 let_pass o other h = (else_none o other h).0

@@ -1,4 +1,4 @@
--- What further bytes leave of a script's reading.
+-- What stays of a script's reading as bytes are added.
 use Rattle.std.proofs.Common.{◌≡◌, ◌⊎◌, ℕ, ◌+◌, ◌-◌, ◌<◌, ◌≤◌, Bool, true, false, cond, ltb, List, [], ◌∷◌, ◌++◌, length, take, Option, Some, None, Err, refl, sym, ap, ◌∙◌, inl, inr, arith, append_assoc, length-append}
 use Rattle.std.proofs.lemmas.Bool.{cases_Bool, lt-ltb, le-ltb}
 use Rattle.std.proofs.lemmas.List.{take_at}
@@ -43,7 +43,7 @@ module _ (units : UnitList) where
         (r.0, ap (λ (q : Reading). q.commands) (script_within-all most (bytes ++ more) within) ∙ ap (λ ls. (reading units None 1 (ls ++ last)).commands) m.1 ∙ ap (λ ls. (reading units None 1 ls).commands) (append_assoc (cut bytes).full m.0 last) ∙ r.1)
   ]
 
-  -- a fault stays the first
+  -- the first fault stays the first
   pub script_fault : (most : ℕ) (bytes more : List ℕ) (f : ℕ × FaultKind) → length bytes ≤ most → (whole_lines units bytes).fault ≡ Some f → script_within units most (bytes ++ more) ≡ whole_lines units bytes
   script_fault most bytes more f h bad = elim (cases_Bool (ltb most (length (bytes ++ more)))) [
     | inl past ↦
@@ -59,7 +59,7 @@ module _ (units : UnitList) where
   past_limit-fine : (r : Reading) (c : Cut) (k : FaultKind) → r.fault ≡ None → (cond (ltb 4096 (length c.rest)) LineTooLong ScriptTooLong) ≡ k → past_limit r.commands r.fault c ≡ record { commands = r.commands; fault = Some (length c.full + 1, k) }
   past_limit-fine r c k fine e = ap (λ (o : Option (ℕ × FaultKind)). past_limit r.commands o c) fine ∙ ap (λ (k : FaultKind). let q : Reading = record { commands = r.commands; fault = Some (length c.full + 1, k) } in q) e
 
-  -- past the most bytes
+  -- more bytes than a script may have
   pub script_past : (most : ℕ) (bytes : List ℕ) (x : ℕ) (more : List ℕ) → length bytes ≡ most → (whole_lines units bytes).fault ≡ None → length (cut bytes).rest ≤ 4096 → script_within units most (bytes ++ x ∷ more) ≡ record { commands = (whole_lines units bytes).commands; fault = Some (length (cut bytes).full + 1, ScriptTooLong) }
   script_past most bytes x more all fine short =
       let past = lt-ltb most (length (bytes ++ x ∷ more)) (omega (arith, length-append bytes (x ∷ more))) in
@@ -68,14 +68,14 @@ module _ (units : UnitList) where
   long_line : (begun : Option UnitChoice) (line : List ℕ) → 4096 < length line → line_of units begun line ≡ Err LineTooLong
   long_line begun line h = simp (lt-ltb 4096 (length line) h) refl
 
-  -- a line of too many bytes that a newline ends, or the end
+  -- a line with too many bytes, ended by a newline or by the end
   long_read : (bytes line : List ℕ) (ls : List (List ℕ)) → (whole_lines units bytes).fault ≡ None → 4096 < length line → reading units None 1 ((cut bytes).full ++ line ∷ ls) ≡ record { commands = (whole_lines units bytes).commands; fault = Some (length (cut bytes).full + 1, LineTooLong) }
   long_read bytes line ls fine h =
       let one = reading-push units None 1 (cut bytes).full line fine ∙ ap (extend (whole_lines units bytes) (1 + length (cut bytes).full)) (long_line _ line h) in
       let n : 1 + length (cut bytes).full ≡ length (cut bytes).full + 1 = omega arith in
       ap (λ ls. reading units None 1 ls) (sym (append_assoc (cut bytes).full (line ∷ []) ls)) ∙ reading_kept units None 1 ((cut bytes).full ++ line ∷ []) ls (1 + length (cut bytes).full, LineTooLong) (ap (λ (q : Reading). q.fault) one) ∙ one ∙ ap (λ n. let q : Reading = record { commands = (whole_lines units bytes).commands; fault = Some (n, LineTooLong) } in q) n
 
-  -- a line of too many bytes is ended, or is the rest
+  -- a line with too many bytes is ended, or is the rest
   long_cut : (bytes zs : List ℕ) → 4096 < length (cut bytes).rest → ((line : List ℕ) × (ls : List (List ℕ)) × (4096 < length line) × ((cut (bytes ++ zs)).full ≡ (cut bytes).full ++ line ∷ ls)) ⊎ (((cut (bytes ++ zs)).full ≡ (cut bytes).full) × (4096 < length (cut (bytes ++ zs)).rest))
   long_cut bytes zs long = go (cut zs).full (cut-append bytes zs)
     where
@@ -83,7 +83,7 @@ module _ (units : UnitList) where
       go [] e = inr (ap (λ (c : Cut). c.full) e, omega (arith, long, ap (λ (c : Cut). length c.rest) e, length-append (cut bytes).rest (cut zs).rest))
       go (l ∷ ls) e = inl ((cut bytes).rest ++ l, ls, omega (arith, long, length-append (cut bytes).rest l), ap (λ (c : Cut). c.full) e)
 
-  -- past the most bytes of a line
+  -- more bytes than a line may have
   pub script_long : (most : ℕ) (bytes more : List ℕ) → length bytes ≤ most → (whole_lines units bytes).fault ≡ None → 4096 < length (cut bytes).rest → script_within units most (bytes ++ more) ≡ record { commands = (whole_lines units bytes).commands; fault = Some (length (cut bytes).full + 1, LineTooLong) }
   script_long most bytes more h fine long =
       let f : ℕ × FaultKind = (length (cut bytes).full + 1, LineTooLong) in

@@ -1,4 +1,4 @@
--- The lines of entries one after another, and the names of a table.
+-- The lines of entries one after another, and the names in a table.
 use Rattle.std.proofs.Common.{◌≡◌, ℕ, zero, suc, ◌+◌, ◌<◌, ◌≤◌, get_or, List, [], ◌∷◌, ◌++◌, take, length, flat_map, refl, ap, ◌∙◌, arith, append-nil, Some}
 use Rattle.std.specs.List.{slice_get}
 use Rattle.std.specs.Borrow.{Bor}
@@ -31,13 +31,13 @@ take_all (y ∷ ys) (suc k) h = ap (λ l. y ∷ l) (take_all ys k (omega (arith,
 pub flat_map_all : {X A : Type 0} (f : X → List A) (xs : List X) (k : ℕ) → length xs ≤ k → flat_map f (take k xs) ≡ flat_map f xs
 flat_map_all f xs k h = ap (flat_map f) (take_all xs k h)
 
--- a name that the table has
+-- a name that is in the table
 pub name_there : (names : List (Bor (List ℕ))) (k : ℕ) (d : Bor (List ℕ)) → k < length names → (get_or names k d).now ≡ name_at (texts_of names) k
 name_there [] k d h = absurd (omega (arith, h))
 name_there (n ∷ ns) zero d h = refl
 name_there (n ∷ ns) (suc k) d h = name_there ns k d (omega (arith, h))
 
--- and one that it hasn't
+-- a number past the table has no name
 pub name_past : (names : List (Bor (List ℕ))) (k : ℕ) → length names ≤ k → name_at (texts_of names) k ≡ []
 name_past [] k h = refl
 name_past (n ∷ ns) zero h = absurd (omega (arith, h))

@@ -1,4 +1,4 @@
--- Where a reading stands after one more byte, over any session.
+-- How far a reading has come after one more byte, over any session.
 use Rattle.std.proofs.Common.{◌≡◌, ℕ, ◌+◌, ◌≤◌, eqb, false, List, [], ◌∷◌, ◌++◌, length, Option, Some, None, Result, Ok, refl, sym, ap, ◌∙◌, arith}
 use Rattle.std.proofs.lemmas.Bool.{le-ltb}
 use Rattle.std.proofs.lemmas.List.{append-nil, length_push}
@@ -15,7 +15,7 @@ use Rattle.po_language.specs.declared.command.FaultKind.{FaultKind}
 use Rattle.po_language.specs.Units.{UnitList}
 
 module _ (units : UnitList) where
-  -- what a line says that is not too long
+  -- what a line says if it isn't too long
   pub line_of-short : (begun : Option UnitChoice) (line : List ℕ) → length line ≤ 4096 → line_of units begun line ≡ command_of units begun line
   line_of-short begun line short = simp (le-ltb 4096 (length line) short) refl
 

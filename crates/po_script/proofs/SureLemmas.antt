@@ -1,4 +1,4 @@
--- Behind any commands the object has the facts of the unit that they began, and refuses what it is sure to refuse.
+-- After any commands the object has the facts of the unit that they began, and refuses what it is sure to refuse.
 use Rattle.std.proofs.Common.{◌≡◌, ℕ, zero, suc, List, [], ◌∷◌, Option, Some, None, refl, ap, subst, inl, inr}
 use Rattle.po_core.specs.View.{View}
 use Rattle.po_core.specs.declared.refusal.Refusal.{Refusal}
@@ -18,7 +18,7 @@ use Rattle.po_script.specs.Units.ScriptUnits.{last, before}
 use Rattle.po_script.proofs.FactLemmas.{refuses_surely}
 use Rattle.po_script.proofs.KeptFacts.{kept_facts}
 
--- They are the facts of this object, of whichever unit it is.
+-- The facts are those of this object, whichever unit it is of.
 abbrev AreFactsOn : (units : ScriptUnits) → Facts → Object units → Type 0
 AreFactsOn (last S unit m) facts view = AreFacts m facts view
 AreFactsOn (before S unit m units) facts (inl view) = AreFacts m facts view
@@ -34,7 +34,7 @@ facts_kept (last S unit m) law facts view operation are = kept_facts m law facts
 facts_kept (before S unit m units) law facts (inl view) operation are = kept_facts m law.0 facts view operation are
 facts_kept (before S unit m units) law facts (inr object) operation are = facts_kept units law.1 facts object operation are
 
--- What an object does that refuses the operation.
+-- What an object does if it refuses the operation.
 abbrev RefusesOn : (units : ScriptUnits) → Object units → Operation → Refusal → Type 0
 RefusesOn units object operation refusal =
     (refusal_on units object operation ≡ Some refusal)
@@ -50,7 +50,7 @@ refused_on (before S unit m units) facts (inr object) operation refusal are sure
     let r = refused_on units facts object operation refusal are sure in (r.0, ap (λ (v : Object units). let o : Object (before S unit m units) = inr v in o) r.1, r.2)
 
 module _ (units : ScriptUnits) (law : AreLawful units) where
-  -- the session has an object with the facts of the unit that was begun, if one was
+  -- if a unit was begun, the session has an object with its facts
   abbrev HasFacts : Option UnitChoice → SessionState units → Type 0
   HasFacts None s = Unit {0}
   HasFacts (Some unit) s = (object : Object units) × (s ≡ Some object) × AreFactsOn units (facts_at units unit.number unit.size) object

@@ -1,4 +1,5 @@
--- How far a reading has come, over any session: what a command makes of a state, and what it answers there.
+-- SPDX-License-Identifier: MIT
+-- How far a reading has come, over any session: how a command changes the state, and what it answers in it.
 use Rattle.std.specs.Prelude.{ℕ, ◌≡◌, List, [], ◌∷◌, ◌++◌, Option, Some, None}
 use Rattle.std.specs.Io.KnownBytes.{Appends}
 use Rattle.po_language.specs.Units.{UnitList}
@@ -21,7 +22,7 @@ abbrev pub begun_by : Option UnitChoice → List Command → Option UnitChoice
 begun_by begun [] = begun
 begun_by begun (c ∷ cs) = begun_by (begun_after begun c) cs
 
--- the unit that is begun, the state, and what is answered after a line's command, if it has one
+-- what a line does, if it has a command: the unit begun after it, the state after it, and the answer
 abbrev pub begun_with : Option UnitChoice → Option Command → Option UnitChoice
 begun_with begun None = begun
 begun_with begun (Some c) = begun_after begun c
@@ -34,7 +35,8 @@ abbrev pub text_with : {S : Type 0} → (S → Command → List ℕ) → S → O
 text_with answer s None = []
 text_with answer s (Some c) = answer s c
 
--- These bytes were cut so far, and all their whole lines were carried out.
+-- `bytes` were cut so far, and all whole lines in them were carried out. `start` and `now` are what the writer had at first and
+-- has now.
 pub record StandsBy (units : UnitList) {S : Type 0} (after : S → Command → S) (answer : S → Command → List ℕ) (opening : S)
     (begun : Option UnitChoice) (state : S) (bytes : List ℕ) (start now : Option (List ℕ)) : Type 0 where
   pub fine : (whole_lines units bytes).fault ≡ None

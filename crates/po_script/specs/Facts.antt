@@ -1,4 +1,5 @@
--- What is known of each object of a unit, whatever it is used for, and which operations it refuses for that alone.
+-- SPDX-License-Identifier: MIT
+-- What is known of each object of a unit in any state, and which operations it refuses because of that alone.
 use Rattle.std.specs.Prelude.{ℕ, zero, suc, ◌≡◌, List, Option, Some, None, nat_le, if◌then◌else◌}
 use Rattle.po_unit.specs.declared.decl.Decl.{Decl}
 use Rattle.po_unit.specs.Meaning.{Meaning}
@@ -8,7 +9,7 @@ use Rattle.po_core.specs.Refusals.{entry_refusal}
 use Rattle.po_core.specs.View.{View}
 use Rattle.po_classic_units.specs.ScriptUnit.{KnownUnit}
 use Rattle.po_language.specs.declared.command.Operation.{Operation}
-use Rattle.po_language.specs.declared.command.Operation.TheVariants.{Call, Run, Read}
+use Rattle.po_language.specs.declared.command.Operation.TheVariants.{Call, Procedure, Function}
 use Rattle.po_script.specs.Lines.{refused_line}
 use Rattle.po_script.specs.Operations.{refusal_of, after_operation, operation_lines}
 use Rattle.po_script.specs.Units.{ScriptUnits}
@@ -29,30 +30,30 @@ module _ {S : Type 0} where
     function_count = m.functions (unit.opening size);
   }
 
-  -- They are the facts of this object. A body or a procedure leaves them as they are.
+  -- The facts are those of this object. A body or a procedure leaves them as they are.
   pub record AreFacts (m : Meaning S ℕ) (facts : Facts) (view : View S ℕ) : Type 0 where
     pub shape : view.setup.shape ≡ facts.shape
     pub procedures : m.procedures view.state.unit ≡ facts.procedure_count
     pub functions : m.functions view.state.unit ≡ facts.function_count
 
--- the facts of the objects of this size of the unit with this number; the numbers behind the last unit's are its numbers too
+-- the facts of the objects of this size of the unit with this number; numbers past the last unit's mean the last unit too
 abbrev pub facts_at : ScriptUnits → ℕ → ℕ → Facts
 facts_at (last S unit m) n size = facts_of unit m size
 facts_at (before S unit m units) zero size = facts_of unit m size
 facts_at (before S unit m units) (suc n) size = facts_at units n size
 
--- no procedure or function has the number, where there are so many
+-- the refusal of operation number `op` if there are `count` operations: none if it is one of them
 abbrev pub operation_refusal : ℕ → ℕ → Option Refusal
 operation_refusal count op = if nat_le count op then Some NoSuchOperation else None
 
--- the refusal that the operation meets whatever was carried out before it: no other refusal comes before this one
+-- the refusal that the operation meets in any state of the object: no other refusal comes before this one
 abbrev pub sure_refusal : Facts → Operation → Option Refusal
 sure_refusal facts (Call entry value deadline) = entry_refusal facts.shape entry None
-sure_refusal facts (Run op value) = operation_refusal facts.procedure_count op
-sure_refusal facts (Read op value) = operation_refusal facts.function_count op
+sure_refusal facts (Procedure op value) = operation_refusal facts.procedure_count op
+sure_refusal facts (Function op value) = operation_refusal facts.function_count op
 sure_refusal facts other = None
 
--- Where the operation has such a refusal, each object with these facts refuses it with that one, stays as it is, and answers
+-- If the operation has such a refusal, each object with these facts refuses it with that refusal, stays as it is, and answers
 -- by the line of that refusal.
 abbrev pub RefusesSurely : {S : Type 0} → Meaning S ℕ → Facts → Operation → Type 0
 RefusesSurely {S} m facts operation =

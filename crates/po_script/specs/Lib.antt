@@ -1,3 +1,4 @@
+-- SPDX-License-Identifier: MIT
 pub mod AnySession
 pub mod Chunk
 pub mod Cutter

@@ -1,3 +1,4 @@
+-- SPDX-License-Identifier: MIT
 -- The lines that answer commands. Each ends with the byte 10, and numbers are decimal without leading zeros.
 use Rattle.std.specs.Prelude.{codes, ℕ, ℤ, List, [], ◌∷◌, ◌++◌, flat_map, unwrap_or, slice_get, Result, Ok, Err, Option, Some, None}
 use Rattle.std.specs.Fmt.{decimal, signed_decimal}
@@ -6,11 +7,11 @@ use Rattle.po_engine.specs.declared.ended.Ended.{Ended}
 use Rattle.po_calls.specs.declared.end.End.{End}
 use Rattle.po_calls.specs.declared.end.End.TheVariants.{Completed, Raised, Cancelled, ProgramError}
 use Rattle.po_core.specs.declared.refusal.Refusal.{Refusal}
-use Rattle.po_core.specs.declared.aborted.Aborted.{Aborted}
-use Rattle.po_core.specs.declared.aborted.Aborted.TheVariants.{Kept, Cancelled as CallCancelled}
+use Rattle.po_core.specs.declared.attempt.Attempt.{Attempt}
+use Rattle.po_core.specs.declared.attempt.Attempt.TheVariants.{Kept, Cancelled as CallCancelled}
 use Rattle.po_core.specs.RefusalNumbers.{refusal_number}
 
--- the line of the call with number n, which ended in this way
+-- the line of call n, which ended in this way
 abbrev pub end_line : ℕ → End ℕ → List ℕ
 end_line n (Completed v) = decimal n ++ codes " done " ++ decimal v ++ 10 ∷ []
 end_line n (Raised k) = decimal n ++ codes " raised " ++ decimal k ++ 10 ∷ []
@@ -47,10 +48,10 @@ abbrev pub value_line : Result ℕ ℕ → List ℕ
 value_line (Ok v) = codes "value " ++ decimal v ++ 10 ∷ []
 value_line (Err k) = raised_line k
 
--- the line of an attempt to cancel a call: a cancelled one has its own line, as a call that ended
-abbrev pub abort_line : Aborted → List ℕ
-abort_line Kept = codes "kept" ++ 10 ∷ []
-abort_line CallCancelled = []
+-- the line of an attempt to cancel a call: none if the call was cancelled, since it has a line as a call that ended
+abbrev pub attempt_line : Attempt → List ℕ
+attempt_line Kept = codes "kept" ++ 10 ∷ []
+attempt_line CallCancelled = []
 
 -- the line of the clock
 abbrev pub clock_line : ℕ → List ℕ
@@ -73,7 +74,7 @@ index_text (Some index) = codes "(" ++ signed_decimal index ++ codes ")"
 abbrev pub name_at : List (List ℕ) → ℕ → List ℕ
 name_at names number = unwrap_or (slice_get names number) []
 
--- the line of an entry on which so many calls are queued (9.9)
+-- the line of an entry with `count` queued calls (9.9)
 abbrev pub count_line : List (List ℕ) → EntryRef → ℕ → List ℕ
 count_line names reference count =
-    name_at names reference.entry ++ index_text reference.index ++ codes " " ++ decimal count ++ 10 ∷ []
+    name_at names reference.declaration ++ index_text reference.index ++ codes " " ++ decimal count ++ 10 ∷ []

@@ -1,3 +1,4 @@
+-- SPDX-License-Identifier: MIT
 -- What a script says: its lines, and its commands up to the first fault.
 use Rattle.std.specs.Prelude.{ℕ, ◌+◌, nat_lt, ◌==◌, Bool, true, false, List, [], ◌∷◌, ◌++◌, length, take, Option, Some, None, Result, Ok, Err, if◌then◌else◌}
 use Rattle.po_language.specs.Commands.{command_of}
@@ -8,17 +9,17 @@ use Rattle.po_language.specs.declared.command.Command.TheVariants.{Begin}
 use Rattle.po_language.specs.declared.command.FaultKind.{FaultKind}
 use Rattle.po_language.specs.declared.command.FaultKind.TheVariants.{ScriptTooLong, LineTooLong}
 
--- the lines that a newline ends, and the bytes behind the last newline
+-- the lines that a newline ends, and the bytes after the last newline
 pub record Cut : Type 0 where
   pub full : List (List ℕ)
   pub rest : List ℕ
 
--- a byte of a line, before what follows it
+-- a byte of a line, put before what follows it
 abbrev pub join : ℕ → List (List ℕ) → List ℕ → Cut
 join b [] rest = record { full = []; rest = b ∷ rest }
 join b (line ∷ lines) rest = record { full = (b ∷ line) ∷ lines; rest = rest }
 
--- a byte before what follows it
+-- a byte, put before what follows it
 abbrev pub onto : ℕ → Cut → Cut
 onto b c = if b == 10 then record { full = [] ∷ c.full; rest = c.rest } else join b c.full c.rest
 
@@ -41,17 +42,17 @@ pub record Reading : Type 0 where
   pub commands : List Command
   pub fault : Option (ℕ × FaultKind)
 
--- the command, before what later lines say
+-- the command, put before what later lines say
 abbrev pub prepend : Command → Reading → Reading
 prepend c later = record { commands = c ∷ later.commands; fault = later.fault }
 
--- line n by what it says, and what later lines say by the unit that is then begun
+-- line n, by what it says, and then what later lines say, by the unit that is then begun
 abbrev pub with_line : ℕ → Option UnitChoice → Result (Option Command) FaultKind → (Option UnitChoice → Reading) → Reading
 with_line n begun (Err kind) later = record { commands = []; fault = Some (n, kind) }
 with_line n begun (Ok None) later = later begun
 with_line n begun (Ok (Some c)) later = prepend c (later (begun_after begun c))
 
--- what the lines from number n on say, where this unit is begun
+-- what the lines from number n on say if this unit is begun
 abbrev pub reading : UnitList → Option UnitChoice → ℕ → List (List ℕ) → Reading
 reading units begun n [] = record { commands = []; fault = None }
 reading units begun n (line ∷ lines) = with_line n begun (line_of units begun line) (λ later. reading units later (n + 1) lines)
@@ -60,12 +61,12 @@ reading units begun n (line ∷ lines) = with_line n begun (line_of units begun 
 abbrev pub whole_lines : UnitList → List ℕ → Reading
 whole_lines units bytes = reading units None 1 (cut bytes).full
 
--- the first fault of these lines, or that the line behind them goes past its most bytes or the script's
+-- the first fault of these lines, or that the line after them has more bytes than a line or than the script may have
 abbrev pub past_limit : List Command → Option (ℕ × FaultKind) → Cut → Reading
 past_limit commands (Some fault) c = record { commands = commands; fault = Some fault }
 past_limit commands None c = record { commands = commands; fault = Some (length c.full + 1, if nat_lt 4096 (length c.rest) then LineTooLong else ScriptTooLong) }
 
--- what a script of at most so many bytes says; what stands behind the last newline is a line too
+-- what a script of at most `most` bytes says; the bytes after the last newline are a line too
 abbrev pub script_within : UnitList → ℕ → List ℕ → Reading
 script_within units most bytes =
     if nat_lt most (length bytes)
@@ -76,7 +77,7 @@ script_within units most bytes =
 abbrev pub script_of : UnitList → List ℕ → Reading
 script_of units bytes = script_within units 67108864 bytes
 
--- the commands of the lines that were read whole: a newline stands behind each, or the end
+-- the commands of the lines that were read whole, each up to its newline or to the end of the script
 abbrev pub commands_read : UnitList → List ℕ → Bool → List Command
 commands_read units bytes true = (script_of units bytes).commands
 commands_read units bytes false = (whole_lines units bytes).commands

@@ -1,4 +1,5 @@
--- What is refused in a run of a script, whatever was carried out before it.
+-- SPDX-License-Identifier: MIT
+-- What is refused in a run of a script, whatever was carried out before.
 use Rattle.std.specs.Prelude.{◌≡◌, List, Some, None}
 use Rattle.po_core.specs.declared.refusal.Refusal.{Refusal}
 use Rattle.po_language.specs.declared.command.Command.{Command}
@@ -11,7 +12,7 @@ use Rattle.po_script.specs.Lines.{refused_line}
 use Rattle.po_script.specs.Session.{SessionState, opening_state}
 use Rattle.po_script.specs.Units.{ScriptUnits, Object, refusal_on, after_on, lines_on}
 
--- The session has an object, which refuses the operation with this refusal, stays as it is, and answers by its line.
+-- The session has an object. It refuses the operation with this refusal, stays as it is, and answers by the refusal's line.
 pub record Refuses (units : ScriptUnits) (s : SessionState units) (operation : Operation) (refusal : Refusal) : Type 0 where
   pub object : Object units
   pub present : s ≡ Some object
@@ -19,8 +20,8 @@ pub record Refuses (units : ScriptUnits) (s : SessionState units) (operation : O
   pub stays : after_on units object operation ≡ object
   pub answered : lines_on units object operation ≡ refused_line refusal
 
--- Behind these commands, where they began a unit, each operation is refused that has a sure refusal by the facts of that unit:
--- its object has them, whatever was carried out on it.
+-- If these commands began a unit, each operation that is sure to be refused by the facts of that unit is refused after them:
+-- the object has these facts, whatever was carried out on it.
 abbrev pub RefusesBehind : ScriptUnits → List Command → Type 0
 RefusesBehind units commands =
     (unit : UnitChoice) → begun_by None commands ≡ Some unit

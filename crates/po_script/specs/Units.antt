@@ -1,4 +1,5 @@
--- The units of scripts with what each means, and the objects of them.
+-- SPDX-License-Identifier: MIT
+-- The units of scripts, the meaning of each, and their objects.
 use Rattle.std.specs.Prelude.{ℕ, zero, suc, ◌⊎◌, List, Option}
 use Rattle.std.proofs.Common.{inl, inr}
 use Rattle.po_unit.specs.declared.decl.Decl.{Decl}
@@ -14,12 +15,12 @@ use Rattle.po_language.specs.declared.command.Beginning.{Beginning}
 use Rattle.po_language.specs.declared.command.Operation.{Operation}
 use Rattle.po_script.specs.Operations.{refusal_of, after_operation, operation_lines}
 
--- the units of scripts, in an order: one, or one before others; what scripts know of each, and what it means
+-- the units of scripts, in an order: one, or one before others; each with what scripts know of it and what it means
 pub data ScriptUnits : Type 1 where
   last : (S : Type 0) → KnownUnit S → Meaning S ℕ → ScriptUnits
   before : (S : Type 0) → KnownUnit S → Meaning S ℕ → ScriptUnits → ScriptUnits
 
--- what scripts know of them
+-- what scripts know of these units
 abbrev pub listed : ScriptUnits → UnitList
 listed (last S unit m) = last_name unit.names
 listed (before S unit m units) = name_before unit.names (listed units)
@@ -34,7 +35,7 @@ abbrev pub Object : ScriptUnits → Type 0
 Object (last S unit m) = View S ℕ
 Object (before S unit m units) = View S ℕ ⊎ Object units
 
--- what an object is made with: its calls are numbered from 1
+-- how an object is set up: its calls are numbered from 1
 abbrev pub setup_of : {S : Type 0} → S → List Decl → Order → Option ℕ → Setup S
 setup_of opening shape order max_queue = record {
   opening = opening;
@@ -45,13 +46,13 @@ setup_of opening shape order max_queue = record {
   first_place = 0;
 }
 
--- an object of the unit that was just made
+-- an object of the unit, just made
 abbrev pub made : {S : Type 0} → KnownUnit S → Beginning → View S ℕ
 made unit beginning =
     let opening = unit.opening beginning.unit.size in
     opening_view (setup_of opening (unit.declarations opening) beginning.order beginning.max_queue)
 
--- the object of the unit with this number as it is made; the numbers behind the last unit's are its numbers too
+-- the object of the unit with this number, just made; numbers past the last unit's mean the last unit too
 abbrev pub made_at : (units : ScriptUnits) → ℕ → Beginning → Object units
 made_at (last S unit m) n beginning = made unit beginning
 made_at (before S unit m units) zero beginning = inl (made unit beginning)

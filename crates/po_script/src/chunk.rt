@@ -1,17 +1,18 @@
-//! The bytes of a source, one after another.
+// SPDX-License-Identifier: MIT
+//! Gives the bytes of a source one after another.
 
 ghost use Rattle.std.specs.Prelude.{◌≡◌, ◌≢◌, ◌≤◌, ◌∷◌, [], List, Option, None, ℕ, drop, IfOk, OnOk, OnErr, true};
 ghost use Rattle.std.specs.Io.KnownBytes.{IsAtEnd};
 
 use po_streams::{IoFailed, Source};
 
-/// The bytes that a source gave last.
+/// The bytes of a source's latest read.
 #[derive(Drop)]
 pub(crate) struct Chunk {
     bytes: [u8; 4096],
-    /// How many of them the source gave.
+    /// How many bytes the source gave.
     count: usize,
-    /// How many of those were taken.
+    /// How many of them were taken.
     taken: usize,
     ghost given: { count ≤ 4096 },
     ghost within: { taken ≤ count },
@@ -20,7 +21,7 @@ pub(crate) struct Chunk {
 impl Chunk {
     ghost use Rattle.po_script.specs.Chunk.{pending, Given, IsNext, EndsAtNone};
 
-    /// Before the first read.
+    /// Returns a chunk before the first read.
     pub(crate) fn new() -> Chunk
         ensures { pending result ≡ [] }
     {
@@ -31,7 +32,7 @@ impl Chunk {
         }
     }
 
-    /// The next byte, which isn't taken yet, or that there is none. Reads where all that was given is taken.
+    /// Returns the next byte without taking it, or `None` at the end of the source. Reads if all given bytes are taken.
     pub(crate) fn peek<R: Source>(&mut self, reader: &mut R) -> Result<Option<u8>, IoFailed>
         ensures given { (bytes : List ℕ) (start : Option (List ℕ)) (first : Option ℕ)
             → Given (pending self.old) bytes start (R.left reader.old) first (R.reads reader.old)

@@ -1,4 +1,5 @@
-//! The bytes of a script, cut into lines.
+// SPDX-License-Identifier: MIT
+//! Cuts the bytes of a script into lines.
 
 ghost use Rattle.std.specs.Prelude.{◌≡◌, ◌+◌, ◌<◌, ◌≤◌, ◌∷◌, [], List, Option, ℕ, eqb, nat_lt, vec_len, vec_capacity, length, true, false, IfOk, OnOk, OnErr};
 ghost use Rattle.std.specs.Io.KnownBytes.{IsAtEnd};
@@ -8,36 +9,36 @@ use crate::chunk::Chunk;
 use po_streams::{IoFailed, Source};
 use std::alloc::{AllocError, Global};
 
-/// The most bytes of a line without its newline.
+/// The most bytes that a line may have, without its newline.
 pub const LINE_LIMIT: usize = 4096;
 
-/// The most bytes of a script.
+/// The most bytes that a script may have.
 pub const SCRIPT_LIMIT: u64 = 67108864;
 
-/// How many bytes of a line are kept: one more than a line may have.
+/// How many bytes of a line are kept: one more than it may have, so that a line that is too long shows.
 const KEPT: usize = 4097;
 
-/// What came next in a script.
+/// What comes next in a script.
 #[derive(Clone, Copy, Debug, PartialEq, Eq)]
-pub enum Step {
-    /// One more byte of the line, which was taken.
+pub enum Piece {
+    /// One more byte of the line. It is taken.
     Letter,
     /// The newline that ends the line. It isn't taken yet.
     Newline,
     /// The end of the script, and of its last line.
     End,
-    /// A byte more than a script may have.
+    /// One byte more than a script may have.
     Past,
 }
 
-/// A script as far as it has been cut.
+/// A script as far as it is cut.
 #[derive(Drop)]
 pub struct Cutter {
-    /// What stands behind the last newline, at most the first bytes that are kept.
+    /// The bytes after the last newline, at most the first `KEPT` of them.
     line: Vec<u8>,
     /// The number of that line.
     number: u64,
-    /// How many bytes were cut.
+    /// How many bytes are cut.
     total: u64,
     chunk: Chunk,
     ghost room: { KEPT ≤ vec_capacity line },
@@ -50,7 +51,7 @@ impl Cutter {
     ghost use Rattle.po_script.specs.Chunk.{pending};
     ghost use Rattle.po_script.specs.Cutter.{Cuts, GoesOn, Stays, Steps, kept, number_of, total_of, waiting};
 
-    /// Before the first byte.
+    /// Returns a cutter before the first byte.
     pub fn new(alloc: Global) -> Result<Cutter, AllocError>
         ensures { IfOk result (λ cutter. (start : Option (List ℕ)) (first : Option ℕ) → Cuts cutter [] start start first first) }
     {
@@ -63,21 +64,21 @@ impl Cutter {
         })
     }
 
-    /// The line being cut, at most the first bytes that are kept.
+    /// Returns the line being cut, at most the bytes that are kept of it.
     pub fn line(&self) -> &[u8]
         ensures { result.now ≡ kept self.now }
     {
         self.line.as_slice()
     }
 
-    /// The number of that line.
+    /// Returns the number of that line.
     pub fn number(&self) -> u64
         ensures { result ≡ number_of self.now }
     {
         self.number
     }
 
-    /// Whether that line has more bytes than a line may have.
+    /// Returns whether that line has more bytes than a line may have.
     pub fn is_too_long(&self) -> bool
         ensures { result ≡ nat_lt LINE_LIMIT (length (kept self.now)) }
     {
@@ -99,30 +100,30 @@ impl Cutter {
         self.chunk.pass();
     }
 
-    /// Takes the next byte of the line, or says what else stands there. Reads where all that was given is cut.
-    pub fn next<R: Source>(&mut self, reader: &mut R) -> Result<Step, IoFailed>
+    /// Takes the next byte of the line, or says what comes instead. Reads if all given bytes are cut.
+    pub fn next<R: Source>(&mut self, reader: &mut R) -> Result<Piece, IoFailed>
         ensures step { IfOk result (λ step. Steps step self.old self.new (R.left reader.old) (R.left reader.new)
             (R.reads reader.old) (R.reads reader.new) (R.ended reader.old) (R.ended reader.new)) }
-        ensures end { IfOk result (λ step. step ≡ Step.End → IsAtEnd (R.left reader.new)) }
+        ensures end { IfOk result (λ step. step ≡ Piece.End → IsAtEnd (R.left reader.new)) }
         ensures fine { OnOk result (R.failed reader.new ≡ R.failed reader.old) }
         ensures err { OnErr result ((R.failed reader.new ≡ true) × (waiting self.new ≡ [])
             × Stays self.old self.new (R.left reader.old) (R.left reader.new) (R.reads reader.old) (R.reads reader.new)) }
     {
         let byte = match self.chunk.peek(reader)? {
-            None => return Ok(Step::End),
+            None => return Ok(Piece::End),
             Some(byte) => byte,
         };
         if self.total == SCRIPT_LIMIT {
-            return Ok(Step::Past);
+            return Ok(Piece::Past);
         }
         if byte == b'\n' {
-            return Ok(Step::Newline);
+            return Ok(Piece::Newline);
         }
         self.letter(byte);
-        Ok(Step::Letter)
+        Ok(Piece::Letter)
     }
 
-    /// Takes the newline that comes next, and begins the line behind it.
+    /// Takes the newline that comes next, and begins the line after it.
     pub fn newline(&mut self)
         requires room { total_of self.old < SCRIPT_LIMIT }
         requires next { (more : List ℕ) × (waiting self.old ≡ 10 ∷ more) }

@@ -1,9 +1,10 @@
-//! What is known of an object of a script, whatever it is used for.
+// SPDX-License-Identifier: MIT
+//! What is known of an object of a script in any state, and which operations it always refuses.
 
 ghost use Rattle.std.specs.Prelude.{◌≡◌, ◌≢◌, List, IfOk, Err, None};
 ghost use Rattle.po_core.specs.Refusals.{entry_refusal};
 ghost use Rattle.po_classic_units.specs.Sizes.{IsSizeWhere};
-ghost use Rattle.po_unit.specs.declared.fault.ShapeFault.{ShapeFault};
+ghost use Rattle.po_unit.specs.declared.error.ShapeError.{ShapeError};
 ghost use Rattle.po_language.specs.declared.command.Command.{Command};
 ghost use Rattle.po_script.specs.Facts.{facts_of, operation_refusal, sure_refusal, RefusesSurely};
 ghost use Rattle.po_script.specs.SureRefusals.{RefusesBehind};
@@ -12,12 +13,12 @@ use crate::units::ScriptObject;
 use po_classic_units::ScriptUnit;
 use po_core::Refusal;
 use po_language::Operation;
-use po_unit::{EntryRef, Shape, ShapeFault, Unit};
+use po_unit::{EntryRef, Shape, ShapeError, Unit};
 use std::alloc::{AllocError, Global};
 use std::marker::Model;
 
-/// What a unit of its size declares: its entries (9.5.2), and how many procedures and functions it has (9.5.1). An object of
-/// the unit keeps them as long as it is there.
+/// What a unit of its size declares: its entries (9.5.2), and how many procedures and functions it has (9.5.1). These stay the
+/// same as long as the object exists.
 #[derive(Drop)]
 pub struct UnitFacts {
     shape: Shape,
@@ -33,11 +34,11 @@ impl Model for UnitFacts {
     ghost view = { λ f. record { shape = f.shape; procedure_count = f.procedure_count; function_count = f.function_count } };
 }
 
-/// The refusal of a call from outside on the entry, whatever the object was used for.
+/// Returns the refusal of a call from outside on the entry, which is the same in any state of the object.
 fn entry_refusal(shape: &Shape, entry: EntryRef) -> Option<Refusal>
     ensures { result ≡ entry_refusal shape.now entry None }
 {
-    let Some(declared) = shape.decl(entry.entry) else {
+    let Some(declared) = shape.decl(entry.declaration) else {
         return Some(Refusal::NoSuchEntry);
     };
     if !declared.public {
@@ -49,7 +50,7 @@ fn entry_refusal(shape: &Shape, entry: EntryRef) -> Option<Refusal>
     }
 }
 
-/// The refusal of an operation with this number, where there are so many.
+/// Returns the refusal of operation number `op` if there are only `count` operations.
 fn operation_refusal(count: u16, op: u16) -> Option<Refusal>
     ensures { result ≡ operation_refusal count op }
 {
@@ -60,20 +61,20 @@ fn operation_refusal(count: u16, op: u16) -> Option<Refusal>
 }
 
 impl UnitFacts {
-    /// The refusal that the operation meets whatever was carried out before it: 1, 2 or 3 of a call, 4 of a procedure or a
-    /// function. Where there is none, the operation may still be refused for what the object then is.
+    /// Returns the refusal that the operation meets in any state of the object: 1, 2 or 3 for a call, 4 for a procedure or a
+    /// function. If there is none, the object's state may still refuse the operation.
     pub fn refusal(&self, operation: Operation) -> Option<Refusal>
         ensures { result ≡ sure_refusal self.now operation }
     {
         match operation {
             Operation::Call { entry, .. } => entry_refusal(&self.shape, entry),
-            Operation::Run { op, .. } => operation_refusal(self.procedure_count, op),
-            Operation::Read { op, .. } => operation_refusal(self.function_count, op),
+            Operation::Procedure { op, .. } => operation_refusal(self.procedure_count, op),
+            Operation::Function { op, .. } => operation_refusal(self.function_count, op),
             _ => None,
         }
     }
 
-    /// The declarations of the entries (9.5.2).
+    /// Returns the declarations of the entries (9.5.2).
     pub fn shape(&self) -> &Shape
         ensures { result.now ≡ self.now.shape }
     {
@@ -81,7 +82,8 @@ impl UnitFacts {
     }
 }
 
-/// An operation with such a refusal is refused by each object with these facts, and answered by the line of that refusal.
+/// Returns the refusal that `UnitFacts::refusal` gives. Each object with these facts then refuses the operation with it, and
+/// answers by its line.
 pub fn refused_by<U: Unit<Value = u64>>(facts: &UnitFacts, operation: Operation) -> Option<Refusal>
     ensures exact { result ≡ sure_refusal facts.now operation }
     ensures refused { RefusesSurely U.meaning facts.now operation }
@@ -89,12 +91,13 @@ pub fn refused_by<U: Unit<Value = u64>>(facts: &UnitFacts, operation: Operation)
     facts.refusal(operation)
 }
 
-/// Behind whatever commands, an operation with such a refusal by the facts of the unit that they began is refused. Nothing runs.
+/// Only for the prover: after any commands, an operation is refused if the facts of the unit that they began refuse it. Does
+/// nothing at run time.
 pub fn refused_behind<O: ScriptObject>()
     ensures { (commands : List Command) → RefusesBehind O.units commands }
 {}
 
-/// The facts of the objects of a unit of this size.
+/// Returns the facts of the objects of a unit of this size.
 pub(crate) fn facts_of<U: ScriptUnit>(alloc: Global, size: u16) -> Result<UnitFacts, AllocError>
     requires { IsSizeWhere U.known.names.is_sized size }
     ensures { IfOk result (λ facts. facts ≡ facts_of U.known U.meaning size) }
@@ -102,8 +105,8 @@ pub(crate) fn facts_of<U: ScriptUnit>(alloc: Global, size: u16) -> Result<UnitFa
     let unit = U::made(alloc, size)?;
     let shape = match unit.shape(alloc) {
         Ok(shape) => shape,
-        Err(ShapeFault::OutOfMemory) => return Err(AllocError),
-        Err(ShapeFault::TooManyEntries) => unreachable!(),
+        Err(ShapeError::OutOfMemory) => return Err(AllocError),
+        Err(ShapeError::TooManyEntries) => unreachable!(),
     };
     Ok(UnitFacts {
         shape,

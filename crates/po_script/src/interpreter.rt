@@ -1,26 +1,27 @@
-//! What carries out the lines of a script.
+// SPDX-License-Identifier: MIT
+//! Carries out the lines of a script.
 
 ghost use Rattle.std.specs.Prelude.{◌≡◌, ◌≤◌, ◌||◌, length, OnOk, IfErr, None};
 ghost use Rattle.po_script.specs.Script.{begun_after};
 
 use crate::session::Session;
 use crate::units::ScriptObject;
-use po_language::{Command, RunFault, UnitChoice, command_of};
+use po_language::{Command, RunError, UnitChoice, command_of};
 use po_streams::{Sink, write_all};
 use std::alloc::Global;
 
-/// What the lines of a script have come to.
+/// The state of a script between two lines.
 #[derive(Drop)]
 pub(crate) struct Interpreter<O> {
-    /// The unit that a line began.
+    /// The unit that the latest `unit` line began.
     pub(crate) begun: Option<UnitChoice>,
-    /// What the commands are carried out on.
+    /// The object, which the commands are carried out on.
     pub(crate) session: Session<O>,
-    /// The lines that answered the last command.
+    /// The lines that answer the latest command.
     reply: String,
 }
 
-/// The unit that is begun after the command.
+/// Returns the unit that is begun after the command.
 fn begun_after(begun: Option<UnitChoice>, command: Command) -> Option<UnitChoice>
     ensures { result ≡ begun_after begun command }
 {
@@ -34,7 +35,7 @@ impl<O: ScriptObject + Drop> Interpreter<O> {
     ghost use Rattle.po_script.specs.Session.{state_of, opening_state};
     ghost use Rattle.po_script.specs.Interpreter.{CarriesOut, Fails};
 
-    /// Before the first line.
+    /// Returns an interpreter before the first line.
     pub(crate) fn new(alloc: Global) -> Interpreter<O>
         ensures begun { result.begun ≡ None }
         ensures session { state_of O.object result.session ≡ opening_state O.units }
@@ -46,14 +47,14 @@ impl<O: ScriptObject + Drop> Interpreter<O> {
         }
     }
 
-    /// Carries out the line of this number, and writes what answers it.
+    /// Carries out line `number`, and writes its answer.
     pub(crate) fn carry_out<W: Sink>(
         &mut self,
         alloc: Global,
         number: u64,
         line: &[u8],
         writer: &mut W,
-    ) -> Result<(), RunFault>
+    ) -> Result<(), RunError>
         ensures ok { OnOk result (CarriesOut O.units O.object self.old self.new line.now
             (W.taken writer.old) (W.taken writer.new)) }
         ensures fine { OnOk result ((W.failed writer.new ≡ W.failed writer.old)
@@ -65,7 +66,7 @@ impl<O: ScriptObject + Drop> Interpreter<O> {
         let command = match command_of::<O>(self.begun, line) {
             Err(fault) => {
                 let kind = fault.kind();
-                return Err(RunFault::Script { line: number, kind });
+                return Err(RunError::Script { line: number, kind });
             }
             Ok(None) => return Ok(()),
             Ok(Some(command)) => command,
@@ -74,7 +75,7 @@ impl<O: ScriptObject + Drop> Interpreter<O> {
         self.session.answer(alloc, command, &mut self.reply)?;
         match write_all(writer, self.reply.as_bytes()) {
             Ok(()) => Ok(()),
-            Err(_) => Err(RunFault::Write),
+            Err(_) => Err(RunError::Write),
         }
     }
 }

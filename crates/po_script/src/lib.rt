@@ -1,4 +1,15 @@
-//! Scripts: lines of commands to a protected object are carried out, and answered by lines.
+// SPDX-License-Identifier: MIT
+//! Runs scripts: reads lines of commands to a protected object, carries them out, and writes lines
+//! that answer them.
+//!
+//! `run_script` does it all. Its contract says what was written and how the run ended, by the bytes
+//! that were read. Below it, `Cutter` cuts bytes into lines, and `Session` carries out one command
+//! at a time on the object that the latest `unit` line began. `Units` lists the units that scripts
+//! know, and a new unit is added there. `UnitFacts` says which operations an object refuses in any
+//! state; `po_check` reports them.
+//!
+//! Begin with operate.rt, which carries out one operation, and specs/Operations.antt, which says
+//! what it does and how it is answered. Then read run.rt and specs/Ends.antt.
 #![tactic(auto)]
 
 pub mod chunk;

@@ -1,10 +1,11 @@
-//! The lines that answer commands, added to a reply.
+// SPDX-License-Identifier: MIT
+//! Adds the lines that answer commands to a reply.
 
 ghost use Rattle.std.specs.Prelude.{◌≡◌, ◌++◌, OnOk, string_bytes};
 ghost use Rattle.po_classic_units.specs.Names.{texts_of};
-ghost use Rattle.po_script.specs.Lines.{end_line, ended_lines, ticket_line, refused_line, reply_line, value_line, abort_line, clock_line, next_line, final_line, name_at, index_text, count_line};
+ghost use Rattle.po_script.specs.Lines.{end_line, ended_lines, ticket_line, refused_line, reply_line, value_line, attempt_line, clock_line, next_line, final_line, name_at, index_text, count_line};
 
-use po_core::{Aborted, End, Ended, Refusal};
+use po_core::{Attempt, End, Ended, Refusal};
 use po_unit::EntryRef;
 use std::alloc::AllocError;
 use std::fmt::Write;
@@ -44,13 +45,14 @@ pub(crate) fn push_value(reply: &mut String, replied: Result<u64, u32>) -> Resul
     }
 }
 
-/// Adds the line of an attempt to cancel a call, if it has one.
-pub(crate) fn push_abort(reply: &mut String, aborted: Aborted) -> Result<(), AllocError>
-    ensures { OnOk result (string_bytes reply.new ≡ string_bytes reply.old ++ abort_line aborted) }
+/// Adds the line of an attempt to cancel a call. A cancelled call has none here: it is listed with
+/// the ended calls.
+pub(crate) fn push_attempt(reply: &mut String, aborted: Attempt) -> Result<(), AllocError>
+    ensures { OnOk result (string_bytes reply.new ≡ string_bytes reply.old ++ attempt_line aborted) }
 {
     match aborted {
-        Aborted::Kept => write!(reply, "kept\n"),
-        Aborted::Cancelled => Ok(()),
+        Attempt::Kept => write!(reply, "kept\n"),
+        Attempt::Cancelled => Ok(()),
     }
 }
 
@@ -75,7 +77,7 @@ pub(crate) fn push_final(reply: &mut String) -> Result<(), AllocError>
     write!(reply, "final\n")
 }
 
-/// The name of the declaration with this number, or no text where there is none.
+/// Returns the name of the declaration with this number, or no text if there is none.
 #[tactic(auto, using(crate::proofs::ShowLemmas::name_there, crate::proofs::ShowLemmas::name_past))]
 fn name_at<'a>(names: &[&'a str], number: u16) -> &'a str
     ensures { result.now ≡ name_at (texts_of names.now) number }
@@ -98,7 +100,7 @@ fn push_index(reply: &mut String, index: Option<i32>) -> Result<(), AllocError>
     }
 }
 
-/// Adds the line of an entry on which so many calls are queued.
+/// Adds the line of an entry on which `count` calls are queued.
 pub(crate) fn push_count(
     reply: &mut String,
     names: &[&str],
@@ -107,12 +109,12 @@ pub(crate) fn push_count(
 ) -> Result<(), AllocError>
     ensures { OnOk result (string_bytes reply.new ≡ string_bytes reply.old ++ count_line (texts_of names.now) reference count) }
 {
-    reply.push_str(name_at(names, reference.entry))?;
+    reply.push_str(name_at(names, reference.declaration))?;
     push_index(reply, reference.index)?;
     write!(reply, " {count}\n")
 }
 
-/// Adds the line of the call with number n, which ended in this way.
+/// Adds the line of call `n`, which ended in this way.
 fn push_end(reply: &mut String, n: u64, end: End<u64>) -> Result<(), AllocError>
     ensures { OnOk result (string_bytes reply.new ≡ string_bytes reply.old ++ end_line n end) }
 {

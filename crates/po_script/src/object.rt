@@ -1,22 +1,23 @@
+// SPDX-License-Identifier: MIT
 //! The object of a script, of one unit.
 
 ghost use Rattle.std.specs.Prelude.{◌≡◌, ◌≢◌, [], IfOk, OnOk, OnErr, IsOk, Err, string_bytes};
 ghost use Rattle.po_unit.specs.Numbering.{entry_count};
-ghost use Rattle.po_unit.specs.declared.fault.ShapeFault.{ShapeFault};
+ghost use Rattle.po_unit.specs.declared.error.ShapeError.{ShapeError};
 ghost use Rattle.po_core.specs.View.{opening_view};
 ghost use Rattle.po_script.specs.Tickets.{Knows, AreCollected};
 ghost use Rattle.po_script.specs.Units.{setup_of};
 
-use crate::operate::operate;
+use crate::operate::carry_out;
 use crate::tickets::Tickets;
 use po_classic_units::ScriptUnit;
-use po_core::{Core, MakeFault, Start};
+use po_core::{Core, MakeError, Start};
 use po_language::{Beginning, Operation};
-use po_unit::{Shape, ShapeFault, Unit};
+use po_unit::{Shape, ShapeError, Unit};
 use std::alloc::{AllocError, Global};
 
-/// The object that a `unit` line made: a core, and the tickets of its uncollected calls. Each call that the last command
-/// ended was collected.
+/// The object that a `unit` line made: a core, and the tickets of its uncollected calls. The calls that the latest command
+/// ended are already collected.
 #[derive(Drop)]
 pub struct UnitObject<U: Unit<Value = u64>> {
     core: Core<U>,
@@ -25,15 +26,15 @@ pub struct UnitObject<U: Unit<Value = u64>> {
     ghost collected: { AreCollected core },
 }
 
-/// The core of an object with this unit and its shape, whose calls are numbered from 1.
+/// Makes the core of an object with this unit and shape, whose calls are numbered from 1.
 fn make<U: Unit + Drop>(
     alloc: Global,
-    shape: Result<Shape, ShapeFault>,
+    shape: Result<Shape, ShapeError>,
     unit: U,
     beginning: Beginning,
 ) -> Result<Core<U>, AllocError>
     requires counted { IfOk shape (λ s. entry_count s ≡ U.meaning.entries unit) }
-    requires within_limits { shape ≢ Err ShapeFault.TooManyEntries }
+    requires within_limits { shape ≢ Err ShapeError.TooManyEntries }
     ensures core { IfOk result (λ core. IfOk shape (λ s. core.object ≡ opening_view (setup_of unit s beginning.order beginning.max_queue))) }
     ensures shape { OnOk result (IsOk shape) }
     ensures tickets { IfOk result (λ core. core.tickets ≡ []) }
@@ -41,8 +42,8 @@ fn make<U: Unit + Drop>(
 {
     let shape = match shape {
         Ok(shape) => shape,
-        Err(ShapeFault::OutOfMemory) => return Err(AllocError),
-        Err(ShapeFault::TooManyEntries) => unreachable!(),
+        Err(ShapeError::OutOfMemory) => return Err(AllocError),
+        Err(ShapeError::TooManyEntries) => unreachable!(),
     };
     let start = Start {
         first_number: 1,
@@ -51,8 +52,8 @@ fn make<U: Unit + Drop>(
     };
     match Core::start(alloc, unit, shape, beginning.order, start) {
         Ok(core) => Ok(core),
-        Err(MakeFault::OutOfMemory) => Err(AllocError),
-        Err(MakeFault::ShapeMismatch) => unreachable!(),
+        Err(MakeError::OutOfMemory) => Err(AllocError),
+        Err(MakeError::ShapeMismatch) => unreachable!(),
     }
 }
 
@@ -61,7 +62,7 @@ impl<U: ScriptUnit> UnitObject<U> {
     ghost use Rattle.po_script.specs.Operations.{after_operation, operation_lines, IsEither};
     ghost use Rattle.po_script.specs.Units.{made};
 
-    /// The object that a `unit` line begins.
+    /// Makes the object that a `unit` line begins.
     pub(crate) fn new(alloc: Global, beginning: Beginning) -> Result<UnitObject<U>, AllocError>
         requires { IsSizeWhere U.known.names.is_sized beginning.unit.size }
         ensures { IfOk result (λ it. it.core.object ≡ made U.known beginning) }
@@ -85,7 +86,7 @@ impl<U: ScriptUnit> UnitObject<U> {
         ensures failed { OnErr result (IsEither self.new.core.object self.old.core.object (after_operation U.meaning self.old.core.object operation)) }
         ensures lines { OnOk result (string_bytes reply.new ≡ operation_lines U.meaning U.known.names.entries self.old.core.object operation) }
     {
-        operate(
+        carry_out(
             &mut self.core,
             &mut self.tickets,
             operation,

@@ -1,4 +1,5 @@
-//! The operations of a script, carried out on the core of any unit.
+// SPDX-License-Identifier: MIT
+//! Carries out the operations of a script on the core of any unit.
 
 ghost use Rattle.std.specs.Prelude.{◌≡◌, ℕ, ◌<◌, ◌++◌, [], Some, slice_get, OnOk, OnErr, IsOk, string_bytes, false};
 ghost use Rattle.po_core.specs.View.{ended_now};
@@ -10,7 +11,7 @@ ghost use Rattle.po_script.specs.Lines.{refused_line, ended_lines};
 ghost use Rattle.po_script.specs.Tickets.{Knows, IsCollected, HasEnded, AreCollected};
 
 use crate::lines::{
-    push_abort, push_clock, push_count, push_ended, push_final, push_next, push_refused,
+    push_attempt, push_clock, push_count, push_ended, push_final, push_next, push_refused,
     push_reply, push_ticket, push_value,
 };
 use crate::tickets::Tickets;
@@ -19,7 +20,7 @@ use po_language::Operation;
 use po_unit::{EntryRef, Unit};
 use std::alloc::AllocError;
 
-/// Puts the line of a refusal into the empty reply. Want of memory is no line.
+/// Puts the line of a refusal into the empty reply. Running out of memory is an error instead, and has no line.
 fn refuse(reply: &mut String, refusal: Refusal) -> Result<(), AllocError>
     requires { string_bytes reply.old ≡ [] }
     ensures line { OnOk result (string_bytes reply.new ≡ refused_line refusal) }
@@ -31,7 +32,7 @@ fn refuse(reply: &mut String, refusal: Refusal) -> Result<(), AllocError>
     push_refused(reply, refusal)
 }
 
-/// Collects the call with this number, which has ended, if it isn't collected.
+/// Collects the call with this number, which has ended, unless it is already collected.
 fn collect_one<U: Unit<Value = u64>>(core: &mut Core<U>, tickets: &mut Tickets, number: u64)
     requires knows { Knows core.old.tickets tickets.old }
     requires ended { HasEnded core.old.object number }
@@ -45,7 +46,7 @@ fn collect_one<U: Unit<Value = u64>>(core: &mut Core<U>, tickets: &mut Tickets, 
     }
 }
 
-/// Collects the calls that the last command ended.
+/// Collects the calls that the latest command ended.
 fn collect<U: Unit<Value = u64>>(core: &mut Core<U>, tickets: &mut Tickets)
     requires { Knows core.old.tickets tickets.old }
     ensures object { core.new.object ≡ core.old.object }
@@ -58,7 +59,7 @@ fn collect<U: Unit<Value = u64>>(core: &mut Core<U>, tickets: &mut Tickets)
     }
 }
 
-/// Adds the lines of the calls that a command ended, where its own line was added, and collects those calls.
+/// Adds the lines of the calls that a command ended, if the command's own line was added. Collects those calls in any case.
 fn finish<U: Unit<Value = u64>>(
     core: &mut Core<U>,
     tickets: &mut Tickets,
@@ -100,6 +101,7 @@ fn call<U: Unit<Value = u64>>(
     ensures collected { AreCollected core.new }
 {
     tickets.reserve()?;
+    // Only for the prover: all tickets have smaller numbers than the new call, and the number of calls has no limit.
     core.headline();
     core.recall_unbounded();
     match core.issue(0, entry, value, deadline) {
@@ -114,7 +116,7 @@ fn call<U: Unit<Value = u64>>(
 
 /// Runs a procedure, and puts the lines that answer it into the empty reply.
 #[tactic(auto, using(crate::proofs::Refused::refused_or))]
-fn run<U: Unit<Value = u64>>(
+fn procedure<U: Unit<Value = u64>>(
     core: &mut Core<U>,
     tickets: &mut Tickets,
     op: u16,
@@ -124,13 +126,13 @@ fn run<U: Unit<Value = u64>>(
     requires empty { string_bytes reply.old ≡ [] }
     requires knows { Knows core.old.tickets tickets.old }
     requires collected { AreCollected core.old }
-    ensures object { OnOk result (core.new.object ≡ after_operation U.meaning core.old.object (Operation.Run op value)) }
-    ensures failed { OnErr result (IsEither core.new.object core.old.object (after_operation U.meaning core.old.object (Operation.Run op value))) }
-    ensures lines { OnOk result (string_bytes reply.new ≡ reply_lines U.meaning core.old.object (Operation.Run op value)) }
+    ensures object { OnOk result (core.new.object ≡ after_operation U.meaning core.old.object (Operation.Procedure op value)) }
+    ensures failed { OnErr result (IsEither core.new.object core.old.object (after_operation U.meaning core.old.object (Operation.Procedure op value))) }
+    ensures lines { OnOk result (string_bytes reply.new ≡ reply_lines U.meaning core.old.object (Operation.Procedure op value)) }
     ensures knows { Knows core.new.tickets tickets.new }
     ensures collected { AreCollected core.new }
 {
-    match core.run(0, op, value) {
+    match core.procedure(0, op, value) {
         Ok(replied) => {
             let answered = push_reply(reply, replied);
             finish(core, tickets, answered, reply)
@@ -139,25 +141,25 @@ fn run<U: Unit<Value = u64>>(
     }
 }
 
-/// Reads by a function, and puts the line that answers it into the empty reply.
-fn read<U: Unit<Value = u64>>(
+/// Runs a function, and puts the line that answers it into the empty reply.
+fn function<U: Unit<Value = u64>>(
     core: &Core<U>,
     op: u16,
     value: u64,
     reply: &mut String,
 ) -> Result<(), AllocError>
     requires { string_bytes reply.old ≡ [] }
-    ensures object { OnOk result (core.now.object ≡ after_operation U.meaning core.now.object (Operation.Read op value)) }
-    ensures lines { OnOk result (string_bytes reply.new ≡ reply_lines U.meaning core.now.object (Operation.Read op value)) }
+    ensures object { OnOk result (core.now.object ≡ after_operation U.meaning core.now.object (Operation.Function op value)) }
+    ensures lines { OnOk result (string_bytes reply.new ≡ reply_lines U.meaning core.now.object (Operation.Function op value)) }
 {
-    match core.read(op, value) {
+    match core.function(op, value) {
         Ok(replied) => push_value(reply, replied),
         Err(refusal) => refuse(reply, refusal),
     }
 }
 
-/// Attempts to cancel a call, and puts the lines that answer it into the empty reply.
-fn abort<U: Unit<Value = u64>>(
+/// Tries to cancel a call, and puts the lines that answer it into the empty reply.
+fn cancel<U: Unit<Value = u64>>(
     core: &mut Core<U>,
     tickets: &mut Tickets,
     n: u64,
@@ -166,15 +168,15 @@ fn abort<U: Unit<Value = u64>>(
     requires empty { string_bytes reply.old ≡ [] }
     requires knows { Knows core.old.tickets tickets.old }
     requires collected { AreCollected core.old }
-    ensures object { OnOk result (core.new.object ≡ after_operation U.meaning core.old.object (Operation.Abort n)) }
-    ensures failed { OnErr result (IsEither core.new.object core.old.object (after_operation U.meaning core.old.object (Operation.Abort n))) }
-    ensures lines { OnOk result (string_bytes reply.new ≡ reply_lines U.meaning core.old.object (Operation.Abort n)) }
+    ensures object { OnOk result (core.new.object ≡ after_operation U.meaning core.old.object (Operation.Cancel n)) }
+    ensures failed { OnErr result (IsEither core.new.object core.old.object (after_operation U.meaning core.old.object (Operation.Cancel n))) }
+    ensures lines { OnOk result (string_bytes reply.new ≡ reply_lines U.meaning core.old.object (Operation.Cancel n)) }
     ensures knows { Knows core.new.tickets tickets.new }
     ensures collected { AreCollected core.new }
 {
-    match core.abort(n) {
+    match core.cancel_number(n) {
         Ok(aborted) => {
-            let answered = push_abort(reply, aborted);
+            let answered = push_attempt(reply, aborted);
             finish(core, tickets, answered, reply)
         }
         Err(refusal) => refuse(reply, refusal),
@@ -198,6 +200,7 @@ fn tick<U: Unit<Value = u64>>(
     ensures knows { Knows core.new.tickets tickets.new }
     ensures collected { AreCollected core.new }
 {
+    // Only for the prover: such a core never refuses a tick for spent numbers.
     core.recall_unbounded();
     match core.tick(time) {
         Ok(clock) => {
@@ -232,7 +235,7 @@ fn finalize<U: Unit<Value = u64>>(
     }
 }
 
-/// Adds the line of the entry with this flat number: how many calls are queued on it.
+/// Adds the line of the entry with this flat number, with the number of calls queued on it.
 fn push_entry<U: Unit<Value = u64>>(
     core: &Core<U>,
     flat: u16,
@@ -277,12 +280,12 @@ fn show<U: Unit<Value = u64>>(
 {
     push_entries(core, names, reply)?;
     push_clock(reply, core.clock())?;
-    push_next(reply, core.next())
+    push_next(reply, core.next_number())
 }
 
-/// Carries out the operation, and puts the lines that answer it into the empty reply. The names are those of the
-/// declarations of the object's entries.
-pub(crate) fn operate<U: Unit<Value = u64>>(
+/// Carries out the operation, and puts the lines that answer it into the empty reply. `names` are the names of the declarations
+/// of the object's entries.
+pub(crate) fn carry_out<U: Unit<Value = u64>>(
     core: &mut Core<U>,
     tickets: &mut Tickets,
     operation: Operation,
@@ -304,9 +307,9 @@ pub(crate) fn operate<U: Unit<Value = u64>>(
             value,
             deadline,
         } => call(core, tickets, entry, value, deadline, reply),
-        Operation::Run { op, value } => run(core, tickets, op, value, reply),
-        Operation::Read { op, value } => read(core, op, value, reply),
-        Operation::Abort(n) => abort(core, tickets, n, reply),
+        Operation::Procedure { op, value } => procedure(core, tickets, op, value, reply),
+        Operation::Function { op, value } => function(core, op, value, reply),
+        Operation::Cancel(n) => cancel(core, tickets, n, reply),
         Operation::Tick(time) => tick(core, tickets, time, reply),
         Operation::Finalize => finalize(core, tickets, reply),
         Operation::Show => show(core, names, reply),

@@ -1,4 +1,5 @@
-//! A run of a script, from the bytes to the answers.
+// SPDX-License-Identifier: MIT
+//! Runs a script, from its bytes to its answers.
 
 ghost use Rattle.std.specs.Prelude.{◌≡◌, ◌+◌, ◌<◌, ◌≤◌, ◌∷◌, [], ◌||◌, List, Option, ℕ, Bool, true, false, length, OnOk, IfOk, IfErr};
 ghost use Rattle.std.specs.Io.KnownBytes.{Consumes, IsAtEnd};
@@ -6,14 +7,14 @@ ghost use Rattle.po_streams.specs.Source.{CountsMore};
 ghost use Rattle.po_script.specs.Ends.{EndsWell, EndsAs};
 ghost use Rattle.po_script.specs.declared.cutter.TheConstants.{SCRIPT_LIMIT};
 
-use crate::cutter::{Cutter, Step};
+use crate::cutter::{Cutter, Piece};
 use crate::interpreter::Interpreter;
 use crate::units::{ScriptObject, Units};
-use po_language::{FaultKind, RunFault};
+use po_language::{FaultKind, RunError};
 use po_streams::{Sink, Source};
 use std::alloc::Global;
 
-/// A script as far as it has been carried out.
+/// A script as far as it is carried out.
 #[derive(Drop)]
 struct Run<O> {
     lines: Cutter,
@@ -24,11 +25,11 @@ impl<O: ScriptObject + Drop> Run<O> {
     ghost use Rattle.po_script.specs.Run.{Stands, GoesOn, FailsAt};
     ghost use Rattle.po_script.specs.Cutter.{number_of, total_of, waiting};
 
-    /// A run that has read nothing.
-    fn new(alloc: Global) -> Result<Run<O>, RunFault>
+    /// Returns a run that has read nothing.
+    fn new(alloc: Global) -> Result<Run<O>, RunError>
         ensures ok { IfOk result (λ run. (start : Option (List ℕ)) (first : Option ℕ) (had : Option (List ℕ))
             → Stands O.units O.object run [] start start first first had had) }
-        ensures err { IfErr result (λ fault. fault ≡ RunFault.Memory) }
+        ensures err { IfErr result (λ fault. fault ≡ RunError.Memory) }
     {
         let lines = Cutter::new(alloc)?;
         Ok(Run {
@@ -37,18 +38,18 @@ impl<O: ScriptObject + Drop> Run<O> {
         })
     }
 
-    /// The fault of the line being read.
-    fn fault(&self, kind: FaultKind) -> RunFault
-        ensures { result ≡ RunFault.Script (number_of self.now.lines) kind }
+    /// Returns this fault of the line being read.
+    fn fault(&self, kind: FaultKind) -> RunError
+        ensures { result ≡ RunError.Script (number_of self.now.lines) kind }
     {
-        RunFault::Script {
+        RunError::Script {
             line: self.lines.number(),
             kind,
         }
     }
 
-    /// Carries out the line that a newline ends, which comes next.
-    fn newline<W: Sink>(&mut self, alloc: Global, writer: &mut W) -> Result<(), RunFault>
+    /// Carries out the line that the next byte, a newline, ends.
+    fn newline<W: Sink>(&mut self, alloc: Global, writer: &mut W) -> Result<(), RunError>
         requires room { total_of self.old.lines < SCRIPT_LIMIT }
         requires next { (more : List ℕ) × (waiting self.old.lines ≡ 10 ∷ more) }
         ensures ok { OnOk result (GoesOn O.units O.object self.old self.new (10 ∷ [])
@@ -66,8 +67,8 @@ impl<O: ScriptObject + Drop> Run<O> {
         Ok(())
     }
 
-    /// Carries out what stands behind the last newline.
-    fn finish<W: Sink>(&mut self, alloc: Global, writer: &mut W) -> Result<(), RunFault>
+    /// Carries out the last line, the bytes after the last newline.
+    fn finish<W: Sink>(&mut self, alloc: Global, writer: &mut W) -> Result<(), RunError>
         ensures ok { OnOk result ((bytes : List ℕ) (start left : Option (List ℕ)) (first reads : Option ℕ) (had : Option (List ℕ))
             → Stands O.units O.object self.old bytes start left first reads had (W.taken writer.old)
             → (W.failed writer.old || W.stuck writer.old) ≡ false
@@ -87,7 +88,7 @@ impl<O: ScriptObject + Drop> Run<O> {
         alloc: Global,
         reader: &mut R,
         writer: &mut W,
-    ) -> Result<(), RunFault>
+    ) -> Result<(), RunError>
         requires fresh { Stands O.units O.object self.old [] (R.left reader.old) (R.left reader.old)
             (R.reads reader.old) (R.reads reader.old) (W.taken writer.old) (W.taken writer.old) }
         requires reader { (R.failed reader.old ≡ false) × (R.ended reader.old ≡ false) }
@@ -105,28 +106,28 @@ impl<O: ScriptObject + Drop> Run<O> {
         loop {
             let step = match self.lines.next(reader) {
                 Ok(step) => step,
-                Err(_) => return Err(RunFault::Read),
+                Err(_) => return Err(RunError::Read),
             };
             match step {
-                Step::Letter => {
+                Piece::Letter => {
                     if self.lines.is_too_long() {
                         return Err(self.fault(FaultKind::LineTooLong));
                     }
                 }
-                Step::Newline => self.newline(alloc, writer)?,
-                Step::End => return self.finish(alloc, writer),
-                Step::Past => return Err(self.fault(FaultKind::ScriptTooLong)),
+                Piece::Newline => self.newline(alloc, writer)?,
+                Piece::End => return self.finish(alloc, writer),
+                Piece::Past => return Err(self.fault(FaultKind::ScriptTooLong)),
             }
         }
     }
 }
 
-/// Runs the script that the reader gives over the units of a list, and writes the answers.
+/// Runs the script that the reader gives over the units of the list `O`, and writes the answers.
 fn run_over<O: ScriptObject + Drop, R: Source, W: Sink>(
     alloc: Global,
     reader: &mut R,
     writer: &mut W,
-) -> Result<(), RunFault>
+) -> Result<(), RunError>
     requires reader { (R.failed reader.old ≡ false) × (R.ended reader.old ≡ false) }
     requires writer { (W.failed writer.old || W.stuck writer.old) ≡ false }
     ensures reads { (more : ℕ) × (more ≤ SCRIPT_LIMIT + 1)
@@ -150,7 +151,7 @@ pub fn run_script<R: Source, W: Sink>(
     alloc: Global,
     reader: &mut R,
     writer: &mut W,
-) -> Result<(), RunFault>
+) -> Result<(), RunError>
     requires reader { (R.failed reader.old ≡ false) × (R.ended reader.old ≡ false) }
     requires writer { (W.failed writer.old || W.stuck writer.old) ≡ false }
     ensures reads { (more : ℕ) × (more ≤ SCRIPT_LIMIT + 1)

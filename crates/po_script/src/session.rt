@@ -1,4 +1,5 @@
-//! What the commands of a script are carried out on.
+// SPDX-License-Identifier: MIT
+//! A session, which carries out the commands of a script.
 
 ghost use Rattle.std.specs.Prelude.{◌≡◌, OnOk, OnErr, string_bytes};
 ghost use Rattle.po_script.specs.Operations.{IsEither};
@@ -7,7 +8,7 @@ use crate::units::ScriptObject;
 use po_language::Command;
 use std::alloc::{AllocError, Global};
 
-/// A session: the object that a line began, if one did.
+/// A session: the object that the latest `unit` line began, if one did.
 #[derive(Drop)]
 pub struct Session<O> {
     object: Option<O>,
@@ -19,17 +20,17 @@ impl<O: ScriptObject + Drop> Session<O> {
     ghost use Rattle.po_script.specs.Session.{state_of, opening_state, after, answer};
     ghost use Rattle.po_script.specs.Units.{listed};
 
-    /// A session before its first command.
+    /// Returns a session before its first command.
     pub fn new() -> Session<O>
         ensures { state_of O.object result ≡ opening_state O.units }
     {
         Session { object: None }
     }
 
-    /// Carries out the command. The text of the reply becomes the lines that answer it.
+    /// Carries out the command, and makes the text of `reply` the lines that answer it.
     ///
-    /// Where memory is wanting the command was carried out or it wasn't, and nothing is said of the reply's text: the run
-    /// ends there, and writes none of it.
+    /// If memory runs out, the command may or may not have happened, and `reply` is unspecified. The run then ends without
+    /// writing any of it.
     pub fn answer(
         &mut self,
         alloc: Global,
@@ -49,7 +50,7 @@ impl<O: ScriptObject + Drop> Session<O> {
                 Ok(())
             }
             Command::Operate(operation) => match &mut self.object {
-                Some(object) => object.operate(operation, reply),
+                Some(object) => object.dispatch(operation, reply),
                 None => Ok(()),
             },
         }

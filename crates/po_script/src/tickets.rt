@@ -1,3 +1,4 @@
+// SPDX-License-Identifier: MIT
 //! The tickets of the calls of a script.
 
 ghost use Rattle.std.specs.Prelude.{◌≡◌, ◌≢◌, ℕ, OnOk, None, Some};
@@ -9,14 +10,14 @@ use po_core::Ticket;
 use std::alloc::{AllocError, Global};
 use std::collections::HashMap;
 
-/// The tickets of the calls that were accepted and aren't collected: by a call's number its ticket's key.
+/// The tickets of the accepted calls that aren't collected: the key of each, by the call's number.
 #[derive(Drop)]
 pub(crate) struct Tickets {
     keys: HashMap<u64, usize>,
 }
 
 impl Tickets {
-    /// No tickets.
+    /// Returns an empty table.
     pub(crate) fn new(alloc: Global) -> Tickets
         ensures { (n : ℕ) → key_of result n ≡ None }
     {

@@ -1,3 +1,4 @@
+// SPDX-License-Identifier: MIT
 //! The units that scripts know.
 
 ghost use Rattle.std.specs.Prelude.{◌≡◌, [], IfOk, OnOk, OnErr, string_bytes};
@@ -11,8 +12,7 @@ use po_language::{Beginning, Operation, UnitList};
 use po_unit::Unit;
 use std::alloc::{AllocError, Global};
 
-/// The units that scripts know, in the order in which a `unit` line's name is looked up: the list to which a further unit is
-/// added.
+/// The units that scripts know, in the order in which the name of a `unit` line is looked up. To add a unit, add it here.
 pub type Units = OneOf<
     UnitObject<Buffer>,
     OneOf<
@@ -41,27 +41,27 @@ pub trait ScriptObject: UnitList {
     /// The units of the list.
     ghost units: { ScriptUnits };
 
-    /// What the object is to the commands of a script: its tickets are no part of that.
+    /// What commands of a script see of the object: all except its tickets.
     ghost object: { Self → ObjectOf units };
 
-    /// The object of the unit with this number that a `unit` line begins.
+    /// Makes the object of the unit with this number that a `unit` line begins.
     fn begin(alloc: Global, number: u16, beginning: Beginning) -> Result<Self, AllocError>
         requires { IsSizeWhere (names_at (listed units) number).is_sized beginning.unit.size }
         ensures { IfOk result (λ it. object it ≡ made_at units number beginning) };
 
-    /// What is known of an object of the unit with this number and of this size, whatever it is used for.
+    /// Returns what is known of an object of the unit with this number and of this size, in any state.
     fn facts(alloc: Global, number: u16, size: u16) -> Result<UnitFacts, AllocError>
         requires { IsSizeWhere (names_at (listed units) number).is_sized size }
         ensures { IfOk result (λ facts. facts ≡ facts_at units number size) };
 
     /// Carries out the operation, and puts the lines that answer it into the empty reply.
-    fn operate(&mut self, operation: Operation, reply: &mut String) -> Result<(), AllocError>
+    fn dispatch(&mut self, operation: Operation, reply: &mut String) -> Result<(), AllocError>
         requires { string_bytes reply.old ≡ [] }
         ensures object { OnOk result (object self.new ≡ after_on units (object self.old) operation) }
         ensures failed { OnErr result (IsEither (object self.new) (object self.old) (after_on units (object self.old) operation)) }
         ensures lines { OnOk result (string_bytes reply.new ≡ lines_on units (object self.old) operation) };
 
-    /// The names of the list are those of its units.
+    /// The list has the names of these units.
     ghost same_list: { Self.listed ≡ listed units };
 
     /// Each unit of the list meets the laws of a unit.
@@ -71,9 +71,9 @@ pub trait ScriptObject: UnitList {
 /// The object of one unit, or of one of the others.
 #[derive(Drop)]
 pub enum OneOf<O, R> {
-    /// Of this unit.
+    /// An object of this unit.
     This(O),
-    /// Of one of the others.
+    /// An object of one of the others.
     Other(R),
 }
 
@@ -135,7 +135,7 @@ impl<U: ScriptUnit> ScriptObject for UnitObject<U> {
         facts_of::<U>(alloc, size)
     }
 
-    fn operate(&mut self, operation: Operation, reply: &mut String) -> Result<(), AllocError> {
+    fn dispatch(&mut self, operation: Operation, reply: &mut String) -> Result<(), AllocError> {
         UnitObject::operate(self, operation, reply)
     }
 
@@ -172,10 +172,10 @@ impl<U: ScriptUnit, R: ScriptObject> ScriptObject for OneOf<UnitObject<U>, R> {
         }
     }
 
-    fn operate(&mut self, operation: Operation, reply: &mut String) -> Result<(), AllocError> {
+    fn dispatch(&mut self, operation: Operation, reply: &mut String) -> Result<(), AllocError> {
         match self {
-            OneOf::This(object) => object.operate(operation, reply),
-            OneOf::Other(other) => other.operate(operation, reply),
+            OneOf::This(object) => object.dispatch(operation, reply),
+            OneOf::Other(other) => other.dispatch(operation, reply),
         }
     }
 

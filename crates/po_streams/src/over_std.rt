@@ -1,3 +1,4 @@
+// SPDX-License-Identifier: MIT
 //! Readers and writers of std as sources and sinks.
 
 ghost use Rattle.std.specs.Prelude.{◌≡◌, true, false, Some};
@@ -9,8 +10,8 @@ use std::io::{Read, Write};
 
 /// A reader or a writer of std, and what its calls have shown.
 ///
-/// Each call asks once what lies under it, and fails where that fails. No clause says that it fails nowhere else: std says of no
-/// call of a reader or a writer that it succeeds.
+/// Each call makes one call of the reader or writer, and fails if that fails. No clause says that it fails only then, since std
+/// never says that a call of a reader or a writer succeeds.
 #[derive(Drop)]
 pub struct OverStd<T> {
     inner: T,
@@ -20,7 +21,7 @@ pub struct OverStd<T> {
     reads: Option<u64>,
 }
 
-/// One more, where a u64 holds it.
+/// Returns one more, if a u64 holds it.
 fn one_more(count: Option<u64>) -> Option<u64>
     ensures { CountsMore count result 1 }
 {
@@ -30,7 +31,7 @@ fn one_more(count: Option<u64>) -> Option<u64>
 impl<T> OverStd<T> {
     ghost use Rattle.po_streams.specs.OverStd.{inner_of, has_failed, was_empty, reads_of};
 
-    /// Over a reader or a writer none of whose calls has shown anything.
+    /// Makes one over a reader or a writer; none of its calls has shown anything yet.
     pub fn new(inner: T) -> OverStd<T>
         ensures inner { inner_of result ≡ inner }
         ensures fine { has_failed result ≡ false }
@@ -45,7 +46,7 @@ impl<T> OverStd<T> {
         }
     }
 
-    /// The reader or the writer itself.
+    /// Returns the reader or the writer itself.
     pub fn into_inner(self) -> T
         ensures { result ≡ inner_of self }
     {

@@ -1,3 +1,4 @@
+// SPDX-License-Identifier: MIT
 //! What a script's answers are written to.
 
 ghost use Rattle.std.specs.Prelude.{◌≡◌, ℕ, ◌<◌, ◌≤◌, Bool, true, ◌||◌, ◌==◌, List, Option, length, take, IfOk, OnOk, OnErr};
@@ -5,16 +6,16 @@ ghost use Rattle.std.specs.Io.KnownBytes.{Appends, Keeps};
 
 use crate::source::IoFailed;
 
-/// Takes the bytes of the answers.
+/// What takes the bytes of the answers.
 pub trait Sink {
-    /// The bytes that it holds, where it tells them.
+    /// The bytes that it holds, if it says which.
     ghost taken: { Self → Option (List ℕ) };
     /// Whether a call has failed.
     ghost failed: { Self → Bool };
     /// Whether a call has taken no byte.
     ghost stuck: { Self → Bool };
 
-    /// Takes bytes from the front, and says how many.
+    /// Takes bytes from the front, and returns how many.
     fn write(&mut self, bytes: &[u8]) -> Result<usize, IoFailed>
         requires { 0 < length bytes.now }
         ensures within { IfOk result (λ count. count ≤ length bytes.now) }
@@ -27,7 +28,7 @@ pub trait Sink {
             × Keeps (taken self.old) (taken self.new)) };
 }
 
-/// Writes all the bytes; at an error some of them were taken, and then the sink failed or took none.
+/// Writes all the bytes. At an error, some of them were taken, and the sink failed or took no byte.
 pub fn write_all<W: Sink>(writer: &mut W, bytes: &[u8]) -> Result<(), IoFailed>
     ensures ok { OnOk result (Appends (W.taken writer.old) (W.taken writer.new) bytes.now
         × (W.failed writer.new ≡ W.failed writer.old)

@@ -1,25 +1,26 @@
+// SPDX-License-Identifier: MIT
 //! What a script is read from.
 
 ghost use Rattle.std.specs.Prelude.{◌≡◌, ℕ, ◌<◌, ◌≤◌, Bool, true, ◌||◌, ◌==◌, List, Option, None, length, take, min, IfOk, OnOk, OnErr};
 ghost use Rattle.std.specs.Io.KnownBytes.{Consumes, IsAtEnd, Keeps};
 ghost use Rattle.po_streams.specs.Source.{CountsMore};
 
-/// A call of what lies under a source or a sink failed.
+/// A call of what is under a source or a sink failed.
 #[derive(Clone, Copy, Debug, PartialEq, Eq)]
 pub struct IoFailed;
 
-/// Gives the bytes of a script.
+/// What gives the bytes of a script.
 pub trait Source {
-    /// The bytes that it still has to give, where it tells them.
+    /// The bytes that it still has to give, if it says which.
     ghost left: { Self → Option (List ℕ) };
     /// Whether a call has failed.
     ghost failed: { Self → Bool };
     /// Whether a call has given no byte.
     ghost ended: { Self → Bool };
-    /// How many calls have given bytes, where it tells the number.
+    /// How many calls have given bytes, if it says so.
     ghost reads: { Self → Option ℕ } = { λ _. None };
 
-    /// Puts the next bytes at the front of the buffer, and says how many; 0 is the end.
+    /// Puts the next bytes at the front of the buffer, and returns how many; 0 is the end.
     fn read(&mut self, buffer: &mut [u8]) -> Result<usize, IoFailed>
         requires { 0 < length buffer.old }
         ensures within { IfOk result (λ count. count ≤ length buffer.new) }

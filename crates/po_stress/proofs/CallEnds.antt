@@ -1,4 +1,4 @@
--- How calls ended, in numbers: receipt by receipt, and pass by pass.
+-- How many calls ended in each way: receipt by receipt, and pass by pass.
 use Rattle.std.proofs.Common.{subst, ◌≡◌, ◌<◌, ◌+◌, ◌++◌, ℕ, List, [], ◌∷◌, length, get_or, slice_get, refl, sym, ap, ◌∙◌, arith, Some, None, Bool, true, false, cond, Result}
 use Rattle.std.specs.List.{All, count_by, filter, find}
 use Rattle.std.proofs.lemmas.List.Elements.{All-head, All-tail, All-from_get_or}
@@ -18,14 +18,14 @@ use Rattle.po_stress.specs.declared.counting.Ending.TheVariants.{Done, GivenUp, 
 use Rattle.po_stress.specs.declared.ends.Ends.{Ends}
 use Rattle.po_stress.specs.Ends.{all_of, is_receipt_as, filed_as, filed_by_all, calls_of, AreEndsOf, AreEndsOfAll, AreUnused}
 
--- a list of one
+-- a list with one element
 one-listed : {A : Type 0} (xs : List A) → length xs ≡ 1 → (q : A) × (xs ≡ q ∷ [])
 one-listed [] e = absurd (omega (arith, e))
 one-listed (x ∷ []) e = (x, refl)
 one-listed (x ∷ y ∷ xs) e = absurd (omega (arith, e))
 
 module _ {V : Type 0} where
-  -- with a receipt more, it is counted too
+  -- one more receipt is counted too
   pub filed-more : (ending : Ending) (rs : List (Receipt V)) (r : Receipt V)
       → filed_as ending (rs ++ r ∷ []) ≡ filed_as ending rs + one_if (is_receipt_as ending r)
   filed-more ending rs r =
@@ -42,7 +42,7 @@ module _ {V : Type 0} where
     program_error = (let more = filed-more Failed rs (Ran op v reply) in omega (arith, h.program_error, more));
   }
 
-  -- the receipt of a call counts for its ending alone
+  -- the receipt of a call counts only for its ending
   pub ends-called : (rs : List (Receipt V)) (r : Receipt V) (old new : Ends)
       → new.completed ≡ old.completed + one_if (is_receipt_as Done r)
       → new.cancelled ≡ old.cancelled + one_if (is_receipt_as GivenUp r)
@@ -74,7 +74,7 @@ module _ {V : Type 0} where
       let rest = filed-all rs in
       omega (arith, a, b, d, e, here, rest)
 
-  -- so the numbers are together those of the calls
+  -- so the numbers add up to the count of calls
   pub ends-all : (rs : List (Receipt V)) (ends : Ends) → AreEndsOf rs ends → all_of ends ≡ count_by is_call rs
   ends-all rs ends h = omega (arith, h.completed, h.cancelled, h.program_error, filed-all rs)
 
@@ -84,14 +84,14 @@ module _ {V : Type 0} where
       let b = sum_by-cons (λ x. one_if (is_call x)) r [] in
       omega (arith, a, b)
 
-  -- where one receipt more is within the bound, so is one call more
+  -- if one more receipt is within the bound, so is one more call
   pub room-left : (bound : ℕ) (rs new : List (Receipt V)) (number entry : ℕ) (value : V) (deadline : Deadline) (end : End V) (ends : Ends)
       → new ≡ rs ++ Called number entry value deadline end ∷ [] → AreEndsOf rs ends → count_by is_call new < bound → all_of ends + 1 < bound
   room-left bound rs new number entry value deadline end ends filed h within =
       let same : count_by is_call new ≡ count_by is_call (rs ++ Called number entry value deadline end ∷ []) = ap (λ l. count_by is_call l) filed in
       omega (arith, within, same, calls-filed rs (Called number entry value deadline end), ends-all rs ends h)
 
-  -- and of the calls that the pass counted, where none is pending
+  -- and to the calls that the pass counted, if none is pending
   pub ends-tallied : (pass : PassView V) (ends : Ends) → AreEndsOf pass.receipts ends → IsTallied pass → pass.pending ≡ None → all_of ends ≡ pass.calls
   ends-tallied pass ends h t free =
       let none : unfiled pass.pending ≡ 0 = ap unfiled free in
@@ -112,7 +112,7 @@ module _ {V : Type 0} where
       let y = sum_by-cons (λ (p : PassView V). filed_as ending p.receipts) pass [] in
       omega (arith, x, y)
 
-  -- with the numbers of a pass more, they are those of all
+  -- with the numbers of one more pass, they are those of all
   pub ends-more : (ps : List (PassView V)) (pass : PassView V) (old here new : Ends)
       → new.completed ≡ old.completed + here.completed
       → new.cancelled ≡ old.cancelled + here.cancelled
@@ -124,7 +124,7 @@ module _ {V : Type 0} where
     program_error = (let more = filed-by-more Failed ps pass in omega (arith, h.program_error, k.program_error, more, d));
   }
 
-  -- how many calls the passes counted, with one more
+  -- how many calls the passes counted, with one more pass
   pub calls-more : (ps : List (PassView V)) (pass : PassView V) → calls_of (ps ++ pass ∷ []) ≡ calls_of ps + pass.calls
   calls-more ps pass =
       let x = sum_by-append (λ (p : PassView V). p.calls) ps (pass ∷ []) in
@@ -142,12 +142,12 @@ module _ {V : Type 0} where
   found-among P f true p ps q here rest e = (let same : p ≡ q = cc in subst P same here)
   found-among P f false p ps q here rest e = rest e
 
-  -- what holds of all holds of the one that is found
+  -- what holds of all holds of the one that `find` finds
   found-holds : (P : PassView V → Type 0) (f : PassView V → Bool) (ps : List (PassView V)) (q : PassView V) → All P ps → find f ps ≡ Some q → P q
   found-holds P f [] q all e = let r : None ≡ Some q = e in absurd (let s : ⊥ = cc in s)
   found-holds P f (p ∷ ps) q all e = found-among P f (f p) p ps q (All-head P p ps all) (λ e'. found-holds P f ps q (All-tail P p ps all) e') e
 
-  -- what holds of all passes holds of them by rising seat
+  -- what holds of all passes holds of them sorted by seat
   pub all-by_seat : (P : PassView V → Type 0) (n : ℕ) (ps qs : List (PassView V)) → OneEach n ps → AreBySeat n ps qs → All P ps → All P qs
   all-by_seat P n ps qs one sorted all =
       All-from_get_or P qs (fresh 0)
@@ -159,7 +159,7 @@ module _ {V : Type 0} where
   placed : (n : ℕ) (ps qs : List (PassView V)) → AreBySeat n ps qs → ArePlaced n ps qs
   placed n ps qs sorted s pass within kept = sorted.1 s within ∙ kept-found (is_at s) ps pass [] kept
 
-  -- and so do their numbers
+  -- so do their numbers
   pub ends-by_seat : (n : ℕ) (ps qs : List (PassView V)) (ends : Ends) → length ps ≡ n → OneEach n ps → AreBySeat n ps qs → AreEndsOfAll ps ends → AreEndsOfAll qs ends
   ends-by_seat n ps qs ends len one sorted h = record {
     completed = h.completed ∙ sum-by_seat (λ (p : PassView V). filed_as Done p.receipts) n ps qs len sorted.0 one (placed n ps qs sorted);

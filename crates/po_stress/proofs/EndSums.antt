@@ -1,4 +1,4 @@
--- What the numbers of a report add up to, where the receipts of all seats agree with the history.
+-- What the numbers of a report add up to if the receipts of all seats agree with the history.
 use Rattle.std.proofs.Common.{◌≡◌, ◌<◌, ◌+◌, ◌*◌, ℕ, List, [], ◌∷◌, map, length, drop, refl, sym, ap, ◌∙◌, arith, Option, Some, None, Bool, true, false, cond, get_or}
 use Rattle.std.specs.List.{All, slice_get, count_by, sum_by, filter}
 use Rattle.std.specs.Option.{IfSome}
@@ -11,7 +11,7 @@ use Rattle.std.proofs.lemmas.Option.{slice_get-get_or}
 use Rattle.po_calls.specs.declared.end.End.{End}
 use Rattle.po_calls.specs.declared.end.End.TheVariants.{Completed, Raised, Cancelled, ProgramError}
 use Rattle.po_history.specs.declared.event.Event.{Event}
-use Rattle.po_history.specs.declared.event.Event.TheVariants.{Issue, Ran, Abort, Tick, Final, Serve, Break, Expire}
+use Rattle.po_history.specs.declared.event.Event.TheVariants.{Issue, Ran, Cancel, Tick, Final, Serve, Break, Expire}
 use Rattle.po_engine.specs.declared.ended.Ended.{Ended}
 use Rattle.po_core.specs.Base.{is_issue}
 use Rattle.po_receipts.specs.declared.receipt.Receipt.TheVariants as R
@@ -22,11 +22,11 @@ use Rattle.po_receipts.specs.Answers.{asker_of, HasNoOthers}
 use Rattle.po_stress.specs.Counts.{is_answered_as, issues_ended}
 use Rattle.po_stress.specs.declared.counting.Ending.TheVariants.{Done, GivenUp, Failed}
 
--- what a test counts
+-- how much one test adds to a count
 abbrev pub one_if : Bool → ℕ
 one_if b = cond b 1 0
 
--- where the filed items are those that are due for the items of a list that pass a test, one is due for each of these
+-- If the items filed are those due for the elements of a list that pass a test, an item is due for each of these elements.
 module _ {X Y : Type 0} (p : X → Bool) (f : X → Option Y) where
   abbrev IsDue : X → Type 0
   IsDue x = p x ≡ true → is_some (f x) ≡ true
@@ -43,13 +43,13 @@ module _ {X Y : Type 0} (p : X → Bool) (f : X → Option Y) where
   each_due [] ys filed = All-nil IsDue
   each_due (x ∷ xs) ys filed = due_first x xs (each_due xs) (p x) refl ys filed
 
--- what is due for an answer is due only where there is one
+-- something is due for an answer only if there is one
 due_answer : {X Y : Type 0} (f : X → Y) (o : Option X) → is_some (option_map f o) ≡ true → is_some o ≡ true
 due_answer f None due = due
 due_answer f (Some x) due = refl
 
 module _ {V : Type 0} where
-  -- an answer is one of the three
+  -- an answer is of one of the three kinds
   one_ending : (o : Option (End V)) → is_some o ≡ true
       → one_if (is_answered_as Done o) + one_if (is_answered_as GivenUp o) + one_if (is_answered_as Failed o) ≡ 1
   one_ending None is = absurd (false≢true is)
@@ -59,16 +59,16 @@ module _ {V : Type 0} where
   one_ending (Some ProgramError) is = refl
 
 module _ {V : Type 0} (ended : List (Ended V)) where
-  -- the call that the event issues, if it issues one, has ended
+  -- if the event issues a call, that call has ended
   abbrev HasEnded : Event V → Type 0
   HasEnded (Issue n owner e v deadline) = is_some (answer_of ended n) ≡ true
   HasEnded other = Unit {0}
 
-  -- a receipt is due for the event, if this seat asked for it
+  -- a receipt is due for the event if this seat asked for it
   abbrev IsDueTo : ℕ → Event V → Type 0
   IsDueTo seat = IsDue (is_asked_by seat) (receipt_of ended)
 
-  -- the event is of one of the first seats, if it is of one
+  -- if a seat asked for the event, it is one of the first `limit` seats
   abbrev IsAskedBelow : ℕ → Event V → Type 0
   IsAskedBelow limit event = IfSome (asker_of event) (λ seat. seat < limit)
 
@@ -76,7 +76,7 @@ module _ {V : Type 0} (ended : List (Ended V)) where
   event_ended limit (Issue n owner e v deadline) due below =
       due_answer (λ answer. R.Called n e v deadline answer) (answer_of ended n) (due owner below (eq-eqb owner owner refl))
   event_ended limit (Ran owner op v reply) due below = tt
-  event_ended limit (Abort n) due below = tt
+  event_ended limit (Cancel n) due below = tt
   event_ended limit (Tick t) due below = tt
   event_ended limit Final due below = tt
   event_ended limit (Serve e) due below = tt
@@ -96,7 +96,7 @@ module _ {V : Type 0} (ended : List (Ended V)) where
       → one_if (issues_ended Done ended event) + one_if (issues_ended GivenUp ended event) + one_if (issues_ended Failed ended event) ≡ one_if (is_issue event)
   event_counted (Issue n owner e v deadline) is = one_ending (answer_of ended n) is
   event_counted (Ran owner op v reply) is = refl
-  event_counted (Abort n) is = refl
+  event_counted (Cancel n) is = refl
   event_counted (Tick t) is = refl
   event_counted Final is = refl
   event_counted (Serve e) is = refl
@@ -116,7 +116,7 @@ module _ {V : Type 0} (ended : List (Ended V)) where
       let rest = all_counted events (All-tail HasEnded event events are) in
       omega (arith, a, b, d, e, here, rest)
 
-  -- where all answers agree with the history, and seats alone asked for calls, each call ended in one of the three ways
+  -- if all answers agree with the history, and only seats asked for calls, each call ended in one of the three ways
   pub ends_add_up : (events : List (Event V)) (passes : List (PassView V)) → AllAgree ended events passes → HasNoOthers events passes
       → count_by (issues_ended Done ended) events + count_by (issues_ended GivenUp ended) events + count_by (issues_ended Failed ended) events
       ≡ count_by is_issue events
@@ -128,7 +128,7 @@ module _ {V : Type 0} (ended : List (Ended V)) where
       each_due (is_asked_by seat) (receipt_of ended) events pass.receipts (agree seat pass of_seat) in
       all_counted events (all_ended (length passes) events due asked)
 
--- passes that counted the same
+-- passes that all counted the same number
 pub same_tallies : {V : Type 0} (calls : ℕ) (passes : List (PassView V)) → All (λ pass. pass.calls ≡ calls) passes
     → sum_by (λ pass. pass.calls) passes ≡ length passes * calls
 same_tallies calls [] same = sym (zero-mul calls)

@@ -1,4 +1,5 @@
--- How the calls of receipts ended, in numbers (this project's own).
+-- SPDX-License-Identifier: MIT
+-- How many of the calls of receipts ended in each way (this project's own).
 use Rattle.std.specs.Prelude.{ℕ, ◌≡◌, ◌+◌, Bool, false, List, [], All, None, count_by, sum_by}
 use Rattle.po_receipts.specs.declared.receipt.Receipt.{Receipt}
 use Rattle.po_receipts.specs.declared.receipt.Receipt.TheVariants.{Called, Ran}
@@ -8,31 +9,31 @@ use Rattle.po_stress.specs.declared.counting.Ending.{Ending}
 use Rattle.po_stress.specs.declared.counting.Ending.TheVariants.{Done, GivenUp, Failed}
 use Rattle.po_stress.specs.declared.ends.Ends.{Ends}
 
--- how many calls they are together
+-- how many calls these are together
 abbrev pub all_of : Ends → ℕ
 all_of ends = ends.completed + ends.cancelled + ends.program_error
 
 module _ {V : Type 0} where
-  -- whether it is the receipt of a call that ended so
+  -- whether the receipt is of a call that ended in this way
   abbrev pub is_receipt_as : Ending → Receipt V → Bool
   is_receipt_as ending (Called number entry value deadline answer) = ends_as ending answer
   is_receipt_as ending (Ran op value reply) = false
 
-  -- how many receipts are of calls that ended so
+  -- how many receipts are of calls that ended in this way
   abbrev pub filed_as : Ending → List (Receipt V) → ℕ
   filed_as ending receipts = count_by (is_receipt_as ending) receipts
 
-  -- The numbers are those of the receipts, by how their calls ended.
+  -- The numbers count the receipts, by how their calls ended.
   pub record AreEndsOf (receipts : List (Receipt V)) (ends : Ends) : Type 0 where
     pub completed : ends.completed ≡ filed_as Done receipts
     pub cancelled : ends.cancelled ≡ filed_as GivenUp receipts
     pub program_error : ends.program_error ≡ filed_as Failed receipts
 
-  -- how many receipts of all these passes are of calls that ended so
+  -- how many receipts of all these passes are of calls that ended in this way
   abbrev pub filed_by_all : Ending → List (PassView V) → ℕ
   filed_by_all ending passes = sum_by (λ pass. filed_as ending pass.receipts) passes
 
-  -- The numbers are those of the receipts of all these passes.
+  -- The numbers count the receipts of all these passes.
   pub record AreEndsOfAll (passes : List (PassView V)) (ends : Ends) : Type 0 where
     pub completed : ends.completed ≡ filed_by_all Done passes
     pub cancelled : ends.cancelled ≡ filed_by_all GivenUp passes

@@ -1,3 +1,4 @@
+-- SPDX-License-Identifier: MIT
 pub mod BoundedRuns
 pub mod Counts
 pub mod Ends

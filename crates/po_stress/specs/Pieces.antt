@@ -1,3 +1,4 @@
+-- SPDX-License-Identifier: MIT
 -- The pieces of a line.
 use Rattle.std.specs.Prelude.{ℕ, List}
 use Rattle.std.specs.Fmt.{decimal}

@@ -1,3 +1,4 @@
+-- SPDX-License-Identifier: MIT
 -- What a report of a run says (this project's own).
 use Rattle.std.specs.Prelude.{ℕ, ◌≡◌, ◌*◌, All, IsOk, length}
 use Rattle.po_unit.specs.Meaning.{Meaning}
@@ -15,12 +16,13 @@ use Rattle.po_stress.specs.declared.report.Report.{Report}
 use Rattle.po_stress.specs.declared.unit.StressUnit.{StressUnit}
 use Rattle.po_stress.specs.declared.unit.StressUnit.TheVariants.{Buffer, Allocator, Meeting, Race}
 
--- The report is on an object of a unit with this meaning that was made so, had so many seats and was closed: its history replays
--- as serial protected actions of one thread, and as many calls were issued as the passes counted. Each thread's pass counted all
--- calls that the thread was to make; so where all answers agree with the history, the numbers add up to the calls of all threads.
+-- The report is on an object of a unit with this meaning that was set up with `setup`, had `threads` seats and was closed: its
+-- history replays as serial protected actions of one thread, and as many calls were issued as the passes counted. Each thread's
+-- pass counted all calls that the thread was to make. So if all answers agree with the history, the numbers add up to the calls
+-- of all threads.
 --
--- Whatever the verdict is: each thread was answered what the object's whole history gives to the thread's own calls, each once
--- and in the thread's order; no call was left without its answer; and this history is serial (9.5.1).
+-- Whatever the verdict is, each thread was answered what the object's whole history gives to the thread's own calls, each once
+-- and in the thread's order. No call was left without its answer, and this history is serial (9.5.1).
 pub record IsRun {S V : Type 0} (m : Meaning S V) (setup : Setup S) (threads calls : ℕ) (report : Report) : Type 0 where
   pub closed : ClosedView S V
   pub made : closed.core.object.setup ≡ setup
@@ -34,8 +36,8 @@ pub record IsRun {S V : Type 0} (m : Meaning S V) (setup : Setup S) (threads cal
   pub told : IsReportOf closed report
   pub sums : IsOk report.verdict → AddUpTo (threads * calls) report
 
--- The report is on an object of the unit that had so many seats, from each of which so many calls were made, and was closed: a
--- buffer with room for 4 values, in a race for 2; an allocator with 3 pieces; a meeting of all threads.
+-- The report is on an object of the unit that had `threads` seats, each of which made `calls` calls, and was closed: a buffer
+-- with room for 4 values, or for 2 in a race; an allocator with 3 pieces; a meeting of all threads.
 abbrev pub IsRunOf : StressUnit → ℕ → ℕ → Report → Type 0
 IsRunOf Buffer threads calls report = IsRun buffer_meaning (started_new buffer_unit 4) threads calls report
 IsRunOf Race threads calls report = IsRun buffer_meaning (started_new buffer_unit 2) threads calls report

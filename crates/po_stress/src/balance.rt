@@ -1,7 +1,9 @@
-//! What was put into a buffer, and what was got: its callers add it up. No proof rests on this, and it rests on none.
+// SPDX-License-Identifier: MIT
+//! Sums over the values put into a buffer and the values taken out of it, kept by its callers. They check the run apart from
+//! the proofs: neither rests on the other.
 
-/// The sum of the values that were put, less that of those that were got, and the exclusive or of all. Both are 0 where what was
-/// got is what was put.
+/// The sum of the values put, less that of the values taken out, and the exclusive or of all of them. Both are 0 if the values
+/// taken out are those put in.
 #[derive(Clone, Copy, Debug, PartialEq, Eq)]
 pub(crate) struct Balance {
     pub(crate) sum: u64,
@@ -9,7 +11,7 @@ pub(crate) struct Balance {
 }
 
 impl Balance {
-    /// That of no value.
+    /// Returns the balance of no values.
     pub(crate) fn new() -> Balance {
         Balance {
             sum: 0,
@@ -17,13 +19,13 @@ impl Balance {
         }
     }
 
-    /// The value was put.
+    /// Counts a value that was put.
     pub(crate) fn put(&mut self, value: u64) {
         self.sum = self.sum.wrapping_add(value);
         self.exclusive_or ^= value;
     }
 
-    /// The value was got.
+    /// Counts a value that was taken out.
     pub(crate) fn get(&mut self, value: u64) {
         self.sum = self.sum.wrapping_sub(value);
         self.exclusive_or ^= value;

@@ -1,4 +1,5 @@
-//! Objects, as the threads of a run call them.
+// SPDX-License-Identifier: MIT
+//! Callers of an object, for the threads of a run.
 
 ghost use Rattle.std.specs.Prelude.{◌≡◌, ◌<◌, ◌^◌, [], None, count_by};
 ghost use Rattle.po_receipts.specs.Passes.{is_call};
@@ -13,7 +14,7 @@ use std::marker::Model;
 use std::sync::Wait;
 use std::sync::ledger::Ledger;
 
-/// A caller of an object, which counts how its calls end. Contracts see it as its pass, with which no call is pending.
+/// A caller of an object, which counts how its calls end. Contracts see it as its pass, which has no pending call.
 #[derive(Drop)]
 pub(crate) struct Caller<C: CallLedger<u64>, P: Ledger, F: Ledger, Q: Receipts<u64>> {
     pass: Pass<u64, C, P, F, Q>,
@@ -36,7 +37,7 @@ impl<C: CallLedger<u64>, P: Ledger, F: Ledger, Q: Receipts<u64>> Model for Calle
 }
 
 impl<C: CallLedger<u64>, P: Ledger, F: Ledger, Q: Receipts<u64>> Caller<C, P, F, Q> {
-    /// The caller with this pass, which hasn't been used.
+    /// Makes a caller with this unused pass.
     pub(crate) fn new(pass: Pass<u64, C, P, F, Q>) -> Caller<C, P, F, Q>
         requires free { pass.pending ≡ None }
         requires unused { pass.receipts ≡ [] }
@@ -47,24 +48,26 @@ impl<C: CallLedger<u64>, P: Ledger, F: Ledger, Q: Receipts<u64>> Caller<C, P, F,
         }
     }
 
-    /// The caller's pass, with which no call is pending, and how its calls ended.
+    /// Gives back the pass, which has no pending call, and says how the caller's calls ended.
     pub(crate) fn leave(self) -> (Pass<u64, C, P, F, Q>, Ends)
         ensures free { result.0.pending ≡ None }
         ensures ends { AreEndsOf result.0.receipts result.1 }
         ensures all { all_of result.1 ≡ result.0.calls }
     {
+        // Only for the prover: brings the invariant of the pass into the proof.
         self.pass.recall_invariant();
         (self.pass, self.ends)
     }
 }
 
-/// A pass has fewer than 2^64 receipts of calls. It does nothing when it runs.
+/// Only for the prover: a pass has fewer than 2^64 receipts of calls. Does nothing at run time.
 fn recall_room<C: CallLedger<u64>, P: Ledger, F: Ledger, Q: Receipts<u64>>(
     pass: &Pass<u64, C, P, F, Q>,
 )
     ensures { count_by is_call pass.now.receipts < 2 ^ 64 }
 {
     pass.recall_invariant();
+    // Only for the prover: the count of calls is a `u64`.
     let _calls = pass.calls();
 }
 
@@ -94,6 +97,7 @@ impl<
         value: u64,
     ) -> Result<End<u64>, Refusal> {
         let end = self.call(rt, &mut caller.pass, entry, value)?;
+        // Only for the prover: there is room to count one more call.
         recall_room(&caller.pass);
         caller.ends.count(end);
         Ok(end)
@@ -108,6 +112,7 @@ impl<
         deadline: u64,
     ) -> Result<(), Refusal> {
         let end = self.timed(rt, &mut caller.pass, entry, value, deadline)?;
+        // Only for the prover: there is room to count one more call.
         recall_room(&caller.pass);
         caller.ends.count(end);
         Ok(())
@@ -130,7 +135,7 @@ impl<
     }
 
     fn cancel_seat<W: Wait>(&self, rt: &W, seat: u16) {
-        let _attempted = self.abort_seat(rt, seat);
+        let _attempted = self.cancel_seat(rt, seat);
     }
 
     fn end_all<W: Wait>(&self, rt: &W) {

@@ -1,4 +1,5 @@
-//! The numbers of calls in a history.
+// SPDX-License-Identifier: MIT
+//! Counts the calls of a history, by how they ended.
 
 ghost use Rattle.std.specs.Prelude.{◌≡◌, count_by};
 ghost use Rattle.po_core.specs.Base.{is_issue};
@@ -7,7 +8,7 @@ ghost use Rattle.po_stress.specs.Counts.{ends_as, issues_ended};
 use po_core::{Core, End, Event};
 use po_unit::Unit;
 
-/// How a call ended, as far as a report tells it.
+/// How a call ended, as far as a report distinguishes it.
 #[derive(Clone, Copy)]
 pub(crate) enum Ending {
     /// Its body completed, or raised an exception.
@@ -18,7 +19,7 @@ pub(crate) enum Ending {
     Failed,
 }
 
-/// Whether the call ended so.
+/// Returns whether the call ended in this way.
 fn is_such<V: Copy>(end: End<V>, ending: Ending) -> bool
     ensures { result ≡ ends_as ending end }
 {
@@ -29,14 +30,14 @@ fn is_such<V: Copy>(end: End<V>, ending: Ending) -> bool
     }
 }
 
-/// Whether the event issues a call.
+/// Returns whether the event issues a call.
 fn is_issue<V: Copy>(event: Event<V>) -> bool
     ensures { result ≡ is_issue event }
 {
     matches!(event, Event::Issue { .. })
 }
 
-/// Whether the event issues a call that has ended so.
+/// Returns whether the event issues a call that has ended in this way.
 fn issues_ended<U: Unit>(core: &Core<U>, event: Event<U::Value>, ending: Ending) -> bool
     ensures { result ≡ issues_ended ending core.now.object.state.ended event }
 {
@@ -49,14 +50,14 @@ fn issues_ended<U: Unit>(core: &Core<U>, event: Event<U::Value>, ending: Ending)
     }
 }
 
-/// How many calls these events issue.
+/// Returns how many calls these events issue.
 pub(crate) fn issued<V: Copy>(events: &[Event<V>]) -> u64
     ensures { result ≡ count_by is_issue events.now }
 {
     events.iter().filter(|event| is_issue(**event)).count() as u64
 }
 
-/// How many calls that the history issues have ended so.
+/// Returns how many of the calls that the history issues have ended in this way.
 pub(crate) fn ended<U: Unit>(core: &Core<U>, ending: Ending) -> u64
     ensures { result ≡ count_by (issues_ended ending core.now.object.state.ended) core.now.object.events }
 {

@@ -1,4 +1,5 @@
-//! How calls ended, in numbers.
+// SPDX-License-Identifier: MIT
+//! How many calls ended in each way.
 
 ghost use Rattle.std.specs.Prelude.{ℕ, ◌≡◌, ◌<◌, ◌+◌, ◌^◌, ◌++◌, ◌∷◌, [], List};
 ghost use Rattle.po_calls.specs.declared.call.Deadline.{Deadline};
@@ -20,7 +21,7 @@ pub(crate) struct Ends {
 }
 
 impl Ends {
-    /// Those of no call.
+    /// Returns the counts of no calls.
     pub(crate) fn new() -> Ends
         ensures { (result.completed ≡ 0) × (result.cancelled ≡ 0) × (result.program_error ≡ 0) }
     {
@@ -31,7 +32,7 @@ impl Ends {
         }
     }
 
-    /// Counts a call that ended so.
+    /// Counts a call that ended in this way.
     pub(crate) fn count(&mut self, end: End<u64>)
         requires room { all_of self.old + 1 < 2 ^ 64 }
         ensures { (receipts : List (Receipt ℕ)) (number entry value : ℕ) (deadline : Deadline)
@@ -44,7 +45,7 @@ impl Ends {
         }
     }
 
-    /// Adds the numbers of other calls.
+    /// Adds the counts of other calls.
     pub(crate) fn add(&mut self, ends: Ends)
         requires room { all_of self.old + all_of ends < 2 ^ 64 }
         ensures completed { self.new.completed ≡ self.old.completed + ends.completed }

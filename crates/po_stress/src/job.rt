@@ -1,3 +1,4 @@
+// SPDX-License-Identifier: MIT
 //! What the threads of a run do.
 
 use crate::balance::Balance;
@@ -10,20 +11,20 @@ use std::sync::Wait;
 
 /// The first entry of a unit: Put of a buffer, Request of an allocator, Wait of a meeting.
 const FIRST: EntryRef = EntryRef {
-    entry: 0,
+    declaration: 0,
     index: None,
 };
 
 /// The entry Get of a buffer.
 const GET: EntryRef = EntryRef {
-    entry: 1,
+    declaration: 1,
     index: None,
 };
 
 /// The procedure Release of an allocator.
 const RELEASE: u16 = 0;
 
-/// What each thread of a run with a seat does: so many calls on the unit.
+/// What each thread of a run with a seat does: `calls` calls on the unit.
 #[derive(Clone, Copy)]
 pub(crate) struct Job {
     pub(crate) unit: StressUnit,
@@ -31,7 +32,7 @@ pub(crate) struct Job {
 }
 
 impl Job {
-    /// The entry that a seat of a buffer calls, and the value of its call with this number, counted from 0.
+    /// Returns the entry that this seat of a buffer calls, and the value of its call number `j`, counted from 0.
     fn exchange(self, seat: u16, j: u32) -> (EntryRef, u64) {
         if is_putting(seat) {
             (
@@ -44,12 +45,12 @@ impl Job {
     }
 }
 
-/// Whether the seat of a buffer puts values. The others get them.
+/// Returns whether this seat of a buffer puts values. The others take them out.
 fn is_putting(seat: u16) -> bool {
     seat % 2 == 0
 }
 
-/// Puts a value, or gets one, as the seat does, and adds it up.
+/// Puts a value or takes one out, whichever the seat does, and adds it to the balance.
 fn exchange_once<O: Loaded, W: Wait>(
     rt: &W,
     object: &O,
@@ -68,12 +69,12 @@ fn exchange_once<O: Loaded, W: Wait>(
     Ok(())
 }
 
-/// How many pieces a seat's call with this number, counted from 0, asks an allocator for: 1 to 3.
+/// Returns how many pieces call number `j` of this seat, counted from 0, requests from an allocator: 1 to 3.
 fn pieces(seat: u16, j: u32) -> u64 {
     1 + (u64::from(seat) + u64::from(j)) % 3
 }
 
-/// Makes the caller's call with this number, counted from 0, and of an allocator the release that follows it.
+/// Makes call number `j` of the caller, counted from 0. With an allocator, it then releases the pieces.
 fn call_once<O: Loaded, W: Wait>(
     rt: &W,
     object: &O,
@@ -101,8 +102,8 @@ fn call_once<O: Loaded, W: Wait>(
     }
 }
 
-/// Ends the run where a thread was refused: it notes that memory was wanting, and finalizes the object, so that no other
-/// thread waits for what this one doesn't do. Where the object is finalized already, another thread has done so.
+/// Ends the run after a thread was refused: notes that memory ran out, and finalizes the object, so that no other thread waits
+/// for what this one no longer does. If the object is already finalized, another thread has done so.
 pub(crate) fn give_up<O: Loaded, W: Wait>(
     rt: &W,
     object: &O,
@@ -115,7 +116,7 @@ pub(crate) fn give_up<O: Loaded, W: Wait>(
     }
 }
 
-/// Makes all calls of a caller, and gives it back.
+/// Makes all calls of a caller, and gives the caller back.
 pub(crate) fn call_all<O: Loaded, W: Wait>(
     rt: &W,
     object: &O,
@@ -135,7 +136,7 @@ pub(crate) fn call_all<O: Loaded, W: Wait>(
     caller
 }
 
-/// Raises the clock to this time, and attempts to cancel the call of each seat, in turn.
+/// Raises the clock to this time, and tries to cancel the call of each seat, in turn.
 fn disturb_once<O: Loaded, W: Wait>(rt: &W, object: &O, time: u64) -> Result<(), Refusal> {
     object.raise_clock(rt, time)?;
     for seat in 0..object.seat_count() {
@@ -144,7 +145,7 @@ fn disturb_once<O: Loaded, W: Wait>(rt: &W, object: &O, time: u64) -> Result<(),
     Ok(())
 }
 
-/// Raises the clock to 1, 2 and so on, and after each attempts to cancel the call of each seat.
+/// Raises the clock to 1, 2 and so on, and each time tries to cancel the call of each seat.
 pub(crate) fn disturb<O: Loaded, W: Wait>(rt: &W, object: &O, progress: &Progress, ticks: u32) {
     for n in 0..ticks {
         if let Err(refusal) = disturb_once(rt, object, u64::from(n) + 1) {

@@ -1,4 +1,5 @@
-//! What runs over the two kinds of objects differ in: how the object is opened, and what is said of it once it is closed.
+// SPDX-License-Identifier: MIT
+//! What differs between runs over the two kinds of objects: how the object is opened, and what is said of it once it is closed.
 
 ghost use Rattle.std.specs.Prelude.{◌≡◌, ◌≤◌, ◌+◌, true, false, [], Some, All, IfOk, IfErr, IfSome, length};
 ghost use Rattle.std.specs.Arc.{arc_value};
@@ -11,7 +12,7 @@ ghost use Rattle.po_stress.specs.Runs.{IsRun};
 ghost use Rattle.po_stress.specs.BoundedRuns.{IsBoundedRun};
 
 use crate::ends::Ends;
-use crate::fault::StressFault;
+use crate::error::StressError;
 use crate::job::Job;
 use crate::progress::Progress;
 use crate::report::Report;
@@ -19,7 +20,7 @@ use crate::run::run_over;
 use crate::totals::Totals;
 use po_core::{BoundedCore, Core, Event, Order, Record, Start};
 use po_object::{
-    BoundedClosed, BoundedObject, Closed, Keeper, Object, OpenFault, Pass, Receipts, Story,
+    BoundedClosed, BoundedObject, Closed, Keeper, Object, OpenError, Pass, Receipts, Story,
 };
 use po_unit::{Shape, Unit};
 use std::alloc::{AllocError, Global};
@@ -27,19 +28,19 @@ use std::sync::ledger::{Blank, Ledger};
 use std::sync::{Arc, Wait};
 use std::thread::Threads;
 
-/// The number of the first call, the place of the first event, and no greatest length of a queue.
+/// The first call is number 1, the first event has place 0, and queues may grow without limit.
 const START: Start = Start {
     first_number: 1,
     first_place: 0,
     max_queue: None,
 };
 
-/// Lets go what a refused opening hands back.
-fn let_go<U: Unit<Value = u64> + Drop, R: Record<U> + Drop>(_fault: OpenFault<U, R>) -> AllocError {
+/// Drops what a refused opening hands back.
+fn let_go<U: Unit<Value = u64> + Drop, R: Record<U> + Drop>(_fault: OpenError<U, R>) -> AllocError {
     AllocError
 }
 
-/// The object, in a place that threads can share, with its passes.
+/// Puts the object in a place that threads can share, and returns it with its passes.
 fn share<
     U: Unit<Value = u64> + Drop,
     C: Story<U, u64>,
@@ -59,7 +60,7 @@ fn share<
     Ok((object, passes))
 }
 
-/// Opens an object over the core that threads can share, with a fresh pass for each of its seats.
+/// Opens an object over the core that threads can share, with a fresh pass for each seat.
 fn open_shared<
     U: Unit<Value = u64> + Drop,
     C: Story<U, u64>,
@@ -93,8 +94,7 @@ fn open_shared<
     }
 }
 
-/// Opens an object over the core that takes no memory later, and that threads can share, with a fresh pass for each of its
-/// seats.
+/// Opens an object over the core that threads can share and that takes no memory later, with a fresh pass for each seat.
 fn open_shared_bounded<
     U: Unit<Value = u64> + Drop,
     C: Story<U, u64>,
@@ -133,7 +133,7 @@ fn open_shared_bounded<
     }
 }
 
-/// Opens an object over the core, has threads call it, closes it, and reports.
+/// Opens an object over a core of the unit, has threads call it, closes it, and reports on it.
 pub(crate) fn run<
     U: Unit<Value = u64> + Send + Sync + Drop + 'static,
     C: Story<U, u64> + Send + Sync + 'static,
@@ -149,14 +149,14 @@ pub(crate) fn run<
     calls: Blank,
     procedures: Blank,
     log: Keeper<Event<u64>>,
-) -> Result<Report, StressFault>
+) -> Result<Report, StressError>
     requires shape { shape ≡ C.shape }
     requires story { IsStory U.meaning (started unit shape) C.setup C.end_of }
     requires log { (log.name ≡ C.log) × (log.items ≡ []) }
     requires calls { (calls.name ≡ C.name) × (calls.parts ≡ C.parts) × (calls.parts ≡ threads + 1) }
     requires procedures { (procedures.name ≡ P.name) × (procedures.parts ≡ P.parts) × (procedures.parts ≡ threads + 1) }
     ensures report { IfOk result (IsRun U.meaning (started unit shape) threads job.calls) }
-    ensures fault { IfErr result (λ fault. fault ≡ StressFault.OutOfMemory) }
+    ensures fault { IfErr result (λ fault. fault ≡ StressError.OutOfMemory) }
 {
     let core = Core::start(rt.alloc(), unit, shape, Order::Textual, START).map_err(|_| AllocError)?;
     let (object, passes) = open_shared(rt.alloc(), core, threads, calls, procedures, log)?;
@@ -165,7 +165,7 @@ pub(crate) fn run<
     Ok(report_on(&closed, job.calls))
 }
 
-/// Opens an object with fixed memory over the core, has threads call it, closes it, and adds up.
+/// Opens an object with fixed memory over a core of the unit, has threads call it, closes it, and adds up its totals.
 pub(crate) fn run_bounded<
     U: Unit<Value = u64> + Send + Sync + Drop + 'static,
     C: Story<U, u64> + Send + Sync + 'static,
@@ -183,7 +183,7 @@ pub(crate) fn run_bounded<
     procedures: Blank,
     free: Blank,
     log: Keeper<Event<u64>>,
-) -> Result<Totals, StressFault>
+) -> Result<Totals, StressError>
     requires shape { shape ≡ C.shape }
     requires story { IsStory U.meaning (started unit shape) C.setup C.end_of }
     requires log { (log.name ≡ C.log) × (log.items ≡ []) }
@@ -191,7 +191,7 @@ pub(crate) fn run_bounded<
     requires procedures { (procedures.name ≡ P.name) × (procedures.parts ≡ P.parts) × (procedures.parts ≡ threads + 1) }
     requires free { (free.name ≡ F.name) × (free.parts ≡ F.parts) × (free.parts ≡ threads + 1) }
     ensures totals { IfOk result (IsBoundedRun U.meaning (started unit shape) threads job.calls) }
-    ensures fault { IfErr result (λ fault. fault ≡ StressFault.OutOfMemory) }
+    ensures fault { IfErr result (λ fault. fault ≡ StressError.OutOfMemory) }
 {
     let most = usize::from(threads);
     let core = BoundedCore::with_capacity(
@@ -216,19 +216,20 @@ pub(crate) fn run_bounded<
     Ok(totals_of(&closed, ends, job.calls))
 }
 
-/// The report on a closed object each of whose passes counted so many calls, with what holds of each such object.
+/// Returns the report on a closed object whose passes counted `calls` calls each, with what holds of each such object.
 fn report_on<U: Unit<Value = u64>>(closed: &Closed<U>, calls: u32) -> Report
     requires tallies { All (λ pass. pass.calls ≡ calls) closed.now.passes }
     requires pending { NonePending closed.now.passes }
     ensures { IsRun U.meaning closed.now.core.object.setup (length closed.now.passes) calls result }
 {
+    // Only for the prover: these three steps state what holds of each closed object.
     closed.closing_totals();
     closed.every_answer();
     closed.core().headline();
     Report::of(closed)
 }
 
-/// The totals of a closed object, with what holds of each such object.
+/// Returns the totals of a closed object, with what holds of each such object.
 fn totals_of<U: Unit<Value = u64>>(closed: &BoundedClosed<U>, ends: Ends, calls: u32) -> Totals
     requires tallies { All (λ pass. pass.calls ≡ calls) closed.now.passes }
     requires pending { NonePending closed.now.passes }
@@ -236,6 +237,7 @@ fn totals_of<U: Unit<Value = u64>>(closed: &BoundedClosed<U>, ends: Ends, calls:
     requires all { all_of ends ≡ calls_of closed.now.passes }
     ensures { IsBoundedRun U.meaning closed.now.core.object.setup (length closed.now.passes) calls result }
 {
+    // Only for the prover: these three steps state what holds of each closed object.
     closed.closing_totals();
     closed.every_answer();
     closed.core().headline();

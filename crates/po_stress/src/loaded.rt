@@ -1,3 +1,4 @@
+// SPDX-License-Identifier: MIT
 //! What the threads of a run need of an object.
 
 use po_core::{End, Refusal};
@@ -6,16 +7,16 @@ use std::sync::Wait;
 
 /// An object that the threads of a run call. Each thread carries a caller, which has a seat of the object.
 pub(crate) trait Loaded {
-    /// What a thread carries: its pass, with which no call is pending.
+    /// What a thread carries: its pass, which has no pending call.
     type Caller: Send + Drop + 'static;
 
-    /// How many seats the object has.
+    /// Returns how many seats the object has.
     fn seat_count(&self) -> u16;
 
-    /// The caller's seat.
+    /// Returns the caller's seat.
     fn seat_of(caller: &Self::Caller) -> u16;
 
-    /// Calls an entry, and waits for the end of the call (9.5.3).
+    /// Calls an entry, and waits until the call has ended (9.5.3).
     fn enter<W: Wait>(
         &self,
         rt: &W,
@@ -24,7 +25,7 @@ pub(crate) trait Loaded {
         value: u64,
     ) -> Result<End<u64>, Refusal>;
 
-    /// Calls an entry, and gives the call up where it isn't selected before the deadline (9.7.2).
+    /// Calls an entry, and gives the call up if it isn't selected before the deadline (9.7.2).
     fn enter_before<W: Wait>(
         &self,
         rt: &W,
@@ -46,9 +47,9 @@ pub(crate) trait Loaded {
     /// Raises the clock.
     fn raise_clock<W: Wait>(&self, rt: &W, time: u64) -> Result<(), Refusal>;
 
-    /// Attempts to cancel the seat's call, if one is queued (9.5.3).
+    /// Tries to cancel the seat's call, if one is queued (9.5.3).
     fn cancel_seat<W: Wait>(&self, rt: &W, seat: u16);
 
-    /// Finalizes the object, if it isn't finalized (9.4).
+    /// Finalizes the object, unless it is already finalized (9.4).
     fn end_all<W: Wait>(&self, rt: &W);
 }

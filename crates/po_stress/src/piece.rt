@@ -1,3 +1,4 @@
+// SPDX-License-Identifier: MIT
 //! The pieces of a line.
 
 ghost use Rattle.std.specs.Prelude.{◌≡◌, ◌||◌, true, flat_map, OnOk, OnErr};
@@ -11,9 +12,9 @@ use po_streams::{IoFailed, Sink, write_all};
 /// A piece of a line.
 #[derive(Clone, Copy)]
 pub(crate) enum Piece {
-    /// These words.
+    /// Words.
     Words(&'static str),
-    /// This number, in decimal.
+    /// A number, in decimal.
     Number(u64),
 }
 
@@ -43,7 +44,7 @@ fn write_piece<W: Sink>(writer: &mut W, piece: Piece) -> Result<(), IoFailed>
     }
 }
 
-/// Writes the pieces one after the other.
+/// Writes the pieces one after another.
 pub(crate) fn write_pieces<W: Sink>(writer: &mut W, pieces: &[Piece]) -> Result<(), IoFailed>
     ensures ok { OnOk result (Appends (W.taken writer.old) (W.taken writer.new) (flat_map text_of pieces.now)) }
     ensures fine { OnOk result ((W.failed writer.new ≡ W.failed writer.old) × (W.stuck writer.new ≡ W.stuck writer.old)) }

@@ -1,9 +1,11 @@
+// SPDX-License-Identifier: MIT
 //! How far a run has come.
 
 use crate::balance::Balance;
 use std::sync::atomic::{AtomicBool, AtomicU64, Ordering};
 
-/// How far a run has come, as its threads tell it; of a run of the buffer also whether what they got is what they put.
+/// How far a run has come, as its threads report it. For a run of the buffer, also whether the values taken out are those put
+/// in.
 #[derive(Drop)]
 pub struct Progress {
     ended: AtomicU64,
@@ -13,7 +15,7 @@ pub struct Progress {
 }
 
 impl Progress {
-    /// That of a run that hasn't begun.
+    /// Returns the progress of a run that hasn't begun.
     pub fn new() -> Progress {
         Progress {
             ended: AtomicU64::new(0),
@@ -23,7 +25,7 @@ impl Progress {
         }
     }
 
-    /// How many calls have ended so far.
+    /// Returns how many calls have ended so far.
     pub fn ended(&self) -> u64 {
         self.ended.load(Ordering::SeqCst)
     }
@@ -33,25 +35,25 @@ impl Progress {
         self.ended.fetch_add(1, Ordering::SeqCst);
     }
 
-    /// Adds what a caller has put and got.
+    /// Adds the values that a caller put and took out.
     pub(crate) fn add(&self, balance: Balance) {
         self.sum.fetch_add(balance.sum, Ordering::SeqCst);
         self.exclusive_or
             .fetch_xor(balance.exclusive_or, Ordering::SeqCst);
     }
 
-    /// Whether the callers of the buffer got what was put, once their run has ended: by the sum and the exclusive or of the
-    /// values, as they counted. So it is where none was put or got.
+    /// Returns whether the callers of the buffer took out what was put in, once their run has ended: whether the sum and the
+    /// exclusive or of the values, as the callers counted them, are 0. So they are if no value was put or taken out.
     pub fn is_balanced(&self) -> bool {
         self.sum.load(Ordering::SeqCst) == 0 && self.exclusive_or.load(Ordering::SeqCst) == 0
     }
 
-    /// Notes that memory was wanting.
+    /// Notes that memory ran out.
     pub(crate) fn note_want(&self) {
         self.is_short.store(true, Ordering::SeqCst);
     }
 
-    /// Whether memory was wanting.
+    /// Returns whether memory ran out.
     pub(crate) fn was_short(&self) -> bool {
         self.is_short.load(Ordering::SeqCst)
     }

@@ -1,3 +1,4 @@
+// SPDX-License-Identifier: MIT
 //! What is said of a run.
 
 ghost use Rattle.std.specs.Prelude.{◌≡◌, ◌||◌, true, IfOk, IsOk, OnOk, OnErr, sum_by};
@@ -9,18 +10,18 @@ use crate::piece::{Piece, write_pieces};
 use crate::sums::recall_sums;
 use crate::totals::Totals;
 use po_core::Volume;
-use po_object::{Agreed, Closed, ReconcileFault, reconcile};
+use po_object::{Agreed, Closed, ReconcileError, reconcile};
 use po_streams::{IoFailed, Sink};
 use po_unit::Unit;
 
-/// The status where all answers agree with the history.
+/// The exit status if all answers agree with the history.
 pub(crate) const GOOD: u8 = 0;
 
-/// The status where they don't.
+/// The exit status if they don't.
 pub(crate) const MISMATCH: u8 = 3;
 
-/// What a run came to: the numbers of calls, as the history of the closed object has them, and whether what the threads were
-/// answered agrees with it.
+/// The outcome of a run: the numbers of calls, as the history of the closed object has them, and whether the answers to the
+/// threads agree with that history.
 #[derive(Clone, Copy, Debug, PartialEq, Eq)]
 pub struct Report {
     /// How many calls were issued.
@@ -31,15 +32,15 @@ pub struct Report {
     pub cancelled: u64,
     /// How many of them ended by Program_Error.
     pub program_error: u64,
-    /// What the reconciliation answered.
-    pub verdict: Result<Agreed, ReconcileFault>,
+    /// The answer of the reconciliation.
+    pub verdict: Result<Agreed, ReconcileError>,
 }
 
 impl Report {
-    /// The report on a closed object whose history was never cut.
+    /// Returns the report on a closed object whose history was never cut.
     pub fn of<U: Unit>(closed: &Closed<U>) -> Report
         ensures told { IsReportOf closed.now result }
-        // Where all answers agree, as many calls were issued as the passes counted, and each of them ended in one of three ways.
+        // If all answers agree, the passes counted as many calls as were issued, and each of these ended in one of three ways.
         ensures sums { IsOk result.verdict → AddUpTo (sum_by (λ pass. pass.calls) closed.now.passes) result }
     {
         let core = closed.core();
@@ -55,9 +56,9 @@ impl Report {
         }
     }
 
-    /// Writes the line of the report, and gives the status: 0 where all agrees, else 3.
+    /// Writes the line of the report, and returns the exit status: 0 if all agrees, otherwise 3.
     ///
-    /// At an error some bytes of the line were taken, and then the sink failed or took none.
+    /// At an error the sink took some of the line's bytes, and then failed or took none.
     pub fn write<W: Sink>(&self, writer: &mut W) -> Result<u8, IoFailed>
         ensures status { IfOk result (λ status. status ≡ status_of self.now.verdict) }
         ensures ok { OnOk result (Appends (W.taken writer.old) (W.taken writer.new) (line_of self.now)) }
@@ -78,8 +79,8 @@ impl Report {
     {
         match self.verdict {
             Ok(_) => self.write_counts(writer),
-            Err(ReconcileFault::Gap { place }) => write_gap(writer, place),
-            Err(ReconcileFault::Mismatch { seat, place }) => write_mismatch(writer, seat, place),
+            Err(ReconcileError::Gap { place }) => write_gap(writer, place),
+            Err(ReconcileError::Mismatch { seat, place }) => write_mismatch(writer, seat, place),
         }
     }
 
@@ -100,8 +101,8 @@ impl Report {
     }
 }
 
-/// The status of a verdict.
-fn status(verdict: Result<Agreed, ReconcileFault>) -> u8
+/// Returns the exit status of a verdict.
+fn status(verdict: Result<Agreed, ReconcileError>) -> u8
     ensures { result ≡ status_of verdict }
 {
     match verdict {

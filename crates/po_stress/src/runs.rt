@@ -1,4 +1,5 @@
-//! Runs of the units.
+// SPDX-License-Identifier: MIT
+//! The runs that load a unit.
 
 ghost use Rattle.std.specs.Prelude.{◌≡◌, ◌≤◌, ◌%◌, ◌↔◌, Err, IfOk, IfErr, true};
 ghost use Rattle.po_classic_units.specs.Sizes.{IsSize};
@@ -10,7 +11,7 @@ ghost use Rattle.po_stress.specs.BoundedRuns.{IsBoundedRun, IsBoundedRunOf};
 ghost use Rattle.po_stress.specs.Starts.{started};
 ghost use Rattle.po_stress.specs.Units.{is_paired};
 
-use crate::fault::StressFault;
+use crate::error::StressError;
 use crate::job::Job;
 use crate::kinds::{run, run_bounded};
 use crate::progress::Progress;
@@ -35,19 +36,19 @@ pub const MOST_CALLS: u32 = 100_000;
 /// How many values the buffer of a run has room for.
 const CAPACITY: u16 = 4;
 
-/// The same, of a race.
+/// How many values the buffer of a race has room for.
 const RACE_CAPACITY: u16 = 2;
 
 /// How many pieces the allocator of a run has.
 const PIECES: u16 = 3;
 
-/// A run over an object that records the history of this unit.
+/// Runs threads over an object that records the history of this unit.
 fn run_recorded<
     U: ScriptUnit + Unit<Value = u64> + Send + Sync + Drop + 'static,
     W: Threads + Wait + AllocGlobal + Copy + Send + 'static,
->(rt: W, unit: U, progress: &Arc<Progress>, job: Job, threads: u16) -> Result<Report, StressFault>
+>(rt: W, unit: U, progress: &Arc<Progress>, job: Job, threads: u16) -> Result<Report, StressError>
     ensures report { IfOk result (IsRun U.meaning (started unit (U.known.declarations unit)) threads job.calls) }
-    ensures fault { IfErr result (λ fault. fault ≡ StressFault.OutOfMemory) }
+    ensures fault { IfErr result (λ fault. fault ≡ StressError.OutOfMemory) }
 {
     let shape = unit.shape(rt.alloc()).map_err(|_| AllocError)?;
     let parts = u64::from(threads) + 1;
@@ -65,13 +66,13 @@ fn run_recorded<
     )
 }
 
-/// A run over an object of this unit with fixed memory: for one call of each thread.
+/// Runs threads over an object of this unit with fixed memory, enough for one call of each thread.
 fn run_fixed<
     U: ScriptUnit + Unit<Value = u64> + Send + Sync + Drop + 'static,
     W: Threads + Wait + AllocGlobal + Copy + Send + 'static,
->(rt: W, unit: U, progress: &Arc<Progress>, job: Job, threads: u16) -> Result<Totals, StressFault>
+>(rt: W, unit: U, progress: &Arc<Progress>, job: Job, threads: u16) -> Result<Totals, StressError>
     ensures totals { IfOk result (IsBoundedRun U.meaning (started unit (U.known.declarations unit)) threads job.calls) }
-    ensures fault { IfErr result (λ fault. fault ≡ StressFault.OutOfMemory) }
+    ensures fault { IfErr result (λ fault. fault ≡ StressError.OutOfMemory) }
 {
     let shape = unit.shape(rt.alloc()).map_err(|_| AllocError)?;
     let parts = u64::from(threads) + 1;
@@ -90,24 +91,24 @@ fn run_fixed<
     )
 }
 
-/// Whether half of the unit's threads would wait for what the other half does, and their number is odd.
+/// Returns whether half of the unit's threads would wait for the other half, and their number is odd.
 fn is_uneven(unit: StressUnit, threads: u16) -> bool
     ensures { (result ≡ true) ↔ ((is_paired unit ≡ true) × (threads % 2 ≡ 1)) }
 {
     unit.is_paired() && threads % 2 == 1
 }
 
-/// A run over the unit.
+/// Runs threads over an object of the unit.
 fn load<W: Threads + Wait + AllocGlobal + Copy + Send + 'static>(
     rt: W,
     progress: &Arc<Progress>,
     unit: StressUnit,
     threads: u16,
     calls: u32,
-) -> Result<Report, StressFault>
+) -> Result<Report, StressError>
     requires { (1 ≤ threads) × (threads ≤ MOST_THREADS) }
     ensures report { IfOk result (IsRunOf unit threads calls) }
-    ensures fault { IfErr result (λ fault. fault ≡ StressFault.OutOfMemory) }
+    ensures fault { IfErr result (λ fault. fault ≡ StressError.OutOfMemory) }
 {
     let job = Job { unit, calls };
     match unit {
@@ -130,17 +131,17 @@ fn load<W: Threads + Wait + AllocGlobal + Copy + Send + 'static>(
     }
 }
 
-/// A run over the unit, on an object with fixed memory.
+/// Runs threads over an object of the unit with fixed memory.
 fn load_fixed<W: Threads + Wait + AllocGlobal + Copy + Send + 'static>(
     rt: W,
     progress: &Arc<Progress>,
     unit: StressUnit,
     threads: u16,
     calls: u32,
-) -> Result<Totals, StressFault>
+) -> Result<Totals, StressError>
     requires { (1 ≤ threads) × (threads ≤ MOST_THREADS) }
     ensures totals { IfOk result (IsBoundedRunOf unit threads calls) }
-    ensures fault { IfErr result (λ fault. fault ≡ StressFault.OutOfMemory) }
+    ensures fault { IfErr result (λ fault. fault ≡ StressError.OutOfMemory) }
 {
     let job = Job { unit, calls };
     match unit {
@@ -163,64 +164,64 @@ fn load_fixed<W: Threads + Wait + AllocGlobal + Copy + Send + 'static>(
     }
 }
 
-/// Has so many threads make so many calls each on one object, closes it, and reports whether all that they were answered
-/// agrees with the object's history.
+/// Has `threads` threads make `calls` calls each on one object, closes it, and reports whether all their answers agree with the
+/// object's history.
 pub fn stress<W: Threads + Wait + AllocGlobal + Copy + Send + 'static>(
     rt: W,
     unit: StressUnit,
     threads: u16,
     calls: u32,
-) -> Result<Report, StressFault>
+) -> Result<Report, StressError>
     requires threads { (1 ≤ threads) × (threads ≤ MOST_THREADS) }
     requires calls { (1 ≤ calls) × (calls ≤ MOST_CALLS) }
-    // It is refused exactly where half of the threads would wait for what the other half does, and their number is odd.
-    ensures odd { (result ≡ Err StressFault.OddThreads) ↔ ((is_paired unit ≡ true) × (threads % 2 ≡ 1)) }
+    // The run is refused exactly if half of the threads would wait for the other half and their number is odd.
+    ensures odd { (result ≡ Err StressError.OddThreads) ↔ ((is_paired unit ≡ true) × (threads % 2 ≡ 1)) }
     ensures report { IfOk result (IsRunOf unit threads calls) }
 {
     if is_uneven(unit, threads) {
-        return Err(StressFault::OddThreads);
+        return Err(StressError::OddThreads);
     }
     let Ok(progress) = Arc::new(rt.alloc(), Progress::new()) else {
-        return Err(StressFault::OutOfMemory);
+        return Err(StressError::OutOfMemory);
     };
     load(rt, &progress, unit, threads, calls)
 }
 
-/// The same, where another thread can look how far the run has come.
+/// Does what `stress` does, while another thread can watch how far the run has come.
 pub fn stress_watched<W: Threads + Wait + AllocGlobal + Copy + Send + 'static>(
     rt: W,
     progress: &Arc<Progress>,
     unit: StressUnit,
     threads: u16,
     calls: u32,
-) -> Result<Report, StressFault>
+) -> Result<Report, StressError>
     requires threads { (1 ≤ threads) × (threads ≤ MOST_THREADS) }
     requires calls { (1 ≤ calls) × (calls ≤ MOST_CALLS) }
-    ensures odd { (result ≡ Err StressFault.OddThreads) ↔ ((is_paired unit ≡ true) × (threads % 2 ≡ 1)) }
+    ensures odd { (result ≡ Err StressError.OddThreads) ↔ ((is_paired unit ≡ true) × (threads % 2 ≡ 1)) }
     ensures report { IfOk result (IsRunOf unit threads calls) }
 {
     if is_uneven(unit, threads) {
-        return Err(StressFault::OddThreads);
+        return Err(StressError::OddThreads);
     }
     load(rt, progress, unit, threads, calls)
 }
 
-/// Has so many threads make so many calls each on one object with fixed memory, closes it, and adds up how many calls its
-/// core issued, and how those ended that the threads made. Another thread can look how far the run has come.
+/// Has `threads` threads make `calls` calls each on one object with fixed memory, closes it, and adds up how many calls its
+/// core issued and how the calls that the threads made ended. Another thread can watch how far the run has come.
 pub fn stress_bounded<W: Threads + Wait + AllocGlobal + Copy + Send + 'static>(
     rt: W,
     progress: &Arc<Progress>,
     unit: StressUnit,
     threads: u16,
     calls: u32,
-) -> Result<Totals, StressFault>
+) -> Result<Totals, StressError>
     requires threads { (1 ≤ threads) × (threads ≤ MOST_THREADS) }
     requires calls { (1 ≤ calls) × (calls ≤ MOST_CALLS) }
-    ensures odd { (result ≡ Err StressFault.OddThreads) ↔ ((is_paired unit ≡ true) × (threads % 2 ≡ 1)) }
+    ensures odd { (result ≡ Err StressError.OddThreads) ↔ ((is_paired unit ≡ true) × (threads % 2 ≡ 1)) }
     ensures totals { IfOk result (IsBoundedRunOf unit threads calls) }
 {
     if is_uneven(unit, threads) {
-        return Err(StressFault::OddThreads);
+        return Err(StressError::OddThreads);
     }
     load_fixed(rt, progress, unit, threads, calls)
 }

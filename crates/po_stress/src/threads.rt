@@ -1,3 +1,4 @@
+// SPDX-License-Identifier: MIT
 //! The threads of a run.
 
 ghost use Rattle.std.specs.Prelude.{◌≤◌, ◌+◌, vec_len, vec_capacity};
@@ -11,7 +12,7 @@ use std::alloc::AllocError;
 use std::sync::{Arc, Wait};
 use std::thread::{self, JoinHandle, Threads};
 
-/// Starts a thread that makes all calls of the caller, and gives it back.
+/// Starts a thread that makes all calls of the caller, and gives the caller back.
 fn start<O: Loaded + Send + Sync + Drop + 'static, W: Threads + Wait + Copy + Send + 'static>(
     rt: W,
     object: Arc<O>,
@@ -23,7 +24,7 @@ fn start<O: Loaded + Send + Sync + Drop + 'static, W: Threads + Wait + Copy + Se
     Ok(thread::spawn(&rt, job)?)
 }
 
-/// Starts a thread that raises the clock so often, and after each time attempts to cancel the call of each seat.
+/// Starts a thread that raises the clock `ticks` times, and each time tries to cancel the call of each seat.
 fn start_disturbing<
     O: Loaded + Send + Sync + Drop + 'static,
     W: Threads + Wait + Copy + Send + 'static,
@@ -37,7 +38,7 @@ fn start_disturbing<
     Ok(thread::spawn(&rt, job)?)
 }
 
-/// Starts a thread for each caller, where there is room for it.
+/// Starts a thread for each caller. `threads` has room for all of them.
 fn start_callers<
     O: Loaded + Send + Sync + Drop + 'static,
     W: Threads + Wait + Copy + Send + 'static,
@@ -59,7 +60,7 @@ fn start_callers<
     Ok(())
 }
 
-/// Starts all threads: of a race also the one that disturbs the others.
+/// Starts all threads. A race has one more, which disturbs the others.
 fn start_all<O: Loaded + Send + Sync + Drop + 'static, W: Threads + Wait + Copy + Send + 'static>(
     rt: W,
     object: &Arc<O>,
@@ -79,9 +80,9 @@ fn start_all<O: Loaded + Send + Sync + Drop + 'static, W: Threads + Wait + Copy 
     Ok(Some(start_disturbing(rt, shared, course, job.calls)?))
 }
 
-/// Has all threads call the object, and waits for their ends. The callers are where they were.
+/// Has all threads call the object, and waits until they end. The callers are back in `callers` then.
 ///
-/// Where a thread can't be started, the object is finalized, so that the others come to their ends.
+/// If a thread can't be started, the object is finalized, so that the others end.
 pub(crate) fn load<
     O: Loaded + Send + Sync + Drop + 'static,
     W: Threads + Wait + Copy + Send + 'static,

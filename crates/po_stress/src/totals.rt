@@ -1,4 +1,5 @@
-//! What a run over an object with fixed memory comes to.
+// SPDX-License-Identifier: MIT
+//! The outcome of a run over an object with fixed memory.
 
 ghost use Rattle.std.specs.Prelude.{◌≡◌, ◌||◌, true, IfOk, OnOk, OnErr};
 ghost use Rattle.std.specs.Io.KnownBytes.{Appends};
@@ -10,8 +11,8 @@ use crate::piece::{Piece, write_pieces};
 use crate::report::{GOOD, MISMATCH};
 use po_streams::{IoFailed, Sink};
 
-/// What a run over an object with fixed memory came to: how many calls its core issued, and how those ended that its
-/// callers made, as they counted.
+/// The outcome of a run over an object with fixed memory: how many calls its core issued, and how the calls that its callers
+/// made ended, as they counted.
 #[derive(Clone, Copy, Debug, PartialEq, Eq)]
 pub struct Totals {
     /// How many calls were issued.
@@ -25,7 +26,7 @@ pub struct Totals {
 }
 
 impl Totals {
-    /// Those of a core that issued so many calls, with the ends that its callers counted.
+    /// Returns the totals of a core that issued `issued` calls, with the ends that its callers counted.
     pub(crate) fn of(issued: u64, ends: Ends) -> Totals
         ensures issued { result.issued ≡ issued }
         ensures completed { result.completed ≡ ends.completed }
@@ -40,7 +41,7 @@ impl Totals {
         }
     }
 
-    /// Whether as many calls ended as were issued.
+    /// Returns whether as many calls ended as were issued.
     pub fn agree(&self) -> bool
         ensures { result ≡ agree self.now }
     {
@@ -50,9 +51,9 @@ impl Totals {
         u128::from(self.issued) == ended
     }
 
-    /// Writes the line of the totals, and gives the status: 0 where they agree, else 3.
+    /// Writes the line of the totals, and returns the exit status: 0 if they agree, otherwise 3.
     ///
-    /// At an error some bytes of the line were taken, and then the sink failed or took none.
+    /// At an error the sink took some of the line's bytes, and then failed or took none.
     pub fn write<W: Sink>(&self, writer: &mut W) -> Result<u8, IoFailed>
         ensures status { IfOk result (λ status. status ≡ totals_status self.now) }
         ensures ok { OnOk result (Appends (W.taken writer.old) (W.taken writer.new) (totals_line self.now)) }
@@ -64,7 +65,7 @@ impl Totals {
         Ok(self.status())
     }
 
-    /// The words behind the numbers.
+    /// Returns the words after the numbers.
     fn words(&self) -> &'static str
         ensures { result.now ≡ last_words self.now }
     {
@@ -75,14 +76,14 @@ impl Totals {
         }
     }
 
-    /// The status.
+    /// Returns the exit status.
     fn status(&self) -> u8
         ensures { result ≡ totals_status self.now }
     {
         if self.agree() { GOOD } else { MISMATCH }
     }
 
-    /// Writes the numbers, and these words behind them.
+    /// Writes the numbers, and these words after them.
     pub(crate) fn write_with<W: Sink>(
         &self,
         writer: &mut W,

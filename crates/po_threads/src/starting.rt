@@ -1,4 +1,5 @@
-//! How a thread is started that does a job.
+// SPDX-License-Identifier: MIT
+//! How a thread that does a job is started.
 
 use crate::job::Job;
 use po_core::Record;
@@ -11,7 +12,8 @@ use std::thread::{self, JoinHandle, Threads};
 
 /// Starts a thread that does the job with the object, from the seat of the pass. Joining it gives the pass back.
 ///
-/// `Err` where memory runs out or no thread can be made. Then the job and the pass are gone, so the object can't be closed.
+/// Returns `Err` if memory runs out or no thread can be made. Then the job and the pass are gone, so the object can't be
+/// closed.
 pub fn start<
     U: Unit + Drop + Send + Sync + 'static,
     C: Story<U, U::Value> + Send + Sync + 'static,

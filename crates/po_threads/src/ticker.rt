@@ -1,3 +1,4 @@
+// SPDX-License-Identifier: MIT
 //! A thread that raises an object's clock as time goes by.
 
 use crate::ticking::start_ticking;
@@ -12,20 +13,20 @@ use std::thread::{JoinHandle, Threads};
 use std::time::{Clock, Duration};
 
 /// A thread that raises an object's clock to the milliseconds of real time since the thread was started, so that timed calls
-/// expire. Its deadlines are such milliseconds.
+/// expire. Their deadlines are in the same milliseconds.
 ///
-/// It ticks, sleeps for a period with nothing locked, and ticks again, until it is stopped or dropped, or the object refuses:
-/// it was finalized, no number is left, or memory ran out. Each tick of a recorded object takes memory. While the time can't
-/// be read it doesn't tick.
+/// It ticks, sleeps for a period with nothing locked, and ticks again. It ends when it is stopped or dropped, or when the
+/// object refuses a tick: it was finalized, no number is left, or memory ran out. Each tick of a recorded object takes memory.
+/// While the time can't be read it doesn't tick.
 pub struct Ticker {
     watch: Arc<Watch>,
     thread: JoinHandle<Option<Refusal>>,
 }
 
 impl Ticker {
-    /// Starts the thread, which ticks at once and then every period; after a period of zero it ticks again without a pause.
+    /// Starts the thread, which ticks at once and then every period. If the period is zero, it ticks without a pause.
     ///
-    /// Fails where memory runs out, no thread can be made, or the time can't be read.
+    /// Fails if memory runs out, no thread can be made, or the time can't be read.
     pub fn start<
         U: Unit + Drop + Send + Sync + 'static,
         C: Story<U, U::Value> + Send + Sync + 'static,
@@ -43,8 +44,8 @@ impl Ticker {
         Ok(Ticker { watch, thread })
     }
 
-    /// Stops the thread and waits until it has ended, which it does after one tick more. Answers why the object refused a
-    /// tick, if it did.
+    /// Stops the thread and waits until it has ended. Its last tick raises the clock at least to the time of this call, so each
+    /// timed call that is due by now expires. Returns why the object refused a tick, if it did.
     pub fn stop<W: Threads>(self, rt: &W) -> Option<Refusal> {
         let Self { watch, thread } = self;
         watch.stop();

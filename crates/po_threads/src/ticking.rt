@@ -1,3 +1,4 @@
+// SPDX-License-Identifier: MIT
 //! What the thread of a ticker does.
 
 use crate::watch::Watch;
@@ -10,7 +11,7 @@ use std::sync::{Arc, Wait};
 use std::thread::{self, JoinHandle, Threads};
 use std::time::Clock;
 
-/// Raises the clock to the time of the watch. While the time can't be read, it doesn't.
+/// Raises the clock to the time of the watch, if the time can be read.
 fn tick<
     U: Unit,
     C: Story<U, U::Value>,
@@ -26,8 +27,10 @@ fn tick<
     Ok(())
 }
 
-/// Ticks every period of the watch until it is stopped, the last time behind that, and answers why the object refused a tick,
-/// if it did.
+/// Ticks every period of the watch until it is stopped, and then once more. Returns why the object refused a tick, if it did.
+///
+/// Each turn reads whether to stop before it reads the time, so the last tick raises the clock at least to the moment of the
+/// stop, however long it waited for the lock.
 fn tick_often<
     U: Unit,
     C: Story<U, U::Value>,
@@ -38,10 +41,11 @@ fn tick_often<
     W: Wait + Clock,
 >(rt: &W, object: &Object<U, C, P, F, R, Q>, watch: &Watch) -> Option<Refusal> {
     for _ in rt.forever() {
+        let is_last = watch.is_stopped();
         if let Err(refusal) = tick(rt, object, watch) {
             return Some(refusal);
         }
-        if watch.is_stopped() {
+        if is_last {
             return None;
         }
         watch.sleep(rt);
@@ -49,7 +53,7 @@ fn tick_often<
     unreachable!()
 }
 
-/// Starts a thread that ticks so.
+/// Starts a thread that ticks every period of the watch.
 pub(crate) fn start_ticking<
     U: Unit + Drop + Send + Sync + 'static,
     C: Story<U, U::Value> + Send + Sync + 'static,

@@ -1,3 +1,4 @@
+// SPDX-License-Identifier: MIT
 //! What a ticker shares with its thread.
 
 use std::io;
@@ -16,7 +17,7 @@ pub(crate) struct Watch {
 }
 
 impl Watch {
-    /// A watch that starts now. Fails where the time can't be read.
+    /// Returns a watch that starts now. Fails if the time can't be read.
     pub(crate) fn new<R: Clock>(rt: &R, period: Duration) -> io::Result<Watch> {
         Ok(Watch {
             started: Instant::now(rt)?,
@@ -26,19 +27,19 @@ impl Watch {
         })
     }
 
-    /// How many milliseconds have gone by since it was started. Fails where the time can't be read.
+    /// Returns how many milliseconds have gone by since the watch was started. Fails if the time can't be read.
     pub(crate) fn millis<R: Clock>(&self, rt: &R) -> io::Result<u64> {
         let elapsed = self.started.elapsed(rt)?;
         let millis = elapsed.as_secs().saturating_mul(1_000);
         Ok(millis.saturating_add(u64::from(elapsed.subsec_millis())))
     }
 
-    /// Whether the thread is to stop.
+    /// Returns whether the thread is to stop.
     pub(crate) fn is_stopped(&self) -> bool {
         self.stopped.load(Ordering::SeqCst)
     }
 
-    /// Has the thread sleep for a period, or until it is to stop.
+    /// Lets the thread sleep for a period, or until it is to stop.
     pub(crate) fn sleep<R: Wait>(&self, rt: &R) {
         self.parker.park_timeout(rt, self.period);
     }

@@ -23,11 +23,11 @@ unfolding first_numbers
 get_or-first_numbers ds k e h =
     get_or-map-range_with_len (λ i. entry_count (take i ds)) 0 (length ds) k k e h (omega arith)
 
--- the same of a list that is the first numbers
+-- the same for a list that equals the first numbers
 pub get_or-firsts : (ds : List Decl) (firsts : List ℕ) (k e : ℕ) → firsts ≡ first_numbers ds → k < length ds → get_or firsts k e ≡ entry_count (take k ds)
 get_or-firsts ds firsts k e same h = rw same (get_or-first_numbers ds k e h)
 
--- there are as many in a list that is the first numbers
+-- a list that equals the first numbers is as long as the declarations
 pub length-firsts : (ds : List Decl) (firsts : List ℕ) → firsts ≡ first_numbers ds → length firsts ≡ length ds
 length-firsts ds firsts same = rw same (length-first_numbers ds)
 
@@ -51,7 +51,7 @@ first_numbers-rise ds i j e h k =
     let rise = entry_count-take-le ds i j h in
     omega arith
 
--- where the first numbers pass a number, the declaration before declares the entry of that number
+-- if the search ends at `p`, the declaration before `p` declares the entry of that number
 pub position_from_search : (ds : List Decl) (number p : ℕ) → number < entry_count ds → p ≤ length ds → IsPartitionPoint (λ y. leb y number ≡ true) (λ y. leb y number ≡ false) (first_numbers ds) p → (1 ≤ p) × IsPositionOf ds number (p - 1)
 position_from_search [] number p h k point = absurd (omega arith)
 position_from_search (d ∷ ds) number zero h k point =
@@ -75,7 +75,7 @@ position_from_search (d ∷ ds) number (suc q) h k point =
     let position : IsPositionOf all number q = record { within = omega arith; from_first = omega arith; before_next = next } in
     (omega arith, let same : q ≡ suc q - 1 = omega arith in subst (λ i. IsPositionOf all number i) same position)
 
--- the declaration at a number's position
+-- a number is within those of the declaration at its position
 pub within_from_position : (ds : List Decl) (number position : ℕ) (d : Decl) → IsPositionOf ds number position → IsWithin ds number position (get_or ds position d)
 within_from_position ds number position d h =
     let inside = h.within in
@@ -84,7 +84,7 @@ within_from_position ds number position d h =
     let more = sum_by_more width ds position d inside in
     record { declared = slice_get-get_or ds position d inside; from_first = low; before_next = omega arith }
 
--- an entry's number, by what is kept of its declaration
-pub flat_number-at_first : (ds : List Decl) (r : EntryRef) (d : Decl) (j : ℕ) (firsts : List ℕ) (position : ℕ) → slice_get ds r.entry ≡ Some d → distance d r.index ≡ Ok j → firsts ≡ first_numbers ds → position ≡ r.entry → flat_number ds r ≡ Ok (get_or firsts position 0 + j)
+-- an entry's number, by the first number that is kept for its declaration
+pub flat_number-at_first : (ds : List Decl) (r : EntryRef) (d : Decl) (j : ℕ) (firsts : List ℕ) (position : ℕ) → slice_get ds r.declaration ≡ Some d → distance d r.index ≡ Ok j → firsts ≡ first_numbers ds → position ≡ r.declaration → flat_number ds r ≡ Ok (get_or firsts position 0 + j)
 flat_number-at_first ds r d j firsts position declared far same here =
-    rw (here, get_or-firsts ds firsts r.entry 0 same (slice_get_within ds r.entry d declared)) (flat_number-at_distance ds r d j declared far)
+    rw (here, get_or-firsts ds firsts r.declaration 0 same (slice_get_within ds r.declaration d declared)) (flat_number-at_distance ds r d j declared far)

@@ -1,4 +1,4 @@
--- Elements of lists that are joined or made by a function of the position.
+-- Elements of lists that are joined, or made by a function of the position.
 use Rattle.std.proofs.Common.{◌≡◌, ℕ, ◌+◌, ◌<◌, List, length, map, slice_get, Some, refl, ap, ◌∙◌, arith, ◌++◌}
 use Rattle.std.specs.List.{range_with_len}
 use Rattle.std.proofs.lemmas.List.FromFn.{length-map-range_with_len, get_or-map-range_with_len}

@@ -1,10 +1,11 @@
+-- SPDX-License-Identifier: MIT
 -- What a unit means, and the laws that its meaning meets.
 use Rattle.std.specs.Prelude.{ℕ, ◌≡◌, ◌<◌, List, Bool, Result}
 use Rattle.po_unit.specs.declared.outcome.Outcome.{Outcome}
 use Rattle.po_unit.specs.declared.outcome.Outcome.TheVariants.{Complete, Raise, Requeue}
 
--- The operations of a unit as functions, where S are the states of its data and V the values of a call's parameter.
--- A list of numbers is the counts: of each entry, how many calls are queued on it (9.9).
+-- The operations of a unit as functions. S are the states of its data, and V the values of a call's parameter. Each list of
+-- numbers is the counts: for each entry, how many calls are queued on it (9.9).
 pub record Meaning (S V : Type 0) : Type 0 where
   -- how many entries, procedures and functions there are (9.4)
   pub entries : S → ℕ
@@ -21,7 +22,7 @@ pub record Meaning (S V : Type 0) : Type 0 where
   -- how often a call with this value on this entry may be requeued at most (this project's own)
   pub rank : ℕ → V → ℕ
 
--- A state has as many entries, procedures and functions as the other.
+-- The two states have the same numbers of entries, procedures and functions.
 pub record SameNumbers {S V : Type 0} (m : Meaning S V) (old new : S) : Type 0 where
   pub entries : m.entries new ≡ m.entries old
   pub procedures : m.procedures new ≡ m.procedures old

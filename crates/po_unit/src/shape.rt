@@ -1,11 +1,12 @@
-//! The shape of a protected object: its declarations, with the flat numbers of their entries.
+// SPDX-License-Identifier: MIT
+//! The shape of a protected object: its declarations, and the flat numbers of their entries.
 
 ghost use Rattle.std.specs.Prelude.{◌≡◌, ℕ, ◌<◌, ◌≤◌, ◌↔◌, IsNone, IfSome, IfOk, length, slice_get};
 ghost use Rattle.po_unit.specs.Numbering.{HasTooMany, entry_count, entry_references, flat_number, is_public};
 ghost use Rattle.po_unit.specs.FirstNumbers.{first_numbers, IsPositionOf};
 
 use crate::decl::{Decl, EntryRef};
-use crate::fault::{IndexFault, ShapeFault};
+use crate::error::{IndexError, ShapeError};
 use smallvec::SmallVec;
 use std::alloc::{AllocError, Global};
 use std::marker::Model;
@@ -15,11 +16,11 @@ const MOST_ENTRIES: u16 = 4096;
 
 /// A list of declarations, with a flat number for each entry that they declare (9.5.2).
 ///
-/// The numbers run from 0 through the declarations in their order, and through a family from its first index to its last.
+/// The numbers start at 0. They run through the declarations in order, and through a family from its first index to its last.
 #[derive(Debug, Drop)]
 pub struct Shape {
     decls: SmallVec<Decl, 8>,
-    // Of each declaration, the number of its first entry, or what that would be where it declares none.
+    // For each declaration, how many entries come before its own: the number of its first entry, if it has one.
     firsts: SmallVec<u16, 8>,
     total: u16,
 }
@@ -37,16 +38,15 @@ impl Model for Shape {
 }
 
 impl Shape {
-    /// The shape of these declarations, of which there may be none, as there may be families with no member (9.5.2).
+    /// Makes the shape of these declarations. There may be none, and families may have no member (9.5.2).
     ///
-    /// It fails with `TooManyEntries` where there are more than 4,096 declarations or entries, and else only with
-    /// `OutOfMemory`.
-    pub fn new(alloc: Global, decls: &[Decl]) -> Result<Shape, ShapeFault>
+    /// Fails with `TooManyEntries` if there are more than 4,096 declarations or entries, and otherwise only with `OutOfMemory`.
+    pub fn new(alloc: Global, decls: &[Decl]) -> Result<Shape, ShapeError>
         ensures shape { IfOk result (λ s. s ≡ decls.now) }
-        ensures too_many { (result ≡ Err ShapeFault.TooManyEntries) ↔ HasTooMany decls.now }
+        ensures too_many { (result ≡ Err ShapeError.TooManyEntries) ↔ HasTooMany decls.now }
     {
         let Some(total) = count_entries(decls) else {
-            return Err(ShapeFault::TooManyEntries);
+            return Err(ShapeError::TooManyEntries);
         };
         let firsts = number_firsts(alloc, decls)?;
         let decls = SmallVec::from_slice(alloc, decls)?;
@@ -57,21 +57,21 @@ impl Shape {
         })
     }
 
-    /// The flat number of the entry that is named, or the first reason why none is (9.5.2). It takes constant time.
-    pub fn flat(&self, reference: EntryRef) -> Result<u16, IndexFault>
+    /// Returns the flat number of the named entry, or the first reason why none is named (9.5.2). Takes constant time.
+    pub fn flat(&self, reference: EntryRef) -> Result<u16, IndexError>
         ensures exact { result ≡ flat_number self.now reference }
         ensures bijection { (n : ℕ) → (result ≡ Ok n)
             ↔ (slice_get (entry_references self.now) n ≡ Some reference) }
     {
-        let Some(decl) = self.decl(reference.entry) else {
-            return Err(IndexFault::NoSuchEntry);
+        let Some(decl) = self.decl(reference.declaration) else {
+            return Err(IndexError::NoSuchEntry);
         };
         let distance = decl.distance(reference.index)?;
-        let first = self.firsts.as_slice()[usize::from(reference.entry)];
+        let first = self.firsts.as_slice()[usize::from(reference.declaration)];
         Ok(first + distance as u16)
     }
 
-    /// The entry that has this flat number, which `flat` takes back to the number. It takes logarithmic time.
+    /// Returns the entry with this flat number; `flat` turns it back into the number. Takes logarithmic time.
     pub fn of_flat(&self, number: u16) -> EntryRef
         requires { number < entry_count self.now }
         ensures listed { slice_get (entry_references self.now) number ≡ Some result }
@@ -83,7 +83,7 @@ impl Shape {
         decl.entry_at(position as u16, number - first)
     }
 
-    /// Whether the entry that has this flat number is declared in the visible part (9.4).
+    /// Returns whether the entry with this flat number is declared in the visible part (9.4).
     pub fn is_public(&self, number: u16) -> bool
         requires { number < entry_count self.now }
         ensures { result ≡ is_public self.now number }
@@ -91,7 +91,7 @@ impl Shape {
         self.decls.as_slice()[self.position_of(number)].public
     }
 
-    /// How many entries there are, each member of a family counted (9.5.2). The flat numbers are those below.
+    /// Returns how many entries there are, each member of a family counted (9.5.2). All flat numbers are below this.
     pub fn total(&self) -> u16
         ensures counted { result ≡ entry_count self.now }
         ensures listed { result ≡ length (entry_references self.now) }
@@ -100,14 +100,14 @@ impl Shape {
         self.total
     }
 
-    /// The declaration at this position in the list, if there is one.
+    /// Returns the declaration at this position in the list, if there is one.
     pub fn decl(&self, entry: u16) -> Option<Decl>
         ensures { result ≡ slice_get self.now entry }
     {
         self.decls.as_slice().get(usize::from(entry)).copied()
     }
 
-    /// The position of the declaration that declares the entry of this flat number.
+    /// Returns the position of the declaration that declares the entry with this flat number.
     fn position_of(&self, number: u16) -> usize
         requires { number < entry_count self.now }
         ensures { IsPositionOf self.now number result }
@@ -119,7 +119,7 @@ impl Shape {
     }
 }
 
-/// How many entries the declarations declare together, unless there are too many.
+/// Returns how many entries the declarations declare together, unless there are too many.
 fn count_entries(decls: &[Decl]) -> Option<u16>
     ensures counted { IfSome result (λ n. n ≡ entry_count decls.now) }
     ensures too_many { IsNone result ↔ HasTooMany decls.now }
@@ -138,7 +138,7 @@ fn count_entries(decls: &[Decl]) -> Option<u16>
     Some(total)
 }
 
-/// The flat numbers of the declarations' first entries, in the order of the declarations.
+/// Returns the flat numbers of the declarations' first entries, in the order of the declarations.
 fn number_firsts(alloc: Global, decls: &[Decl]) -> Result<SmallVec<u16, 8>, AllocError>
     requires { entry_count decls.now ≤ 4096 }
     ensures { IfOk result (λ firsts. firsts.items ≡ first_numbers decls.now) }

@@ -1,3 +1,6 @@
+// SPDX-License-Identifier: MIT
+//! What a protected object does: its data, barriers, bodies, procedures and functions.
+
 ghost use Rattle.std.specs.Prelude.{◌≡◌, ◌<◌, length, IfOk, true};
 ghost use Rattle.po_unit.specs.Meaning.{Meaning, IsLawful};
 
@@ -6,28 +9,28 @@ use std::alloc::AllocError;
 
 /// The data of a protected object with its operations (9.4, 9.5.1, 9.5.2).
 ///
-/// An operation is given `counts`: of each entry, in the order of their numbers, how many calls are queued on it
-/// (the attribute Count, 9.9). No operation but `copy` takes memory, and none waits for anybody.
+/// Operations are given `counts`: for each entry, in the order of their numbers, how many calls are queued on it (the attribute
+/// Count, 9.9). No operation except `copy` takes memory, and none waits for anybody.
 pub trait Unit: Sized {
     /// The one parameter of each call, of mode `in out`.
     type Value: Copy + Eq;
 
-    /// What the unit means: functions of its state, a value and the counts.
+    /// What the unit means, as functions of its state, a value and the counts.
     ghost meaning: { Meaning Self Self.Value };
 
-    /// How many entries the object has, each member of a family counted.
+    /// Returns how many entries the object has, each member of a family counted.
     fn entries(&self) -> u16
         ensures { result ≡ meaning.entries self.now };
 
-    /// How many protected procedures the object has.
+    /// Returns how many protected procedures the object has.
     fn procedures(&self) -> u16
         ensures { result ≡ meaning.procedures self.now };
 
-    /// How many protected functions the object has.
+    /// Returns how many protected functions the object has.
     fn functions(&self) -> u16
         ensures { result ≡ meaning.functions self.now };
 
-    /// Whether the entry is open, or the number of the exception that its barrier propagates (9.5.2, 9.5.3).
+    /// Returns whether the entry is open, or the number of the exception that its barrier propagates (9.5.2, 9.5.3).
     fn barrier(&self, e: u16, counts: &[u64]) -> Result<bool, u32>
         requires entry { e < meaning.entries self.now }
         requires counts { length counts.now ≡ meaning.entries self.now }
@@ -39,27 +42,27 @@ pub trait Unit: Sized {
         requires counts { length counts.now ≡ meaning.entries self.old }
         ensures { (self.new, result) ≡ meaning.body self.old e v counts.now };
 
-    /// Runs a protected procedure (9.5.1). The reply is a value, or the number of the exception that it propagates.
+    /// Runs a protected procedure (9.5.1). Returns a value, or the number of the exception that it propagates.
     fn procedure(&mut self, op: u16, v: Self::Value, counts: &[u64]) -> Result<Self::Value, u32>
         requires op { op < meaning.procedures self.old }
         requires counts { length counts.now ≡ meaning.entries self.old }
         ensures { (self.new, result) ≡ meaning.procedure self.old op v counts.now };
 
-    /// Runs a protected function, which changes nothing (9.5.1). The reply is as a procedure's.
+    /// Runs a protected function, which changes nothing (9.5.1). Returns the same as `procedure`: a value or an exception.
     fn function(&self, op: u16, v: Self::Value, counts: &[u64]) -> Result<Self::Value, u32>
         requires op { op < meaning.functions self.now }
         requires counts { length counts.now ≡ meaning.entries self.now }
         ensures { result ≡ meaning.function self.now op v counts.now };
 
-    /// How often a call with this value on this entry may be requeued at most: each requeue lowers it.
+    /// Returns how often a call with this value on this entry may be requeued at most. Each requeue lowers it.
     fn rank(e: u16, v: Self::Value) -> u8
         ensures { result ≡ meaning.rank e v };
 
-    /// An equal unit, with all the memory that it needs.
+    /// Returns an equal unit that has all the memory it needs.
     fn copy(&self) -> Result<Self, AllocError>
         ensures { IfOk result (λ copy. copy ≡ self.now) };
 
-    /// Bodies and procedures keep the numbers of operations, and a requeue names an entry and lowers the rank.
+    /// Bodies and procedures leave the numbers of operations as they are. A requeue names an entry and lowers the rank.
     ghost lawful: { IsLawful meaning };
 
     /// `==` on values is equality.

@@ -1,6 +1,7 @@
-//! A script is read and not carried out, and its faults are explained.
+// SPDX-License-Identifier: MIT
+//! Reads a script, carries out nothing, and explains its faults.
 
-use po_check::{CheckFault, TextReport, Verdict, check_script};
+use po_check::{CheckError, TextReport, Verdict, check_script};
 use po_command_line::{FINDINGS, GOOD, NAME, NO_MEANS};
 use po_streams::OverStd;
 use std::fs::File;
@@ -11,22 +12,22 @@ use std::rt::Files;
 fn check_from<R: Print + AllocGlobal, T: Read + Drop>(
     rt: &R,
     input: T,
-) -> Result<Verdict, CheckFault> {
+) -> Result<Verdict, CheckError> {
     let alloc = rt.alloc();
     let Ok(output) = BufWriter::new(alloc, io::writer(rt)) else {
-        return Err(CheckFault::Memory);
+        return Err(CheckError::Memory);
     };
     let mut reader = OverStd::new(input);
     let mut report = TextReport::new(alloc, OverStd::new(output));
     let verdict = check_script(alloc, &mut reader, &mut report);
     match report.into_sink().into_inner().flush() {
         Ok(()) => verdict,
-        Err(_) => Err(CheckFault::Write),
+        Err(_) => Err(CheckError::Write),
     }
 }
 
-/// The status of a check, whose fault is printed if it has one.
-fn status_of<R: Eprint>(rt: &R, checked: Result<Verdict, CheckFault>) -> u8 {
+/// Returns the status of a check. Prints the check's fault, if it has one.
+fn status_of<R: Eprint>(rt: &R, checked: Result<Verdict, CheckError>) -> u8 {
     match checked {
         Ok(Verdict::Clean) => GOOD,
         Ok(Verdict::Faulty) => FINDINGS,
@@ -37,7 +38,7 @@ fn status_of<R: Eprint>(rt: &R, checked: Result<Verdict, CheckFault>) -> u8 {
     }
 }
 
-/// Checks the script in the file, or on standard input where none is named, and gives the status.
+/// Checks the script in the file, or on standard input if no file is named, and returns the status.
 pub(crate) fn check<R: Input + Print + Eprint + Files + AllocGlobal>(
     rt: &R,
     file: Option<String>,

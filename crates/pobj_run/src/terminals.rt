@@ -1,6 +1,7 @@
+// SPDX-License-Identifier: MIT
 //! Which of the program's streams are terminals.
 
-/// Which of the program's streams are terminals: there somebody types, or reads along.
+/// Which of the program's streams are terminals, where someone types or reads along.
 #[derive(Clone, Copy)]
 pub(crate) struct Terminals {
     /// Standard input.

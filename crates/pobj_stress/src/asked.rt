@@ -1,3 +1,4 @@
+// SPDX-License-Identifier: MIT
 //! What the words of the command line ask of this program.
 
 ghost use Rattle.std.specs.Prelude.{◌≤◌, IfSome};
@@ -6,18 +7,18 @@ ghost use Rattle.po_stress.specs.declared.runs.TheConstants.{MOST_THREADS, MOST_
 use crate::load::Load;
 use clap::error::ErrorKind;
 use clap::{Arg, ArgAction, ArgMatches, Command, Error};
-use po_command_line::{Fault, STRESS, pobj, stress_command, words};
+use po_command_line::{CommandError, STRESS, pobj, stress_command, words};
 use po_stress::{MOST_CALLS, MOST_THREADS, StressUnit};
 use std::alloc::{AllocError, Global};
 use std::env::Env;
 
-/// What is said of a unit that there isn't.
+/// The message for an unknown unit.
 const NO_UNIT: &str = "--unit takes buffer, allocator, meeting or race";
 
-/// What is said of a number of threads outside the limits.
+/// The message for a number of threads outside the limits.
 const BAD_THREADS: &str = "--threads takes a number from 1 to 64";
 
-/// What is said of a number of calls outside the limits.
+/// The message for a number of calls outside the limits.
 const BAD_CALLS: &str = "--calls takes a number from 1 to 100000";
 
 /// What follows the help on `stress`.
@@ -26,24 +27,23 @@ What each thread does, N times:
   buffer     Calls Put or Get of a buffer for four values; half of the threads call Put
   allocator  Requests one to three of three pieces, and releases them
   meeting    Calls Wait of a meeting of all threads
-  race       As buffer, for two values, but each call gives up at a time, while one thread
-             more raises the clock and attempts to cancel the calls
+  race       Like buffer, for two values, but each call has a deadline, and one more thread
+             raises the clock and attempts to cancel calls
 
 Then the object is closed, and one line says how many calls were issued and how they ended:
 
   issued 8000 completed 8000 cancelled 0 program_error 0 agreed
 
-It ends with `agreed` where every answer that a thread got is the history's own. Else the line
+It ends with `agreed` if every answer that a thread got is the history's own. Otherwise the line
 is `mismatch seat S place P` or `gap place P`, and the status is 3.
 
-With --bounded the object's memory is fixed when it is opened, so that no history is kept, and
-no answer can be compared. The line ends with `agreed` where as many calls were issued, as the
-object counted, as ended, as the threads counted. Else it ends with `differ`, and the status
-is 3.
+With --bounded the object's memory is fixed when it is opened, so no history is kept, and no
+answer can be compared. The line ends with `agreed` if the object issued as many calls as the
+threads saw end. Otherwise it ends with `differ`, and the status is 3.
 
 On a terminal a long run shows how many calls have ended.";
 
-/// The unit that a word names.
+/// Returns the unit that a word names.
 fn unit_of(word: &str) -> Option<StressUnit> {
     match word {
         "buffer" => Some(StressUnit::Buffer),
@@ -54,7 +54,7 @@ fn unit_of(word: &str) -> Option<StressUnit> {
     }
 }
 
-/// The number of threads, if it is one within the limits.
+/// Returns the number of threads, if it is within the limits.
 fn threads_of(matches: &ArgMatches) -> Option<u16>
     ensures { IfSome result (λ threads. (1 ≤ threads) × (threads ≤ MOST_THREADS)) }
 {
@@ -66,7 +66,7 @@ fn threads_of(matches: &ArgMatches) -> Option<u16>
     }
 }
 
-/// The number of calls, if it is one within the limits.
+/// Returns the number of calls, if it is within the limits.
 fn calls_of(matches: &ArgMatches) -> Option<u32>
     ensures { IfSome result (λ calls. (1 ≤ calls) × (calls ≤ MOST_CALLS)) }
 {
@@ -78,7 +78,7 @@ fn calls_of(matches: &ArgMatches) -> Option<u32>
     }
 }
 
-/// The run that the words behind `stress` ask for, or what is wrong with them.
+/// Returns the run that the words after `stress` ask for, or what is wrong with them.
 fn load_of(matches: &ArgMatches) -> Result<Load, &'static str> {
     let Some(unit) = matches.get_str("unit").and_then(unit_of) else {
         return Err(NO_UNIT);
@@ -97,7 +97,7 @@ fn load_of(matches: &ArgMatches) -> Result<Load, &'static str> {
     })
 }
 
-/// The arguments of `stress`, added to the command.
+/// Adds the arguments of `stress` to the command.
 fn with_arguments<'a>(alloc: Global, command: Command<'a>) -> Result<Command<'a>, AllocError> {
     let unit = Arg::new(alloc, "unit")
         .long("unit")
@@ -121,23 +121,23 @@ fn with_arguments<'a>(alloc: Global, command: Command<'a>) -> Result<Command<'a>
     command.arg(unit)?.arg(threads)?.arg(calls)?.arg(bounded)
 }
 
-/// The command `stress` under this name, with all that may stand behind it.
+/// Returns the command `stress` under this name, with all that may follow it.
 fn whole_stress_command<'a>(alloc: Global, name: &'a str) -> Result<Command<'a>, AllocError> {
     with_arguments(alloc, stress_command(alloc, name).after_help(LOADS))
 }
 
-/// The refusal of the words behind `stress`, for this reason.
+/// Returns the refusal of the words after `stress`, for this reason.
 pub(crate) fn refuse_load(alloc: Global, reason: &str) -> Result<Error, AllocError> {
     whole_stress_command(alloc, "pobj stress")?.error(ErrorKind::ValueValidation, reason)
 }
 
-/// The command line, of which this program carries out `stress`.
+/// Makes the command line. This program carries out its command `stress`.
 fn command<'a>(alloc: Global) -> Result<Command<'a>, AllocError> {
     pobj(alloc).subcommand(whole_stress_command(alloc, STRESS)?)
 }
 
-/// The run that the words ask for, or what is wrong with it. At a fault they ask for help, or are refused.
-fn load_asked<R: Env + AllocGlobal>(rt: &R) -> Result<Result<Load, &'static str>, Fault> {
+/// Returns the run that the words ask for, or what is wrong with it. Fails if they ask for help, or are refused.
+fn load_asked<R: Env + AllocGlobal>(rt: &R) -> Result<Result<Load, &'static str>, CommandError> {
     let words = words(rt)?;
     let matches = command(rt.alloc())?.try_get_matches_from(words.as_slice())?;
     Ok(match matches.subcommand_matches(STRESS) {
@@ -146,10 +146,10 @@ fn load_asked<R: Env + AllocGlobal>(rt: &R) -> Result<Result<Load, &'static str>
     })
 }
 
-/// The run that the words ask for. At a fault they ask for help, or are refused.
-pub(crate) fn parse<R: Env + AllocGlobal>(rt: &R) -> Result<Load, Fault> {
+/// Returns the run that the words ask for. Fails if they ask for help, or are refused.
+pub(crate) fn parse<R: Env + AllocGlobal>(rt: &R) -> Result<Load, CommandError> {
     match load_asked(rt)? {
         Ok(load) => Ok(load),
-        Err(reason) => Err(Fault::from(refuse_load(rt.alloc(), reason)?)),
+        Err(reason) => Err(CommandError::from(refuse_load(rt.alloc(), reason)?)),
     }
 }

@@ -1,4 +1,5 @@
-//! What is shown of a long run while it lasts.
+// SPDX-License-Identifier: MIT
+//! What is shown about a long run while it lasts.
 
 use po_stress::Progress;
 use std::alloc::AllocError;
@@ -8,7 +9,7 @@ use std::sync::{Arc, Wait};
 use std::thread::{self, JoinHandle, Parker, Threads};
 use std::time::Duration;
 
-/// How many milliseconds are waited before each showing.
+/// How many milliseconds pass before each showing.
 const PAUSE: u64 = 1000;
 
 /// What the thread that shows a run shares with the one that ends it.
@@ -19,7 +20,7 @@ struct Shared {
     pause: Parker,
 }
 
-/// A run that is shown: once a second a line on standard error says how many calls have ended.
+/// A run that is shown: once a second, a line on standard error says how many calls have ended.
 #[derive(Drop)]
 pub(crate) struct Watch {
     shared: Arc<Shared>,
@@ -52,7 +53,7 @@ fn start<R: Eprint + Threads + Wait + Copy + Send + 'static>(
 }
 
 impl Watch {
-    /// Shows the run from now on, or not at all where there is no memory for it.
+    /// Shows the run from now on, or not at all if there is no memory for that.
     pub(crate) fn start<R: Eprint + Threads + Wait + AllocGlobal + Copy + Send + 'static>(
         rt: R,
         progress: &Arc<Progress>,
@@ -67,7 +68,7 @@ impl Watch {
         Some(Watch { shared, thread })
     }
 
-    /// Clears what is shown.
+    /// Stops the showing, and clears what is shown.
     pub(crate) fn stop<R: Threads>(self, rt: &R) {
         let Watch { shared, thread } = self;
         shared.has_ended.store(true, Ordering::SeqCst);

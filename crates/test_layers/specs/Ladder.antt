@@ -1,4 +1,5 @@
--- What a unit means whose calls are requeued from entry to entry, up to the last.
+-- SPDX-License-Identifier: MIT
+-- The meaning of a unit whose calls are requeued from entry to entry, up to the last.
 use Rattle.std.specs.Prelude.{◌≡◌, ℕ, ◌+◌, ◌-◌, ◌<◌, nat_lt, nat_le, ◌==◌, Bool, true, false, Ok, refl, if◌then◌else◌}
 use Rattle.std.proofs.Common.{arith}
 use Rattle.std.proofs.lemmas.Bool.Decides.{nat_tests}
@@ -10,11 +11,11 @@ use Rattle.po_unit.specs.declared.outcome.Outcome.TheVariants.{Complete, Requeue
 pub record LadderState : Type 0 where
   pub level : ℕ
 
--- each entry but the last requeues on the next one, the third one with abort
+-- each entry except the last requeues on the next one; only the third does so with abort
 abbrev pub ladder_outcome : ℕ → ℕ → Outcome ℕ
 ladder_outcome e v = if nat_lt e 3 then Requeue (e + 1) (e == 2) v else Complete v
 
--- an entry is open from the level of its number on, and the procedure sets the level
+-- an entry is open if the level is at least its number, and the procedure sets the level
 abbrev pub ladder_meaning : Meaning LadderState ℕ
 ladder_meaning = record {
   entries = λ s. 4;

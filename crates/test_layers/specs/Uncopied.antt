@@ -1,4 +1,5 @@
--- What a unit means that has no data, and of which no copy can be made.
+-- SPDX-License-Identifier: MIT
+-- The meaning of a unit that has no data and can't be copied.
 use Rattle.std.specs.Prelude.{ℕ, true, Ok, refl}
 use Rattle.po_unit.specs.Meaning.{Meaning, IsLawful}
 use Rattle.po_unit.specs.declared.outcome.Outcome.TheVariants.{Complete}
@@ -6,7 +7,7 @@ use Rattle.po_unit.specs.declared.outcome.Outcome.TheVariants.{Complete}
 -- no data
 pub record Nothing : Type 0 where
 
--- its entry is open, and what its entry, its procedure and its function are given they give back
+-- the entry is open, and the entry, the procedure and the function give back what they are given
 abbrev pub uncopied_meaning : Meaning Nothing ℕ
 uncopied_meaning = record {
   entries = λ s. 1;

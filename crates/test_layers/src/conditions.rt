@@ -1,4 +1,5 @@
-//! What a call asks of its caller can be seen from what is called with.
+// SPDX-License-Identifier: MIT
+//! Whether a caller meets the conditions of a call can be seen from what it calls with.
 
 ghost use Rattle.std.specs.Prelude.{◌≡◌, ◌<◌};
 ghost use Rattle.std.specs.List.{All};
@@ -6,9 +7,10 @@ ghost use Rattle.std.specs.List.{All};
 use po_calls::{Call, Deadline, End, Table, Ticket};
 use po_history::{Event, History};
 use po_queues::{EntryQueues, Queues};
+use std::alloc::{AllocError, Global};
 use std::test::Fail;
 
-/// Puts a call of this number, if there is room for it and the number is above those put before.
+/// Puts call `number`, if there is room for it and the number is above those put before.
 fn try_put(table: &mut Table<u16>, number: u64) -> Option<Ticket> {
     if !table.has_room() {
         return None;
@@ -38,7 +40,7 @@ fn tells_what_a_table_takes(rt: HostRuntime) -> Result<(), Fail> {
     Ok(())
 }
 
-/// Queues the key with this stamp, if there is such an entry and the key is reserved and not queued.
+/// Queues the key with this stamp, if the entry exists and the key is reserved and not queued.
 fn try_append(queues: &mut Queues, entry: u16, key: usize, stamp: u128) -> bool
     requires { All (λ x. x.stamp < stamp) queues.old.items }
 {
@@ -49,7 +51,7 @@ fn try_append(queues: &mut Queues, entry: u16, key: usize, stamp: u128) -> bool
     true
 }
 
-/// Queues the key with this stamp, if there is such an entry and the key is reserved and not queued.
+/// Queues the key with this stamp, if the entry exists and the key is reserved and not queued.
 fn try_append_to_entries(queues: &mut EntryQueues, entry: u16, key: usize, stamp: u128) -> bool
     requires { All (λ x. x.stamp < stamp) queues.old.items }
 {
@@ -63,23 +65,43 @@ fn try_append_to_entries(queues: &mut EntryQueues, entry: u16, key: usize, stamp
     true
 }
 
+/// Whether queues of two entries take the key on this entry. The keys up to 3 are reserved, and key 1 is queued.
+fn queues_take(alloc: Global, entry: u16, key: usize) -> Result<bool, AllocError> {
+    let mut queues = Queues::new(alloc, 2)?;
+    queues.reserve(3)?;
+    queues.append(0, 1, 4);
+    Ok(try_append(&mut queues, entry, key, 5))
+}
+
+/// Whether entry queues of two entries take the key on this entry. The keys up to 6 are reserved, and key 1 is queued.
+fn entry_queues_take(alloc: Global, entry: u16, key: usize) -> Result<bool, AllocError> {
+    let mut queues = EntryQueues::new(alloc, 2)?;
+    queues.reserve(6)?;
+    queues.append(0, 1, 4, None);
+    Ok(try_append_to_entries(&mut queues, entry, key, 5))
+}
+
 #[test]
 fn tells_which_keys_queues_take(rt: HostRuntime) -> Result<(), Fail> {
-    let mut queues = Queues::new(rt.alloc(), 2)?;
-    queues.reserve(3)?;
-    assert!(rt; try_append(&mut queues, 1, 3, 5));
+    let alloc = rt.alloc();
+    assert!(rt; queues_take(alloc, 1, 3)?);
+    assert!(rt; !queues_take(alloc, 2, 3)?);
+    assert!(rt; !queues_take(alloc, 1, 1000)?);
+    assert!(rt; !queues_take(alloc, 1, 1)?);
     Ok(())
 }
 
 #[test]
 fn tells_which_keys_entry_queues_take(rt: HostRuntime) -> Result<(), Fail> {
-    let mut queues = EntryQueues::new(rt.alloc(), 2)?;
-    queues.reserve(6)?;
-    assert!(rt; try_append_to_entries(&mut queues, 1, 6, 5));
+    let alloc = rt.alloc();
+    assert!(rt; entry_queues_take(alloc, 1, 6)?);
+    assert!(rt; !entry_queues_take(alloc, 2, 6)?);
+    assert!(rt; !entry_queues_take(alloc, 1, 1000)?);
+    assert!(rt; !entry_queues_take(alloc, 1, 1)?);
     Ok(())
 }
 
-/// Notes how the call of this number ended, if room was made for it and no end was noted before.
+/// Notes how call `n` ended, if room was made for it and no end was noted before.
 fn try_set_outcome(history: &mut History<i64>, n: u64, end: End<i64>) -> bool {
     if !history.is_reserved_for(n) || history.outcome(n).is_some() {
         return false;

@@ -1,3 +1,4 @@
+// SPDX-License-Identifier: MIT
 //! A run with very many waiting calls, and a cut of very many events.
 
 use po_classic_units::{Broadcast, ScriptUnit};
@@ -11,11 +12,11 @@ const CROWD: u64 = 100_000;
 
 /// The entry Receive.
 const RECEIVE: EntryRef = EntryRef {
-    entry: 0,
+    declaration: 0,
     index: None,
 };
 
-/// Calls the entry so often, and looks for that many waiting calls.
+/// Calls the entry `CROWD` times, and checks that as many calls wait.
 fn gather<R: Abort>(rt: &R, core: &mut Core<Broadcast>, deadline: Deadline) -> Result<(), Fail> {
     for _ in 0..CROWD {
         let _ticket = core.issue(0, RECEIVE, 0, deadline)?;
@@ -24,8 +25,8 @@ fn gather<R: Abort>(rt: &R, core: &mut Core<Broadcast>, deadline: Deadline) -> R
     Ok(())
 }
 
-/// Looks for this many calls that the last command ended, none that waits, this place for the next event, and how the last
-/// call ended.
+/// Checks that the latest command ended `ended` calls, that none waits, the place of the next event, and how the last call
+/// ended.
 fn look<R: Abort>(
     rt: &R,
     core: &Core<Broadcast>,
@@ -33,7 +34,7 @@ fn look<R: Abort>(
     place: u128,
     end: End<u64>,
 ) -> Result<(), Fail> {
-    let last = core.outcome(core.next().saturating_sub(1));
+    let last = core.outcome(core.next_number().saturating_sub(1));
     assert_eq!(rt;
         (
             core.ended_now().len(),
@@ -46,7 +47,7 @@ fn look<R: Abort>(
     Ok(())
 }
 
-/// A message, which all waiting calls receive.
+/// Gives a message, which all waiting calls receive.
 fn serve_all<R: Abort>(
     rt: &R,
     core: &mut Core<Broadcast>,
@@ -54,23 +55,23 @@ fn serve_all<R: Abort>(
     place: u128,
 ) -> Result<(), Fail> {
     gather(rt, core, Deadline::Never)?;
-    let _reply = core.run(0, 0, message)?;
+    let _reply = core.procedure(0, 0, message)?;
     look(rt, core, 100_000, place, End::Completed(message))
 }
 
-/// Calls whose time comes at once.
+/// Has all calls expire at once.
 fn expire_all<R: Abort>(rt: &R, core: &mut Core<Broadcast>, place: u128) -> Result<(), Fail> {
     gather(rt, core, Deadline::At(5))?;
     let _clock = core.tick(5)?;
     look(rt, core, 100_000, place, End::Cancelled)
 }
 
-/// Calls that are cancelled one by one.
+/// Cancels calls one by one.
 fn cancel_all<R: Abort>(rt: &R, core: &mut Core<Broadcast>, place: u128) -> Result<(), Fail> {
     gather(rt, core, Deadline::Never)?;
-    let next = core.next();
+    let next = core.next_number();
     for n in next.saturating_sub(CROWD)..next {
-        let _how = core.abort(n)?;
+        let _how = core.cancel_number(n)?;
     }
     look(rt, core, 1, place, End::Cancelled)
 }
@@ -90,14 +91,14 @@ fn cut_all<R: Abort>(rt: &R, core: &mut Core<Broadcast>) -> Result<(), Fail> {
     Ok(())
 }
 
-/// Calls that the finalization ends, in one event.
+/// Has the finalization end all calls, in one event.
 fn finalize_all<R: Abort>(rt: &R, core: &mut Core<Broadcast>, place: u128) -> Result<(), Fail> {
     gather(rt, core, Deadline::Never)?;
     core.finalize()?;
     look(rt, core, 100_000, place, End::ProgramError)
 }
 
-/// Each call leaves two events, and each message, tick and finalization one.
+/// Does all of it. Each call leaves two events, and each message, tick and finalization leaves one.
 fn run_all<R: Abort>(rt: &R, core: &mut Core<Broadcast>) -> Result<(), Fail> {
     serve_all(rt, core, 7, 200_001)?;
     expire_all(rt, core, 400_002)?;

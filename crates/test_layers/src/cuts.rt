@@ -1,4 +1,5 @@
-//! Cores whose histories are cut, against values worked out by hand.
+// SPDX-License-Identifier: MIT
+//! Cores whose histories are cut, compared with values worked out by hand.
 
 use crate::transcript::{Run, Step, from, run_on, single};
 use po_classic_units::{Buffer, Relay, Signal};
@@ -50,7 +51,7 @@ fn volumes_follow_one_another(rt: HostRuntime) -> Result<(), Fail> {
 
 #[test]
 fn a_base_keeps_where_calls_arrived(rt: HostRuntime) -> Result<(), Fail> {
-    // Both calls wait on Second, where their first body requeued them; the procedure lets them go on to Third.
+    // Both calls wait on Second, on which their first body requeued them. The procedure lets them go on to Third.
     let steps = [
         Step::Call(single(0), 5),
         Step::Tick(3),

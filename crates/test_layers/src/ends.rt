@@ -1,8 +1,9 @@
+// SPDX-License-Identifier: MIT
 //! Readers that give the script in pieces or fail, and writers that take the answers in pieces or fail.
 
 use crate::fakes::{Asked, Narrow, Pieces};
 use crate::script_runs::text_of;
-use po_language::RunFault;
+use po_language::RunError;
 use po_script::run_script;
 use po_streams::{OverStd, Sink, Source};
 use std::alloc::Global;
@@ -12,13 +13,13 @@ use std::test::Fail;
 /// A script.
 const SCRIPT: &str = "unit buffer 2\ncall Get 0\ncall Put 7\n";
 
-/// What it writes.
+/// What the script writes.
 const ANSWERS: &str = "#1\n#2\n2 done 7\n1 done 7\n";
 
 /// The sizes of the pieces that are read or written.
 const SIZES: [usize; 4] = [1, 2, 3, 4096];
 
-/// Runs the script in pieces of each size, from a reader that then ends or fails.
+/// Runs the script in pieces of each size, from a reader that ends or fails after the last one.
 fn read_in_pieces(
     rt: &impl Abort,
     alloc: Global,
@@ -41,7 +42,7 @@ fn read_in_pieces(
     Ok(())
 }
 
-/// The pieces that are read don't matter.
+/// In which pieces the script is read doesn't matter.
 #[test]
 fn reads_in_pieces(rt: HostRuntime) -> Result<(), Fail> {
     read_in_pieces(&rt, rt.alloc(), SCRIPT, false, ANSWERS, "")?;
@@ -50,7 +51,7 @@ fn reads_in_pieces(rt: HostRuntime) -> Result<(), Fail> {
     read_in_pieces(&rt, rt.alloc(), script, false, text, "line 4: bad argument")
 }
 
-/// Where a read fails, the lines before it are answered, and the line that was not read whole is not looked at.
+/// If a read fails, the lines before it are answered, and the line that was not read whole is ignored.
 #[test]
 fn reads_up_to_a_failure(rt: HostRuntime) -> Result<(), Fail> {
     for (script, text) in [
@@ -66,7 +67,7 @@ fn reads_up_to_a_failure(rt: HostRuntime) -> Result<(), Fail> {
     Ok(())
 }
 
-/// Runs the script into a writer that takes so many bytes a call, and has room for so many.
+/// Runs the script into a writer that takes `size` bytes a call, and has room for `room` bytes.
 fn write_into(
     alloc: Global,
     size: usize,
@@ -111,7 +112,7 @@ fn writes_up_to_a_failure(rt: HostRuntime) -> Result<(), Fail> {
     Ok(())
 }
 
-/// Readers and writers of std that fail, and the text of want of memory.
+/// Readers and writers of std that fail, and the text for running out of memory.
 #[test]
 fn sees_failures_of_std(rt: HostRuntime) -> Result<(), Fail> {
     let mut writer = OverStd::new(Vec::new(rt.alloc()));
@@ -122,12 +123,12 @@ fn sees_failures_of_std(rt: HostRuntime) -> Result<(), Fail> {
     let ran = run_script(rt.alloc(), &mut reader, &mut OverStd::new(Asked::new(true)));
     assert_eq!(rt; text_of(rt.alloc(), ran)?.as_str(), "write failed");
 
-    let ran = Err(RunFault::Memory);
+    let ran = Err(RunError::Memory);
     assert_eq!(rt; text_of(rt.alloc(), ran)?.as_str(), "out of memory");
     Ok(())
 }
 
-/// Each call over std asks once what lies under it, and fails where that fails and nowhere else.
+/// Each call over std calls what is below it once, and fails exactly if that fails.
 #[test]
 fn asks_std_once_a_call(rt: HostRuntime) {
     for fails in [false, true] {

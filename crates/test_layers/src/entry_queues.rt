@@ -1,3 +1,4 @@
+// SPDX-License-Identifier: MIT
 //! A worked run of entry queues.
 
 ghost use Rattle.std.specs.Prelude.{◌≡◌, ◌≤◌, [], ◌∷◌, IfOk};
@@ -6,7 +7,7 @@ use po_queues::EntryQueues;
 use std::alloc::{AllocError, Global};
 use std::test::Fail;
 
-/// Three entries: keys 5 and 2 on entry 0, none on entry 1, keys 0, 7, 3 and 4 on entry 2. The calls of keys 5, 7 and 4
+/// Makes three entries: keys 5 and 2 on entry 0, none on entry 1, keys 0, 7, 3 and 4 on entry 2. The calls of keys 5, 7 and 4
 /// expire, that of key 7 last.
 fn worked(alloc: Global) -> Result<EntryQueues, AllocError>
     ensures total { IfOk result (λ q. q.total ≡ 3) }

@@ -1,3 +1,4 @@
+// SPDX-License-Identifier: MIT
 //! How often an examination evaluates barriers, which no clause counts.
 
 ghost use Rattle.std.specs.Prelude.{◌≡◌, IfOk};
@@ -10,8 +11,8 @@ use std::process::Abort;
 use std::sync::atomic::{AtomicU64, Ordering};
 use std::test::Fail;
 
-/// Five entries, of which one is open or none, and the barrier of one propagates an exception or of none, with a count of the
-/// evaluations of each barrier, which no clause sees.
+/// Five entries, of which at most one is open, and the barrier of at most one propagates an exception. Counts the evaluations
+/// of each barrier, which no clause sees.
 #[derive(Drop)]
 struct Counted {
     open_entry: u16,
@@ -95,7 +96,7 @@ impl Unit for Counted {
     ghost equality = { Prim.search rules };
 }
 
-/// With this entry open and the barrier of that one broken, where there are such entries, and no barrier evaluated.
+/// Returns a unit with this entry open and the barrier of that one broken, if such entries exist, and no barrier evaluated yet.
 fn all_closed_but(open_entry: u16, broken_entry: u16) -> Counted
     ensures { result ≡ (open_entry, broken_entry) }
 {
@@ -107,7 +108,7 @@ fn all_closed_but(open_entry: u16, broken_entry: u16) -> Counted
     }
 }
 
-/// Five entries: in order of arrival, keys on the entries 4, 3, 1 and 3, and none on the entries 0 and 2.
+/// Makes five entries: in order of arrival, keys on the entries 4, 3, 1 and 3, and none on the entries 0 and 2.
 fn filled(alloc: Global) -> Result<Queues, AllocError>
     ensures { IfOk result (λ q. q.total ≡ 5) }
 {
@@ -120,10 +121,10 @@ fn filled(alloc: Global) -> Result<Queues, AllocError>
     Ok(queues)
 }
 
-/// No entry.
+/// The number of no entry.
 const NONE: u16 = 5;
 
-/// Examines the unit's entries, and compares what is told and how often each barrier was evaluated.
+/// Examines the unit's entries, and compares the outcome and how often each barrier was evaluated.
 fn assert_evaluated(
     rt: &impl Abort,
     queues: &Queues,

@@ -1,3 +1,4 @@
+// SPDX-License-Identifier: MIT
 //! Worked examinations of five entries.
 
 ghost use Rattle.std.specs.Prelude.{◌≡◌, IfOk};
@@ -11,7 +12,7 @@ use std::test::Fail;
 /// An entry that no number of queued keys opens.
 const CLOSED: Result<u64, u32> = Ok(u64::MAX);
 
-/// Five entries by a table: an entry is open once so many keys are queued on it, or its barrier propagates an
+/// Five entries given by a table: an entry opens once that number of keys is queued on it, or its barrier propagates an
 /// exception.
 #[derive(Debug, Drop)]
 struct Gates {
@@ -85,7 +86,7 @@ impl Unit for Gates {
     ghost equality = { Prim.search rules };
 }
 
-/// Five entries: in order of arrival, keys on the entries 3, 1, 3, 4 and 0, and none on entry 2.
+/// Makes five entries: in order of arrival, keys on the entries 3, 1, 3, 4 and 0, and none on entry 2.
 fn filled(alloc: Global) -> Result<Queues, AllocError>
     ensures { IfOk result (λ q. q.total ≡ 5) }
 {
@@ -99,10 +100,10 @@ fn filled(alloc: Global) -> Result<Queues, AllocError>
     Ok(queues)
 }
 
-/// The one order after the other.
+/// The service orders.
 const ORDERS: [Order; 3] = [Order::Textual, Order::Oldest, Order::Rotating];
 
-/// What each order finds after each of these entries, as text.
+/// Returns what each order finds after each of these entries, as text.
 fn text_of(
     alloc: Global,
     queues: &Queues,
@@ -121,7 +122,7 @@ fn text_of(
     Ok(text)
 }
 
-// The lowest number, the entry whose first call has waited longest, and the next after the last one, in turn.
+// In turn: the lowest number, the entry whose first call has waited longest, and the next entry after the last one.
 #[test]
 fn each_order_has_its_first(rt: HostRuntime) -> Result<(), Fail> {
     let queues = filled(rt.alloc())?;
@@ -133,7 +134,7 @@ fn each_order_has_its_first(rt: HostRuntime) -> Result<(), Fail> {
          Ready(3) Ready(3) Ready(3) Ready(3) Ready(3) Ready(3) \
          Ready(1) Ready(1) Ready(3) Ready(4) Ready(1) Ready(1) "
     );
-    // The last one is the only open one.
+    // The entry that was last is the only open one.
     let table = [CLOSED, CLOSED, Ok(0), Ok(1), CLOSED];
     assert_eq!(rt;
         text_of(rt.alloc(), &queues, table, &[Some(3)])?.as_str(),
@@ -142,7 +143,7 @@ fn each_order_has_its_first(rt: HostRuntime) -> Result<(), Fail> {
     Ok(())
 }
 
-// A barrier that propagates an exception decides where it comes first in the order, and not behind an open one.
+// A barrier that propagates an exception decides if it comes first in the order, and not if it comes after an open one.
 #[test]
 fn exceptions_decide_in_their_order(rt: HostRuntime) -> Result<(), Fail> {
     let queues = filled(rt.alloc())?;
@@ -154,7 +155,7 @@ fn exceptions_decide_in_their_order(rt: HostRuntime) -> Result<(), Fail> {
     Ok(())
 }
 
-// An entry with no queued key isn't looked at, whatever its barrier, and the counts are those of the queues.
+// An entry without a queued key isn't looked at, whatever its barrier is, and the counts are those of the queues.
 #[test]
 fn is_quiet_where_all_are_closed(rt: HostRuntime) -> Result<(), Fail> {
     let queues = filled(rt.alloc())?;

@@ -1,3 +1,4 @@
+// SPDX-License-Identifier: MIT
 //! A worked run of expirations.
 
 ghost use Rattle.std.specs.Prelude.{◌≡◌, ◌≤◌, [], ◌∷◌, None, Some, length, take, IfOk};
@@ -6,7 +7,7 @@ use po_queues::Expirations;
 use std::alloc::{AllocError, Global};
 use std::test::Fail;
 
-/// Keys 4, 0, 7 and 2 in order of arrival, which expire at 50, 20, 90 and 20.
+/// Makes keys 4, 0, 7 and 2 in order of arrival, which expire at 50, 20, 90 and 20.
 fn worked(alloc: Global) -> Result<Expirations, AllocError>
     ensures reserved { IfOk result (λ e. 8 ≤ length e.calls) }
     ensures clock { IfOk result (λ e. e.clock ≡ 0) }
@@ -24,7 +25,7 @@ fn worked(alloc: Global) -> Result<Expirations, AllocError>
     Ok(expirations)
 }
 
-/// Raises the clock, and tells the first key that is due.
+/// Raises the clock, and returns the first key that is due.
 fn due_at(expirations: &mut Expirations, time: u64) -> Option<usize> {
     expirations.rise(time);
     expirations.first_due()
@@ -37,8 +38,8 @@ fn take_due(expirations: &mut Expirations, time: u64) -> Option<usize> {
     Some(due)
 }
 
-// A time has come when the clock is at it. Of two that are due the one that arrived first is found, and it is found until
-// it is removed. The clock isn't turned back.
+// A time has come when the clock has reached it. Of two keys that are due, the one that arrived first is found, until it is
+// removed. The clock isn't turned back.
 #[test]
 fn due_keys_are_found_in_order_of_arrival(rt: HostRuntime) -> Result<(), Fail> {
     let mut expirations = worked(rt.alloc())?;

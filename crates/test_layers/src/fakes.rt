@@ -1,4 +1,5 @@
-//! Readers and writers of the tests' own.
+// SPDX-License-Identifier: MIT
+//! The tests' own readers and writers.
 
 ghost use Rattle.std.specs.Prelude.{◌≡◌, ◌≤◌, false, None, IfOk};
 
@@ -7,7 +8,7 @@ use std::alloc::Global;
 use std::io;
 use std::io::{Read, Write};
 
-/// Gives its bytes in pieces of one size, and ends or fails where they end.
+/// A reader that gives its bytes in pieces of one size, and then ends or fails.
 #[derive(Drop)]
 pub(crate) struct Pieces<'a> {
     bytes: &'a [u8],
@@ -55,7 +56,7 @@ impl Source for Pieces<'_> {
     }
 }
 
-/// Gives a line without an end, a letter a read, and counts its reads.
+/// A reader that gives a line without an end, a letter a read, and counts its reads.
 #[derive(Clone, Copy)]
 pub(crate) struct Endless {
     pub(crate) reads: u64,
@@ -75,7 +76,7 @@ impl Source for Endless {
     }
 }
 
-/// Takes at most so many bytes a call, has room for so many, and then fails or takes none.
+/// A writer that takes at most `size` bytes a call, has room for `room` bytes, and then fails or takes none.
 #[derive(Drop)]
 pub(crate) struct Narrow {
     pub(crate) bytes: Vec<u8>,
@@ -123,7 +124,7 @@ impl Sink for Narrow {
     }
 }
 
-/// A reader and writer of std that counts its calls. Each of them fails, or each gives or takes a byte.
+/// A reader and writer of std that counts its calls. Either each call fails, or each gives or takes a byte.
 #[derive(Clone, Copy)]
 pub(crate) struct Asked {
     pub(crate) calls: u64,
@@ -135,7 +136,7 @@ impl Asked {
         Asked { calls: 0, fails }
     }
 
-    /// One more call, on a buffer of this length.
+    /// Counts one more call, on a buffer of this length, and answers it.
     fn answer(&mut self, length: usize) -> io::Result<usize>
         ensures { IfOk result (λ count. count ≤ length) }
     {

@@ -1,10 +1,11 @@
+// SPDX-License-Identifier: MIT
 //! A worked run of a history with two cuts.
 
 use po_calls::{Deadline, End};
 use po_history::{Event, History};
 use std::test::Fail;
 
-/// A simple call with this number on entry 2.
+/// Returns a simple call with this number on entry 2.
 fn issue(n: u64) -> Event<i64> {
     Event::Issue {
         n,
@@ -15,7 +16,7 @@ fn issue(n: u64) -> Event<i64> {
     }
 }
 
-// The places run on, what is owed and the outcomes stay. Numbers of no call have no outcome.
+// The places go on, and what is owed and the outcomes stay. A number of no call has no outcome.
 #[test]
 fn runs_on_after_cuts(rt: HostRuntime) -> Result<(), Fail> {
     let mut history = History::<i64>::new(rt.alloc(), 10, 100)?;

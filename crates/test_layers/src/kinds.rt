@@ -1,10 +1,11 @@
-//! One list of commands, carried out by a core with a record in memory and by one without: they answer alike, but where the
-//! second has memory for no further call, or no place for a further event.
+// SPDX-License-Identifier: MIT
+//! One list of commands, carried out by a core with a record in memory and by one without: they answer alike, unless the second
+//! has no memory for a further call, or no place for a further event.
 
 use crate::transcript::{from, single};
 use po_classic_units::{Allocator, ScriptUnit};
 use po_core::{
-    Aborted, BoundedCore, CallStatus, Core, Deadline, End, Order, Record, Refusal, Start, Ticket,
+    Attempt, BoundedCore, CallStatus, Core, Deadline, End, Order, Record, Refusal, Start, Ticket,
 };
 use std::alloc::Global;
 use std::fmt::Write;
@@ -16,14 +17,14 @@ const REQUEST: u16 = 0;
 /// The entry Claim, whose calls are requeued without abort.
 const CLAIM: u16 = 1;
 
-/// A core of an allocator of one, with its record in memory.
+/// Makes a core of an allocator of one, with its record in memory.
 fn recorded(alloc: Global, start: Start) -> Result<Core<Allocator>, Fail> {
     let unit = Allocator::new(1);
     let shape = unit.shape(alloc)?;
     Ok(Core::start(alloc, unit, shape, Order::Textual, start)?)
 }
 
-/// The same without a record, and with memory for so many calls.
+/// Makes the same without a record, and with memory for `most` calls.
 fn bounded(alloc: Global, start: Start, most: usize) -> Result<BoundedCore<Allocator>, Fail> {
     let unit = Allocator::new(1);
     let shape = unit.shape(alloc)?;
@@ -49,7 +50,7 @@ fn tell_end(text: &mut String, end: End<u64>) -> Result<(), Fail> {
     Ok(())
 }
 
-/// Adds where the call of a ticket is.
+/// Adds the status of the call of a ticket.
 fn tell_place<R: Record<Allocator>>(
     core: &Core<Allocator, R>,
     ticket: Ticket,
@@ -63,7 +64,7 @@ fn tell_place<R: Record<Allocator>>(
     Ok(())
 }
 
-/// Issues a call on an entry for one unit, and says where it is.
+/// Issues a call on an entry for one unit, and adds its status.
 fn call<R: Record<Allocator>>(
     core: &mut Core<Allocator, R>,
     entry: u16,
@@ -84,7 +85,7 @@ fn call<R: Record<Allocator>>(
     }
 }
 
-/// Attempts to cancel the call of a ticket, if there is one.
+/// Tries to cancel the call of a ticket, if there is one.
 fn cancel<R: Record<Allocator>>(
     core: &mut Core<Allocator, R>,
     ticket: Option<Ticket>,
@@ -94,8 +95,8 @@ fn cancel<R: Record<Allocator>>(
         return Ok(());
     };
     match core.cancel(ticket) {
-        Ok(Aborted::Cancelled) => write!(text, "cancelled; ")?,
-        Ok(Aborted::Kept) => write!(text, "kept; ")?,
+        Ok(Attempt::Cancelled) => write!(text, "cancelled; ")?,
+        Ok(Attempt::Kept) => write!(text, "kept; ")?,
         Err(refusal) => refuse(text, refusal)?,
     }
     Ok(())
@@ -119,7 +120,7 @@ fn release<R: Record<Allocator>>(
     core: &mut Core<Allocator, R>,
     text: &mut String,
 ) -> Result<(), Fail> {
-    match core.run(1, 0, 1) {
+    match core.procedure(1, 0, 1) {
         Ok(Ok(value)) => write!(text, "released {value}; ")?,
         Ok(Err(exception)) => write!(text, "raised {exception}; ")?,
         Err(refusal) => refuse(text, refusal)?,
@@ -143,7 +144,7 @@ fn collect<R: Record<Allocator>>(
     Ok(())
 }
 
-/// Carries out the commands, and says what they answer.
+/// Carries out the commands, and adds what they answer.
 fn tell<R: Record<Allocator>>(
     core: &mut Core<Allocator, R>,
     text: &mut String,
@@ -172,12 +173,12 @@ fn tell<R: Record<Allocator>>(
     collect(core, last, text)?;
     tick(core, 9, text)?;
     release(core, text)?;
-    let (next, place, clock) = (core.next(), core.place(), core.clock());
+    let (next, place, clock) = (core.next_number(), core.place(), core.clock());
     write!(text, "next {next}, place {place}, clock {clock}")?;
     Ok(())
 }
 
-/// What both kinds answer.
+/// The answers of both kinds.
 const TOLD: &str =
     "#1 done 1; #2 waits; refused 6; cancelled; done 1; refused 5; cancelled; #3 waits; kept; kept; \
      #4 waits; clock 5; cancelled; released 1; done 1; #5 cancelled; #6 waits; final; program_error; \
@@ -194,7 +195,7 @@ fn kinds_answer_alike(rt: HostRuntime) -> Result<(), Fail> {
     Ok(())
 }
 
-/// Asks twice for the unit, and once more, and collects the first call in between where it is to.
+/// Asks three times for the unit, and if `collects` collects the first call before the third.
 fn ask_thrice<R: Record<Allocator>>(
     core: &mut Core<Allocator, R>,
     collects: bool,
@@ -222,7 +223,7 @@ fn uncollected_calls_fill_fixed_memory(rt: HostRuntime) -> Result<(), Fail> {
     Ok(())
 }
 
-// A record in memory has a place for each event that it has room for, also past 64 bits.
+// A record in memory has a place for each event that it has room for, even past 64 bits.
 #[test]
 fn places_of_ticks(rt: HostRuntime) -> Result<(), Fail> {
     let start = from(1, 18446744073709551614);

@@ -1,4 +1,5 @@
-//! A unit whose calls are requeued three times, twice of them without abort, what its cores answer, and how often they evaluate
+// SPDX-License-Identifier: MIT
+//! A unit whose calls are requeued three times, two of them without abort: what its cores answer, and how often they evaluate
 //! its barriers, which no clause counts.
 
 ghost use Rattle.std.specs.Prelude.{◌≡◌, ◌-◌};
@@ -16,7 +17,7 @@ use std::test::Fail;
 /// The number of the last entry.
 const LAST: u16 = 3;
 
-/// A declaration of a single entry.
+/// Returns a declaration of a single entry.
 fn declared(public: bool) -> Decl {
     Decl {
         public,
@@ -26,9 +27,9 @@ fn declared(public: bool) -> Decl {
     }
 }
 
-/// A level, and four entries, of which the first and the last are public: each is open from the level of its number on.
-/// The first requeues on the second and that one on the third, without abort, and the third on the last, with abort. How often
-/// each barrier is evaluated is counted where no clause sees it.
+/// A level, and four entries, of which the first and the last are public: each is open if the level is at least its number. The
+/// first requeues on the second and the second on the third, both without abort, and the third on the last, with abort. The
+/// evaluations of each barrier are counted, which no clause sees.
 #[derive(Drop)]
 struct Ladder<'a> {
     level: u64,
@@ -110,7 +111,7 @@ impl<'a> Unit for Ladder<'a> {
     ghost equality = { Prim.search rules };
 }
 
-/// A call on a single entry.
+/// Returns a call on a single entry.
 fn call(entry: u16, value: u64) -> Step {
     Step::Call(single(entry), value)
 }
@@ -151,11 +152,11 @@ fn on_ladder<R: Abort + AllocGlobal>(
     Ok(())
 }
 
-// The attempt to cancel a call requeued without abort marks it once, and the mark outlasts a requeue without abort: a further attempt
-// leaves no event, and nothing is serviced. The requeue with abort then cancels the call.
+// The attempt to cancel a call that was requeued without abort marks it once, and the mark outlasts a requeue without abort: a
+// further attempt leaves no event, and nothing is serviced. Then the requeue with abort cancels the call.
 //
-// The first barrier is evaluated when the call arrives; the second behind that, and by the first procedure; the third behind
-// the first procedure's requeue, and by the second procedure.
+// The first barrier is evaluated when the call arrives; the second barrier after that, and by the first procedure; the third
+// barrier after the first procedure's requeue, and by the second procedure.
 #[test]
 fn a_requeue_without_abort_keeps_the_mark(rt: HostRuntime) -> Result<(), Fail> {
     let steps = [
@@ -170,17 +171,17 @@ fn a_requeue_without_abort_keeps_the_mark(rt: HostRuntime) -> Result<(), Fail> {
         Order::Textual,
         &steps,
         "#1; kept; done 1; kept; done 2, 1 cancelled; ",
-        "Issue Abort(1) Ran Serve(1) Ran Serve(2) ",
+        "Issue Cancel(1) Ran Serve(1) Ran Serve(2) ",
         [1, 2, 2, 0],
     )
 }
 
-// A requeued call counts from its latest queueing: the second call was queued before the first one came to the third
-// entry, so that its entry is served before that one.
+// A requeued call counts from its latest queueing: the second call was queued before the first one came to the third entry, so
+// the second call's entry is served first.
 //
-// Each examination evaluates the barriers of all entries on which calls are queued, once each: one behind the first call, one
-// behind the second, two of the first procedure and three of the second that find a call. The last barrier is evaluated once
-// more, when the second call arrives.
+// Each examination evaluates, once each, the barriers of all entries on which calls are queued: there is one after the first
+// call, one after the second, and two of the first procedure and three of the second find a call. The last barrier is evaluated
+// once more, when the second call arrives.
 #[test]
 fn the_oldest_is_who_arrived_first(rt: HostRuntime) -> Result<(), Fail> {
     let steps = [

@@ -1,4 +1,5 @@
-//! The laws of the units, on cores that have carried out commands.
+// SPDX-License-Identifier: MIT
+//! The laws of the units, for cores that have carried out commands.
 
 ghost use Rattle.std.specs.Prelude.{[], OnOk};
 ghost use Rattle.po_classic_units.specs.Buffer.{buffer_meaning};
@@ -16,7 +17,7 @@ fn issue_all<U: Unit<Value = u64>>(core: &mut Core<U>, calls: &[(u16, u64)]) -> 
 {
     for (entry, value) in calls {
         let reference = EntryRef {
-            entry: *entry,
+            declaration: *entry,
             index: None,
         };
         let _ticket = core.issue(0, reference, *value, Deadline::Never)?;
@@ -24,7 +25,7 @@ fn issue_all<U: Unit<Value = u64>>(core: &mut Core<U>, calls: &[(u16, u64)]) -> 
     Ok(())
 }
 
-/// Calls the entries of a core of whose history nothing was cut off.
+/// Calls the entries of a core whose history was never cut.
 fn fill<U: Unit<Value = u64>>(core: &mut Core<U>, calls: &[(u16, u64)]) -> Result<(), Fail>
     requires { AreVolumes U.meaning core.old.object [] }
     ensures { OnOk result (AreVolumes U.meaning core.new.object []) }
@@ -93,7 +94,7 @@ fn the_law_of_the_meeting(rt: HostRuntime) -> Result<(), Fail> {
     Ok(())
 }
 
-/// Cuts the history of a core of which nothing was cut off, and states the law over the volume and what follows.
+/// Cuts the history of a core for the first time, and states the law for the volume and the events after it.
 fn law_over_a_volume(core: &mut Core<Buffer>) -> Result<(), Fail>
     requires { AreVolumes buffer_meaning core.old.object [] }
 {

@@ -1,7 +1,13 @@
+// SPDX-License-Identifier: MIT
 //! Tests of each layer below objects: flat numbers, the table of calls, queues, accepted calls, examinations, histories and
 //! units; whole cores and their cuts; scripts whose readers and writers fail.
 //!
-//! They stand apart from what they test, so that the gate proves those crates once, and not a second time with their tests.
+//! The tests are apart from the crates that they test, so that the gate proves those crates once, and not a second time with
+//! their tests.
+//!
+//! Most modules have the name of what they test. Two give a list of steps and compare the answers as text: transcript.rt for
+//! commands on a core, units/operations.rt for operations of a unit. Begin with runs.rt, which uses the first, and
+//! units/buffer.rt, which uses the second.
 #![tactic(auto)]
 
 #[cfg(test)]

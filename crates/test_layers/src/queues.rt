@@ -1,3 +1,4 @@
+// SPDX-License-Identifier: MIT
 //! A worked run of queues.
 
 ghost use Rattle.std.specs.Prelude.{◌≡◌, ◌≤◌, [], ◌∷◌, IfOk};
@@ -7,7 +8,7 @@ use std::alloc::{AllocError, Global};
 use std::fmt::Write;
 use std::test::Fail;
 
-/// Three entries: keys 5 and 2 on entry 0, none on entry 1, keys 0, 7, 3 and 4 on entry 2.
+/// Makes three entries: keys 5 and 2 on entry 0, none on entry 1, keys 0, 7, 3 and 4 on entry 2.
 fn worked(alloc: Global) -> Result<Queues, AllocError>
     ensures total { IfOk result (λ q. q.total ≡ 3) }
     ensures reserved { IfOk result (λ q. 8 ≤ q.reserved) }
@@ -28,7 +29,7 @@ fn worked(alloc: Global) -> Result<Queues, AllocError>
     Ok(queues)
 }
 
-/// The keys that stand behind this one in its queue.
+/// Adds the keys after this one in its queue.
 fn keys_after(queues: &Queues, key: usize, text: &mut String) -> Result<(), Fail> {
     let mut last = key;
     for _ in 0..1000 {
@@ -41,7 +42,7 @@ fn keys_after(queues: &Queues, key: usize, text: &mut String) -> Result<(), Fail
     Ok(())
 }
 
-/// Of each entry that has a queued key how many keys are queued on it, the stamp of the first, and all of them in their
+/// Returns, for each entry that has a queued key, how many keys are queued on it, the stamp of the first, and all of them in
 /// order.
 fn text_of(alloc: Global, queues: &Queues) -> Result<String, Fail> {
     let mut text = String::new(alloc);
@@ -55,7 +56,7 @@ fn text_of(alloc: Global, queues: &Queues) -> Result<String, Fail> {
     Ok(text)
 }
 
-// In the middle, at the head, at the end, and what isn't queued. A removed key is new on another entry.
+// In the middle, at the head, at the end, and a key that isn't queued. A removed key is new on another entry.
 #[test]
 fn keys_are_removed_anywhere(rt: HostRuntime) -> Result<(), Fail> {
     let mut queues = worked(rt.alloc())?;

@@ -1,62 +1,63 @@
-//! The order in which refusals come, what they leave, and their texts.
+// SPDX-License-Identifier: MIT
+//! The order of refusals, what they leave unchanged, and their texts.
 
 use crate::transcript::{Run, Step, from, run_on};
 use po_classic_units::Allocator;
-use po_core::{MakeFault, Order, Refusal, Start};
+use po_core::{MakeError, Order, Refusal, Start};
 use po_unit::EntryRef;
 use std::fmt::Write;
 use std::process::Abort;
 use std::test::Fail;
 
-/// No entry of the allocator.
+/// A call on no entry of the allocator.
 const NOTHING: Step = Step::Call(
     EntryRef {
-        entry: 3,
+        declaration: 3,
         index: None,
     },
     1,
 );
 
-/// The private family Grant, at an index that it doesn't have.
+/// A call on the private family Grant, with an index that it doesn't have.
 const GRANT: Step = Step::Call(
     EntryRef {
-        entry: 2,
+        declaration: 2,
         index: Some(9),
     },
     1,
 );
 
-/// The single entry Request with an index.
+/// A call on the single entry Request, with an index.
 const INDEXED: Step = Step::Call(
     EntryRef {
-        entry: 0,
+        declaration: 0,
         index: Some(1),
     },
     1,
 );
 
-/// The entry Request.
+/// A call on the entry Request.
 const REQUEST: Step = Step::Call(
     EntryRef {
-        entry: 0,
+        declaration: 0,
         index: None,
     },
     1,
 );
 
-/// The entry Claim, whose calls are requeued without abort.
+/// A call on the entry Claim, whose calls are requeued without abort.
 const CLAIM: Step = Step::Call(
     EntryRef {
-        entry: 1,
+        declaration: 1,
         index: None,
     },
     1,
 );
 
-/// A procedure that the allocator doesn't have.
+/// A run of a procedure that the allocator doesn't have.
 const NO_PROCEDURE: Step = Step::Run(1, 1);
 
-/// The procedure Release.
+/// A run of the procedure Release.
 const RELEASE: Step = Step::Procedure(1);
 
 /// Compares what a new allocator of one answers.
@@ -77,8 +78,8 @@ fn on_allocator<R: Abort + AllocGlobal>(
     run_on(rt, Allocator::new(1), run)
 }
 
-// Where several conditions hold, the first in the order of a call is answered: here no number is left for a call and no
-// place for a procedure or a cut, and from the finalization on the object is finalized too.
+// If several conditions hold, the first in the order of a call is answered: here no number is left for a call, and no place for
+// a procedure or a cut; after the finalization the object is finalized too.
 #[test]
 fn refusals_come_by_rising_number(rt: HostRuntime) -> Result<(), Fail> {
     let start = from(18446744073709551615, 18446744073709551615);
@@ -94,15 +95,15 @@ fn refusals_come_by_rising_number(rt: HostRuntime) -> Result<(), Fail> {
         Step::Cancel(18446744073709551615),
         Step::Function(0),
         Step::Count(EntryRef {
-            entry: 3,
+            declaration: 3,
             index: Some(1),
         }),
         Step::Count(EntryRef {
-            entry: 2,
+            declaration: 2,
             index: Some(9),
         }),
         Step::Count(EntryRef {
-            entry: 2,
+            declaration: 2,
             index: Some(1),
         }),
         Step::Finalize,
@@ -125,8 +126,8 @@ fn refusals_come_by_rising_number(rt: HostRuntime) -> Result<(), Fail> {
     )
 }
 
-// After a refusal, what the last command ended that wasn't refused is still shown. The release gets the last place that a
-// procedure may have.
+// After a refusal, the calls ended by the latest command that wasn't refused are still shown. The release gets the last place
+// that a procedure may have.
 #[test]
 fn refusals_leave_what_was_ended(rt: HostRuntime) -> Result<(), Fail> {
     let start = from(1, 18446744073709551609);
@@ -190,8 +191,8 @@ fn refusals_have_texts(rt: HostRuntime) -> Result<(), Fail> {
     write!(
         text,
         "{}; {}",
-        MakeFault::ShapeMismatch,
-        MakeFault::OutOfMemory
+        MakeError::ShapeMismatch,
+        MakeError::OutOfMemory
     )?;
     assert_eq!(rt;
         text.as_str(),

@@ -1,9 +1,10 @@
-//! Runs of whole cores that no script can say, against values worked out by hand: what tickets tell, the last number, whose
-//! an end is, and which events a run leaves.
+// SPDX-License-Identifier: MIT
+//! Runs of whole cores that no script can express, compared with values worked out by hand: what tickets answer, the last
+//! number, the owner of an end, and which events a run leaves.
 
 use crate::transcript::{Run, Step, from, run_on, single};
 use po_classic_units::{Buffer, Relay, ScriptUnit, Trap};
-use po_core::{Core, MakeFault, Order, Start};
+use po_core::{Core, MakeError, Order, Start};
 use po_unit::EntryRef;
 use std::test::Fail;
 
@@ -50,12 +51,12 @@ fn a_mismatched_shape_is_refused(rt: HostRuntime) -> Result<(), Fail> {
     let shape = Relay::new().shape(rt.alloc())?;
     let unit = Buffer::new(rt.alloc(), 1)?;
     let made = Core::new(rt.alloc(), unit, shape, Order::Textual, 1);
-    assert_eq!(rt; made.err(), Some(MakeFault::ShapeMismatch));
+    assert_eq!(rt; made.err(), Some(MakeError::ShapeMismatch));
     Ok(())
 }
 
-// A conditional call that a requeue without abort made wait is cancelled in an event of its own, behind the one that requeued
-// it with abort.
+// A conditional call that had to wait because of a requeue without abort is cancelled in an event of its own, after the one
+// that requeued it with abort.
 #[test]
 fn a_late_cancellation_is_an_event(rt: HostRuntime) -> Result<(), Fail> {
     let steps = [
@@ -74,7 +75,8 @@ fn a_late_cancellation_is_an_event(rt: HostRuntime) -> Result<(), Fail> {
     run_on(&rt, Relay::new(), run)
 }
 
-// A call that a full queue ends, and one that was marked and is requeued with abort, end in the events that brought them there.
+// A call that ends because a queue is full, and a marked call that is requeued with abort, end in the event that brought them
+// there.
 #[test]
 fn ends_at_a_queue_are_no_events(rt: HostRuntime) -> Result<(), Fail> {
     let steps = [
@@ -98,20 +100,20 @@ fn ends_at_a_queue_are_no_events(rt: HostRuntime) -> Result<(), Fail> {
         },
         steps: &steps,
         text: "#1; #2, 2 program_error; kept; done 1, 1 cancelled; #3; #4, 4 program_error; done 0; #5; kept; done 1, 5 cancelled; done 2, 3 done 7; ",
-        events: "Issue Issue Abort(1) Ran Serve(1) Issue Serve(1) Issue Serve(1) Ran Issue Abort(5) Ran Serve(1) Ran Serve(2) ",
+        events: "Issue Issue Cancel(1) Ran Serve(1) Issue Serve(1) Issue Serve(1) Ran Issue Cancel(5) Ran Serve(1) Ran Serve(2) ",
     };
     run_on(&rt, Relay::new(), run)
 }
 
-/// The entry Wait of the trap with this index.
+/// Returns the entry Wait of the trap with this index.
 fn wait(index: i32) -> EntryRef {
     EntryRef {
-        entry: 0,
+        declaration: 0,
         index: Some(index),
     }
 }
 
-// An end is its call's owner's, whoever's command brought it about: a completion and an exception, an expiration, a
+// The end of a call belongs to its owner, whoever's command caused it: a completion and an exception, an expiration, a
 // cancellation, and Program_Error of all queued calls. A tick that doesn't raise the clock is an event too.
 #[test]
 fn an_end_is_its_owners(rt: HostRuntime) -> Result<(), Fail> {
@@ -145,7 +147,7 @@ fn an_end_is_its_owners(rt: HostRuntime) -> Result<(), Fail> {
         start: from(1, 0),
         steps: &steps,
         text: "#1; #2, 2 raised 9, 1 done 10; now, 2 raised 9 of 5, 1 done 10 of 3; done 0; #3; #4; clock 5, 3 cancelled; now, 3 cancelled of 7; clock 5; cancelled, 4 cancelled; now, 4 cancelled of 8; #5; #6; done 13, 5 program_error, 6 program_error; now, 5 program_error of 1, 6 program_error of 2; ",
-        events: "Issue Issue Serve(0) Ran Issue Issue Tick(5) Expire(3) Tick(4) Abort(4) Issue Issue Ran Break(1) ",
+        events: "Issue Issue Serve(0) Ran Issue Issue Tick(5) Expire(3) Tick(4) Cancel(4) Issue Issue Ran Break(1) ",
     };
     run_on(&rt, Trap::new(), run)
 }

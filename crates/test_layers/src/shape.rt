@@ -1,6 +1,7 @@
+// SPDX-License-Identifier: MIT
 //! A worked numbering, the limits, and the texts of faults.
 
-use po_unit::{Decl, EntryRef, IndexFault, Shape, ShapeFault};
+use po_unit::{Decl, EntryRef, IndexError, Shape, ShapeError};
 use std::alloc::Global;
 use std::fmt::Write;
 use std::test::Fail;
@@ -34,9 +35,12 @@ const DECLS: [Decl; 4] = [
     },
 ];
 
-/// A reference to an entry.
+/// Returns a reference to an entry.
 fn entry(entry: u16, index: Option<i32>) -> EntryRef {
-    EntryRef { entry, index }
+    EntryRef {
+        declaration: entry,
+        index,
+    }
 }
 
 #[test]
@@ -73,17 +77,17 @@ fn refuses_references(rt: HostRuntime) -> Result<(), Fail> {
         shape.flat(entry(1, Some(2))),
     ];
     let refused = [
-        Err(IndexFault::NoSuchEntry),
-        Err(IndexFault::NotAFamily),
-        Err(IndexFault::IndexMissing),
-        Err(IndexFault::BadIndex),
+        Err(IndexError::NoSuchEntry),
+        Err(IndexError::NotAFamily),
+        Err(IndexError::IndexMissing),
+        Err(IndexError::BadIndex),
     ];
     assert_eq!(rt; flat, refused);
     Ok(())
 }
 
-/// How many entries a shape of these declarations has.
-fn total_of(alloc: Global, decls: &[Decl]) -> Result<u16, ShapeFault> {
+/// Returns how many entries a shape of these declarations has.
+fn total_of(alloc: Global, decls: &[Decl]) -> Result<u16, ShapeError> {
     Ok(Shape::new(alloc, decls)?.total())
 }
 
@@ -109,7 +113,7 @@ fn keeps_limits(rt: HostRuntime) -> Result<(), Fail> {
         total_of(alloc, &[wide, DECLS[0]]),
         total_of(alloc, &[widest]),
     ];
-    let too_many = Err(ShapeFault::TooManyEntries);
+    let too_many = Err(ShapeError::TooManyEntries);
     assert_eq!(rt;
         totals,
         [Ok(0), Ok(0), too_many, Ok(4096), too_many, too_many]
@@ -120,14 +124,14 @@ fn keeps_limits(rt: HostRuntime) -> Result<(), Fail> {
 #[test]
 fn writes_faults(rt: HostRuntime) -> Result<(), Fail> {
     let mut text = String::new(rt.alloc());
-    for fault in [ShapeFault::TooManyEntries, ShapeFault::OutOfMemory] {
+    for fault in [ShapeError::TooManyEntries, ShapeError::OutOfMemory] {
         write!(text, "{} {fault}; ", fault.number())?;
     }
     for fault in [
-        IndexFault::NoSuchEntry,
-        IndexFault::NotAFamily,
-        IndexFault::IndexMissing,
-        IndexFault::BadIndex,
+        IndexError::NoSuchEntry,
+        IndexError::NotAFamily,
+        IndexError::IndexMissing,
+        IndexError::BadIndex,
     ] {
         write!(text, "{} {fault}; ", fault.number())?;
     }

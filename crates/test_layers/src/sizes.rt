@@ -1,3 +1,4 @@
+// SPDX-License-Identifier: MIT
 //! A line without an end, and a script of many lines.
 
 use crate::fakes::{Endless, Narrow};
@@ -6,7 +7,7 @@ use po_script::run_script;
 use std::fmt::Write;
 use std::test::Fail;
 
-/// The read that gives a byte too many for a line is the last.
+/// The read that gives one byte too many for a line is the last.
 #[test]
 fn stops_at_a_byte_too_many(rt: HostRuntime) -> Result<(), Fail> {
     let mut script = Endless { reads: 0 };

@@ -1,14 +1,15 @@
+// SPDX-License-Identifier: MIT
 //! Worked runs of a table, also with memory refused.
 
 ghost use Rattle.std.specs.Prelude.{◌≡◌, OnOk, Some};
 ghost use Rattle.slab.specs.Slab.{HasRoomFor};
 ghost use Rattle.po_calls.specs.Calls.{IsAbove};
 
-use po_calls::{Call, Deadline, End, Place, Table, Ticket};
+use po_calls::{Call, CallStatus, Deadline, End, Table, Ticket};
 use std::process::Abort;
 use std::test::Fail;
 
-/// A call of this number on entry 0.
+/// Returns a call with this number on entry 0.
 fn call(number: u64) -> Call<u16>
     ensures { result.number ≡ number }
 {
@@ -23,7 +24,8 @@ fn call(number: u64) -> Call<u16>
     }
 }
 
-/// Makes room for a call. Where memory is refused, all is as before, and it tries once more.
+/// Makes room for a call. If memory is refused, it checks that all is as before, and tries once
+/// more.
 fn make_room(rt: &impl Abort, table: &mut Table<u16>, ticket: Ticket) -> Result<(), Fail>
     ensures room { OnOk result (HasRoomFor table.new.calls 1) }
     ensures last { table.new.last ≡ table.old.last }
@@ -37,7 +39,7 @@ fn make_room(rt: &impl Abort, table: &mut Table<u16>, ticket: Ticket) -> Result<
     Ok(())
 }
 
-/// Puts a call of this number.
+/// Puts a call with this number.
 fn add(rt: &impl Abort, table: &mut Table<u16>, number: u64) -> Result<Ticket, Fail>
     requires { IsAbove table.old.last number }
     ensures { OnOk result (table.new.last ≡ Some number) }
@@ -53,14 +55,14 @@ fn collects_once(rt: HostRuntime) -> Result<(), Fail> {
     let first = add(&rt, &mut table, 1)?;
     let second = add(&rt, &mut table, 2)?;
     let early = table.collect(first);
-    assert!(rt; matches!(table.status(first), Place::Waiting));
+    assert!(rt; matches!(table.status(first), CallStatus::Waiting));
     table.finish(first, End::Completed(7));
     let place = table.status(first);
     let ends = [early, table.collect(first), table.collect(first)];
     assert_eq!(rt;
         (place, ends),
         (
-            Place::Ended(End::Completed(7)),
+            CallStatus::Ended(End::Completed(7)),
             [None, Some(End::Completed(7)), None]
         )
     );
@@ -75,7 +77,11 @@ fn collects_once(rt: HostRuntime) -> Result<(), Fail> {
             table.status(second),
             table.status(third)
         ],
-        [Place::Unknown, Place::Waiting, Place::Waiting]
+        [
+            CallStatus::Unknown,
+            CallStatus::Waiting,
+            CallStatus::Waiting
+        ]
     );
     assert_eq!(rt;
         [table.get(first), table.get(third)],

@@ -1,9 +1,10 @@
-//! What the commands on a core answered, as text, for tests. No clause says what a command did, so a test's proof carries
-//! none of it.
+// SPDX-License-Identifier: MIT
+//! The answers to commands on a core, as text, for tests. No clause says what a command did here, so a test's proof doesn't
+//! depend on it.
 
 use po_classic_units::ScriptUnit;
-use po_core::{Aborted, CallStatus, Core, Deadline, End, Event, Order, Refusal, Start, Ticket};
-use po_unit::{EntryRef, Shape, ShapeFault, Unit};
+use po_core::{Attempt, CallStatus, Core, Deadline, End, Event, Order, Refusal, Start, Ticket};
+use po_unit::{EntryRef, Shape, ShapeError, Unit};
 use std::alloc::Global;
 use std::fmt::Write;
 use std::process::Abort;
@@ -14,19 +15,19 @@ use std::test::Fail;
 pub(crate) enum Step {
     Call(EntryRef, u64),
     Timed(u64, EntryRef, u64),
-    /// The calls and procedures that follow are this owner's.
+    /// Gives the following calls and procedures this owner.
     By(u16),
-    /// The procedure with the number 0.
+    /// Runs procedure 0.
     Procedure(u64),
-    /// The procedure with this number.
+    /// Runs the procedure with this number.
     Run(u16, u64),
     Function(u64),
     Cancel(u64),
     Tick(u64),
     Finalize,
-    /// The calls that the last command ended that wasn't refused, with their owners.
+    /// Adds the calls ended by the latest command that wasn't refused, with their owners.
     EndedNow,
-    /// Where the call of the ticket with this index is.
+    /// Adds the status of the call of the ticket with this index.
     EndOf(usize),
     /// Collects the end of the call of the ticket with this index.
     Collect(usize),
@@ -35,11 +36,11 @@ pub(crate) enum Step {
     CallStatus,
     /// Cuts the history.
     Cut,
-    /// From where the history replays.
+    /// Adds the state from which the history replays.
     Base,
 }
 
-/// The beginning of a core whose first call and first event have these numbers, and whose queues have no greatest length.
+/// Returns the start of a core whose first call and first event have these numbers, and whose queues may have any length.
 pub(crate) fn from(first_number: u64, first_place: u64) -> Start {
     Start {
         first_number,
@@ -48,9 +49,12 @@ pub(crate) fn from(first_number: u64, first_place: u64) -> Start {
     }
 }
 
-/// The single entry of a declaration.
+/// Returns the single entry of a declaration.
 pub(crate) fn single(entry: u16) -> EntryRef {
-    EntryRef { entry, index: None }
+    EntryRef {
+        declaration: entry,
+        index: None,
+    }
 }
 
 /// A core, the tickets of its calls, and what its commands answered: first the answer, then the calls that ended.
@@ -85,7 +89,7 @@ fn event(text: &mut String, event: &Event<u64>) -> Result<(), Fail> {
     match event {
         Event::Issue { .. } => write!(text, "Issue ")?,
         Event::Ran { .. } => write!(text, "Ran ")?,
-        Event::Abort(n) => write!(text, "Abort({n}) ")?,
+        Event::Cancel(n) => write!(text, "Cancel({n}) ")?,
         Event::Tick(t) => write!(text, "Tick({t}) ")?,
         Event::Final => write!(text, "Final ")?,
         Event::Serve(e) => write!(text, "Serve({e}) ")?,
@@ -95,7 +99,7 @@ fn event(text: &mut String, event: &Event<u64>) -> Result<(), Fail> {
     Ok(())
 }
 
-/// The kinds of the events.
+/// Returns the kinds of the events.
 fn events_of(alloc: Global, events: &[Event<u64>]) -> Result<String, Fail> {
     let mut text = String::new(alloc);
     for kind in events {
@@ -104,7 +108,7 @@ fn events_of(alloc: Global, events: &[Event<u64>]) -> Result<String, Fail> {
     Ok(text)
 }
 
-/// A run on a new core: the order and the beginning of the core, the steps, what they answer, and what the history then has.
+/// A run on a new core: the order and the start of the core, the steps, what they answer, and what the history has at the end.
 #[derive(Clone, Copy)]
 pub(crate) struct Run<'a> {
     pub(crate) order: Order,
@@ -124,11 +128,11 @@ pub(crate) fn run_on<R: Abort + AllocGlobal, U: ScriptUnit>(
     run_with(rt, unit, shape, run)
 }
 
-/// Runs on a new core over a unit of this shape, and compares what is answered and noted with what is wanted.
+/// Runs on a new core over a unit of this shape, and compares the answers and the history with what is wanted.
 pub(crate) fn run_with<R: Abort + AllocGlobal, U: Unit<Value = u64> + Drop>(
     rt: &R,
     unit: U,
-    shape: Result<Shape, ShapeFault>,
+    shape: Result<Shape, ShapeError>,
     run: Run,
 ) -> Result<(), Fail> {
     let mut transcript = Transcript {
@@ -189,7 +193,7 @@ impl<U: Unit<Value = u64> + Drop> Transcript<U> {
         }
     }
 
-    /// Adds the calls that the last command ended.
+    /// Adds the calls that the latest command ended.
     fn ended(&mut self) -> Result<(), Fail> {
         for call in self.core.ended_now() {
             end(&mut self.text, call.number, call.end)?;
@@ -198,7 +202,7 @@ impl<U: Unit<Value = u64> + Drop> Transcript<U> {
         Ok(())
     }
 
-    /// Adds the calls that the last command ended that wasn't refused, with their owners.
+    /// Adds the calls ended by the latest command that wasn't refused, with their owners.
     fn ended_now(&mut self) -> Result<(), Fail> {
         write!(self.text, "now")?;
         for call in self.core.ended_now() {
@@ -222,7 +226,7 @@ impl<U: Unit<Value = u64> + Drop> Transcript<U> {
     }
 
     fn run(&mut self, op: u16, value: u64) -> Result<(), Fail> {
-        match self.core.run(self.owner, op, value) {
+        match self.core.procedure(self.owner, op, value) {
             Ok(Ok(reply)) => write!(self.text, "done {reply}")?,
             Ok(Err(exception)) => write!(self.text, "raised {exception}")?,
             Err(refusal) => return refuse(&mut self.text, refusal),
@@ -231,7 +235,7 @@ impl<U: Unit<Value = u64> + Drop> Transcript<U> {
     }
 
     fn function(&mut self, value: u64) -> Result<(), Fail> {
-        match self.core.read(0, value) {
+        match self.core.function(0, value) {
             Ok(Ok(reply)) => write!(self.text, "value {reply}; ")?,
             Ok(Err(exception)) => write!(self.text, "raised {exception}; ")?,
             Err(refusal) => refuse(&mut self.text, refusal)?,
@@ -240,9 +244,9 @@ impl<U: Unit<Value = u64> + Drop> Transcript<U> {
     }
 
     fn cancel(&mut self, n: u64) -> Result<(), Fail> {
-        match self.core.abort(n) {
-            Ok(Aborted::Cancelled) => write!(self.text, "cancelled")?,
-            Ok(Aborted::Kept) => write!(self.text, "kept")?,
+        match self.core.cancel_number(n) {
+            Ok(Attempt::Cancelled) => write!(self.text, "cancelled")?,
+            Ok(Attempt::Kept) => write!(self.text, "kept")?,
             Err(refusal) => return refuse(&mut self.text, refusal),
         }
         self.ended()
@@ -291,7 +295,7 @@ impl<U: Unit<Value = u64> + Drop> Transcript<U> {
         write!(
             self.text,
             " next {} clock {} ran {} last {:?} finalized {}; ",
-            base.next(),
+            base.next_number(),
             base.clock(),
             base.ran(),
             base.last(),

@@ -1,7 +1,8 @@
-//! A unit of which no copy can be made, as if there were never memory for it.
+// SPDX-License-Identifier: MIT
+//! A unit that can't be copied, as if there were never memory for it.
 
 use po_classic_units::{ScriptUnit, Signal};
-use po_core::{Core, MakeFault, Order};
+use po_core::{Core, MakeError, Order};
 use po_unit::{Outcome, Unit};
 use std::alloc::AllocError;
 use std::marker::Model;
@@ -74,6 +75,6 @@ impl Unit for Uncopied {
 fn a_copy_that_is_refused_is_want_of_memory(rt: HostRuntime) -> Result<(), Fail> {
     let shape = Signal::new().shape(rt.alloc())?;
     let made = Core::new(rt.alloc(), Uncopied, shape, Order::Textual, 1);
-    assert_eq!(rt; made.err(), Some(MakeFault::OutOfMemory));
+    assert_eq!(rt; made.err(), Some(MakeError::OutOfMemory));
     Ok(())
 }

@@ -1,4 +1,5 @@
-//! Each unit's operations, against values worked out by hand.
+// SPDX-License-Identifier: MIT
+//! The operations of each unit, compared with values worked out by hand.
 
 mod allocator;
 mod broadcast;

@@ -1,11 +1,12 @@
-//! Cores whose allocations are refused: every command that found no memory has changed nothing, and does its work when it
-//! is asked again; what takes no memory answers the same, whatever was refused.
+// SPDX-License-Identifier: MIT
+//! Cores whose allocations are refused. A command that runs out of memory has changed nothing, and does its work when it is
+//! asked again. What takes no memory answers the same, whatever was refused.
 
 ghost use Rattle.po_classic_units.specs.Sizes.{IsSizeWhere};
 
 use crate::refusals::Refusals;
 use po_classic_units::{Allocator, Buffer, ScriptUnit, Trap};
-use po_core::{Aborted, CallStatus, Core, Deadline, End, Order, Refusal, Ticket};
+use po_core::{Attempt, CallStatus, Core, Deadline, End, Order, Refusal, Ticket};
 use po_unit::{EntryRef, Unit};
 use std::alloc::Global;
 use std::io::{self, Print};
@@ -13,48 +14,51 @@ use std::io::{self, Print};
 /// How many calls and entries are looked at.
 const MOST: usize = 6;
 
-/// No ticket of any core.
+/// A ticket of no core.
 const STRANGE: Ticket = Ticket {
     key: 4096,
     number: 0,
 };
 
-/// The single entry of a declaration.
+/// Returns the single entry of a declaration.
 fn single(entry: u16) -> EntryRef {
-    EntryRef { entry, index: None }
+    EntryRef {
+        declaration: entry,
+        index: None,
+    }
 }
 
-/// The entry Wait of the trap with this index.
+/// Returns the entry Wait of the trap with this index.
 fn wait(index: i32) -> EntryRef {
     EntryRef {
-        entry: 0,
+        declaration: 0,
         index: Some(index),
     }
 }
 
-/// What a core is asked for.
+/// What a core is asked to do.
 #[derive(Clone, Copy)]
 enum Step {
-    /// A call of the entry with this value, until the deadline.
+    /// Issue a call of the entry with this value, until the deadline.
     Issue(EntryRef, u64, Deadline),
-    /// The procedure with this value.
+    /// Run the procedure with this value.
     Run(u64),
-    /// The clock raised to this time.
+    /// Raise the clock to this time.
     Tick(u64),
-    /// The history cut.
+    /// Cut the history.
     Cut,
-    /// The call with this number cancelled.
-    Abort(u64),
-    /// The object finalized.
+    /// Cancel the call with this number.
+    Cancel(u64),
+    /// Finalize the object.
     Finalize,
-    /// The end of a call collected, by its place among the first calls.
+    /// Collect the end of a call, by its place among the first calls.
     Collect(usize),
-    /// What there is to see.
+    /// Look at what there is to see.
     Look,
 }
 
 impl Step {
-    /// Whether memory may be wanting for it.
+    /// Returns whether the step may run out of memory.
     fn takes_memory(self) -> bool {
         matches!(
             self,
@@ -63,7 +67,7 @@ impl Step {
     }
 }
 
-/// What it answers.
+/// What the core answers.
 #[derive(Clone, Copy, Debug)]
 enum Answer {
     /// The call has this number.
@@ -72,13 +76,13 @@ enum Answer {
     Replied(Result<u64, u32>),
     /// The clock shows this.
     Clock(u64),
-    /// The volume begins at this place, and has so many events.
+    /// The volume begins at this place, and has this many events.
     Volume(u64, usize),
-    /// This came of the attempt to cancel a call.
-    Attempted(Aborted),
+    /// The attempt to cancel a call had this outcome.
+    Attempted(Attempt),
     /// The object is finalized.
     Finalized,
-    /// The call has ended like this, if it has.
+    /// The call has ended in this way, if it has.
     Collected(Option<End<u64>>),
     /// This is seen.
     Seen(Snapshot),
@@ -108,7 +112,7 @@ struct Trial<U: Unit<Value = u64> + Drop> {
 }
 
 impl<U: Unit<Value = u64> + Drop> Trial<U> {
-    /// How many calls are queued on the entries with the first flat numbers.
+    /// Returns how many calls are queued on the entries with the first flat numbers.
     fn counts(&self) -> [u64; MOST] {
         let mut counts = [0; MOST];
         let shape = self.core.shape();
@@ -120,7 +124,7 @@ impl<U: Unit<Value = u64> + Drop> Trial<U> {
         counts
     }
 
-    /// Where the calls of the tickets are.
+    /// Returns the status of each call of the tickets.
     fn places(&self) -> [CallStatus<u64>; MOST] {
         let mut places = [CallStatus::Unknown; MOST];
         for (ticket, place) in self.tickets.iter().zip(places.iter_mut()) {
@@ -129,7 +133,7 @@ impl<U: Unit<Value = u64> + Drop> Trial<U> {
         places
     }
 
-    /// How the first calls ended.
+    /// Returns how the first calls ended.
     fn outcomes(&self) -> [Option<End<u64>>; MOST] {
         let mut outcomes = [None; MOST];
         for (n, outcome) in outcomes.iter_mut().enumerate() {
@@ -138,16 +142,16 @@ impl<U: Unit<Value = u64> + Drop> Trial<U> {
         outcomes
     }
 
-    /// What is seen of the core.
+    /// Returns what is seen of the core.
     fn see(&self) -> Snapshot {
         Snapshot {
             events: self.core.events().len(),
             ended: self.core.ended_now().len(),
-            next: self.core.next(),
+            next: self.core.next_number(),
             clock: self.core.clock(),
             place: self.core.place(),
             base: self.core.base().place(),
-            reads: self.core.read(0, 0),
+            reads: self.core.function(0, 0),
             counts: self.counts(),
             places: self.places(),
             outcomes: self.outcomes(),
@@ -187,21 +191,21 @@ impl<U: Unit<Value = u64> + Drop> Trial<U> {
         self.core.collect(*ticket)
     }
 
-    /// What the core answers to the step.
+    /// Returns what the core answers to the step.
     fn answer(&mut self, step: Step) -> Result<Answer, Refusal> {
         match step {
             Step::Issue(entry, value, deadline) => self.issue(entry, value, deadline),
-            Step::Run(value) => Ok(Answer::Replied(self.core.run(0, 0, value)?)),
+            Step::Run(value) => Ok(Answer::Replied(self.core.procedure(0, 0, value)?)),
             Step::Tick(time) => Ok(Answer::Clock(self.core.tick(time)?)),
             Step::Cut => self.cut(),
-            Step::Abort(number) => Ok(Answer::Attempted(self.core.abort(number)?)),
+            Step::Cancel(number) => Ok(Answer::Attempted(self.core.cancel_number(number)?)),
             Step::Finalize => self.finalize(),
             Step::Collect(n) => Ok(Answer::Collected(self.collect(n))),
             Step::Look => Ok(Answer::Seen(self.see())),
         }
     }
 
-    /// Prints the answer, how many events there are, and the calls that the last command ended.
+    /// Prints the answer, how many events there are, and the calls that the latest command ended.
     fn print<R: Print>(&self, rt: &R, answer: &Result<Answer, Refusal>) -> io::Result<()> {
         println!(rt; "{answer:?} events {}", self.core.events().len())?;
         for call in self.core.ended_now() {
@@ -210,7 +214,7 @@ impl<U: Unit<Value = u64> + Drop> Trial<U> {
         Ok(())
     }
 
-    /// Carries out the step, once more where memory was wanting, and counts how often memory was wanting.
+    /// Carries out the step, once more if memory runs out, and counts how often it does.
     fn carry_out<R: Print>(
         &mut self,
         rt: &R,
@@ -228,7 +232,7 @@ impl<U: Unit<Value = u64> + Drop> Trial<U> {
         println!(rt; "refused twice")
     }
 
-    /// Carries out all of these.
+    /// Carries out all steps.
     fn carry_out_all<R: Print>(
         &mut self,
         rt: &R,
@@ -242,7 +246,7 @@ impl<U: Unit<Value = u64> + Drop> Trial<U> {
     }
 }
 
-/// A core of a unit of this size, or none where memory was wanting.
+/// Returns a core of a unit of this size, or `None` if memory runs out.
 fn make<U: ScriptUnit>(alloc: Global, size: u16, order: Order) -> Option<Core<U>>
     requires { IsSizeWhere U.known.names.is_sized size }
 {
@@ -251,7 +255,7 @@ fn make<U: ScriptUnit>(alloc: Global, size: u16, order: Order) -> Option<Core<U>
     Core::new(alloc, unit, shape, order, 1).ok()
 }
 
-/// The same, made once more where memory was wanting, and counts how often it was.
+/// Does the same, once more if memory runs out, and counts how often it does.
 pub(crate) fn make_again<U: ScriptUnit>(
     alloc: Global,
     size: u16,
@@ -269,7 +273,7 @@ pub(crate) fn make_again<U: ScriptUnit>(
     None
 }
 
-/// Has a core of the unit carry out the steps, and counts how often memory was wanting.
+/// Has a core of the unit carry out the steps, and counts how often memory runs out.
 fn try_steps<U: ScriptUnit, R: Print + AllocGlobal>(
     rt: &R,
     size: u16,
@@ -290,7 +294,7 @@ fn try_steps<U: ScriptUnit, R: Print + AllocGlobal>(
     trial.carry_out_all(rt, steps, refusals)
 }
 
-/// Calls that wait, expire and are served, in the order of arrival over the entries.
+/// Tries calls that wait, expire and are served, in the order of arrival over the entries.
 fn on_the_trap<R: Print + AllocGlobal>(rt: &R, refusals: &mut Refusals) -> io::Result<()> {
     let steps = [
         Step::Issue(single(2), 1, Deadline::At(5)),
@@ -305,20 +309,20 @@ fn on_the_trap<R: Print + AllocGlobal>(rt: &R, refusals: &mut Refusals) -> io::R
     try_steps::<Trap, R>(rt, 1, Order::Oldest, &steps, refusals)
 }
 
-/// Calls that are cancelled and requeued.
+/// Tries calls that are cancelled and requeued.
 fn on_the_allocator<R: Print + AllocGlobal>(rt: &R, refusals: &mut Refusals) -> io::Result<()> {
     let steps = [
         Step::Issue(single(0), 2, Deadline::Never),
         Step::Issue(single(0), 2, Deadline::Never),
-        Step::Abort(2),
+        Step::Cancel(2),
         Step::Issue(single(1), 2, Deadline::Never),
-        Step::Abort(3),
+        Step::Cancel(3),
         Step::Run(2),
     ];
     try_steps::<Allocator, R>(rt, 3, Order::Textual, &steps, refusals)
 }
 
-/// Calls that wait until the object is finalized, and all that takes no memory.
+/// Tries calls that wait until the object is finalized, and all that takes no memory.
 fn on_the_finalized<R: Print + AllocGlobal>(rt: &R, refusals: &mut Refusals) -> io::Result<()> {
     let steps = [
         Step::Issue(single(0), 1, Deadline::Never),
@@ -326,8 +330,8 @@ fn on_the_finalized<R: Print + AllocGlobal>(rt: &R, refusals: &mut Refusals) -> 
         Step::Issue(single(1), 1, Deadline::Never),
         Step::Issue(single(0), 1, Deadline::At(9)),
         Step::Look,
-        Step::Abort(2),
-        Step::Abort(3),
+        Step::Cancel(2),
+        Step::Cancel(3),
         Step::Finalize,
         Step::Look,
         Step::Collect(0),
@@ -339,7 +343,7 @@ fn on_the_finalized<R: Print + AllocGlobal>(rt: &R, refusals: &mut Refusals) -> 
     try_steps::<Allocator, R>(rt, 1, Order::Textual, &steps, refusals)
 }
 
-/// A history that is cut while a call waits, when it doesn't any more, and when it has no event.
+/// Tries a history that is cut while a call waits, when it no longer does, and when there is no event.
 fn on_the_buffer<R: Print + AllocGlobal>(rt: &R, refusals: &mut Refusals) -> io::Result<()> {
     let steps = [
         Step::Issue(single(1), 0, Deadline::Never),
@@ -351,7 +355,7 @@ fn on_the_buffer<R: Print + AllocGlobal>(rt: &R, refusals: &mut Refusals) -> io:
     try_steps::<Buffer, R>(rt, 2, Order::Textual, &steps, refusals)
 }
 
-/// Tries each of them, and counts how often memory was wanting.
+/// Tries each unit, and counts how often memory runs out.
 pub(crate) fn run<R: Print + AllocGlobal>(rt: &R, refusals: &mut Refusals) -> io::Result<()> {
     on_the_trap(rt, refusals)?;
     on_the_allocator(rt, refusals)?;

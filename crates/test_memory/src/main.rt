@@ -1,12 +1,14 @@
+// SPDX-License-Identifier: MIT
 //! A program for the gate: cores, scripts, an object and runs of threads, whose allocations are refused.
 //!
-//! It prints what all of them answered, how often memory was wanting, and how often something had changed where it was.
-//! Before that it takes and gives back a byte for each byte on standard input: where the allocation of some fixed number is
-//! refused, the length of the input says which one of those that count. Behind all of them it takes some more bytes, and
-//! prints whether it got each: so it shows where those that count end, and that no refusal among them was passed over.
+//! It prints what all of them answered, how often memory ran out, and how often something had changed when it did. Before that
+//! it takes and gives back a byte for each byte on standard input. If the allocation with a fixed number is refused, the length
+//! of the input thus chooses which of the allocations that count that is. After all of them it takes some more bytes, and
+//! prints whether it got each. By this the test knows the last allocation that counts, and that none of their refusals was
+//! passed over.
 //!
-//! The runs of threads come last, and the bytes behind them are some, since how many allocations such a run makes depends a
-//! little on the threads' schedule.
+//! The runs of threads come last, and more than one byte is taken after them, since the number of allocations of such a run
+//! depends a little on the threads' schedule.
 #![tactic(auto)]
 
 mod cores;
@@ -22,10 +24,10 @@ use std::io::{self, Input, Print, Read};
 /// How many bytes of standard input are looked at.
 const MOST: usize = 512;
 
-/// How many bytes are taken behind all allocations that count.
+/// How many bytes are taken after all allocations that count.
 const BEHIND: usize = 16;
 
-/// Takes a byte of memory, if there is one, gives it back, and tells whether there was one.
+/// Takes a byte of memory, if there is one, and gives it back. Returns whether there was one.
 fn take_one(alloc: Global) -> bool {
     let mut piece: Vec<u8> = Vec::new(alloc);
     piece.reserve(1).is_ok()
@@ -40,7 +42,7 @@ fn take_for_input<R: Input + AllocGlobal>(rt: &R) -> io::Result<()> {
     Ok(())
 }
 
-/// Takes some bytes one after the other, and tells whether all were there.
+/// Takes some bytes one after another, and returns whether all were there.
 fn take_some(alloc: Global) -> bool {
     let mut all = true;
     for _ in 0..BEHIND {

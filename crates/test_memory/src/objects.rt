@@ -1,6 +1,7 @@
-//! An object whose allocations are refused: an opening that found no memory hands back what it was given, every call that
-//! found none has changed neither its pass nor the object, and both do their work when they are asked again; what takes no
-//! memory answers the same, whatever was refused.
+// SPDX-License-Identifier: MIT
+//! An object whose allocations are refused. An opening that runs out of memory hands back what it was given; a call that does
+//! has changed neither its pass nor the object; both do their work when they are asked again. What takes no memory answers the
+//! same, whatever was refused.
 
 ghost use Rattle.std.specs.Prelude.{◌≡◌, [], Some};
 ghost use Rattle.po_classic_units.specs.Allocator.{allocator_meaning};
@@ -10,7 +11,7 @@ use crate::cores::make_again;
 use crate::refusals::Refusals;
 use po_classic_units::Allocator;
 use po_core::{Core, End, Event, Order, Refusal, Volume};
-use po_object::{Closed, Keeper, Object, OpenFault, Pass, Story, reconcile};
+use po_object::{Closed, Keeper, Object, OpenError, Pass, Story, reconcile};
 use po_unit::{EntryRef, Unit};
 use std::alloc::Global;
 use std::io::{self, Print};
@@ -20,7 +21,7 @@ use std::sync::ledger::{Blank, Ledger};
 
 /// The entry Request.
 const REQUEST: EntryRef = EntryRef {
-    entry: 0,
+    declaration: 0,
     index: None,
 };
 
@@ -29,9 +30,9 @@ const REQUEST: EntryRef = EntryRef {
 enum Ask {
     /// A call of Request with this value.
     Call(u64),
-    /// The same, given up where it isn't selected at once.
+    /// The same, given up if it isn't selected at once.
     Conditional(u64),
-    /// The same, given up at the time that comes second.
+    /// The same, given up at the time that is the second number.
     Timed(u64, u64),
     /// The procedure with this value.
     Procedure(u64),
@@ -39,7 +40,7 @@ enum Ask {
     Tick(u64),
 }
 
-/// What is answered.
+/// What the object answers.
 #[derive(Clone, Copy, Debug)]
 enum Answer {
     /// How a call ended.
@@ -63,7 +64,7 @@ struct Snapshot {
     waiting: Result<Option<u64>, Refusal>,
 }
 
-/// What is seen of the pass and of the object.
+/// Returns what is seen of the pass and of the object.
 fn see<U: Unit<Value = u64> + Drop, C: Story<U, u64>, P: Ledger, R: Wait>(
     rt: &R,
     object: &Object<U, C, P>,
@@ -98,7 +99,7 @@ fn answer_of<U: Unit<Value = u64> + Drop, C: Story<U, u64>, P: Ledger, R: Wait>(
     }
 }
 
-/// Asks the object, once more where memory was wanting, prints the answer, and counts how often memory was wanting.
+/// Asks the object, once more if memory runs out, prints the answer, and counts how often memory ran out.
 fn print_answer<U: Unit<Value = u64> + Drop, C: Story<U, u64>, P: Ledger, R: Print + Wait>(
     rt: &R,
     object: &Object<U, C, P>,
@@ -117,7 +118,7 @@ fn print_answer<U: Unit<Value = u64> + Drop, C: Story<U, u64>, P: Ledger, R: Pri
     println!(rt; "refused twice")
 }
 
-/// Asks for all of these, and counts how often memory was wanting.
+/// Asks for all of these, and counts how often memory runs out.
 fn print_all<U: Unit<Value = u64> + Drop, C: Story<U, u64>, P: Ledger, R: Print + Wait>(
     rt: &R,
     object: &Object<U, C, P>,
@@ -131,7 +132,7 @@ fn print_all<U: Unit<Value = u64> + Drop, C: Story<U, u64>, P: Ledger, R: Print 
     Ok(())
 }
 
-/// Cuts the history, once more where memory was wanting, and counts how often memory was wanting.
+/// Cuts the history, once more if memory runs out, and counts how often it did.
 fn cut<U: Unit<Value = u64> + Drop, C: Story<U, u64>, P: Ledger, R: Wait>(
     rt: &R,
     object: &Object<U, C, P>,
@@ -155,7 +156,7 @@ fn print_the_rest<U: Unit<Value = u64> + Drop, C: Story<U, u64>, P: Ledger, R: P
 ) -> io::Result<()> {
     println!(rt; "count {:?}", object.try_count(REQUEST))?;
     println!(rt; "function {:?}", object.function(rt, 0, 0))?;
-    println!(rt; "abort {:?}", object.abort_seat(rt, 0))?;
+    println!(rt; "abort {:?}", object.cancel_seat(rt, 0))?;
     println!(rt; "finalize {:?}", object.finalize(rt))
 }
 
@@ -171,7 +172,7 @@ fn ask_and_cut<U: Unit<Value = u64> + Drop, C: Story<U, u64>, P: Ledger, R: Prin
     Ok(cut(rt, object, pass, refusals))
 }
 
-/// Uses the object, whose history is cut twice, and gives the two volumes.
+/// Uses the object, whose history is cut twice, and returns the two volumes.
 fn use_object<U: Unit<Value = u64> + Drop, C: Story<U, u64>, P: Ledger, R: Print + Wait>(
     rt: &R,
     object: &Object<U, C, P>,
@@ -190,7 +191,7 @@ fn use_object<U: Unit<Value = u64> + Drop, C: Story<U, u64>, P: Ledger, R: Print
     }
 }
 
-/// The same with the first of the passes, if there is one.
+/// Does the same with the first of the passes, if there is one.
 fn use_first<U: Unit<Value = u64> + Drop, C: Story<U, u64>, P: Ledger, R: Print + Wait>(
     rt: &R,
     object: &Object<U, C, P>,
@@ -203,17 +204,17 @@ fn use_first<U: Unit<Value = u64> + Drop, C: Story<U, u64>, P: Ledger, R: Print 
     }
 }
 
-/// Whether the core is as it was made: no call was issued, and there is no event.
+/// Returns whether the core is new: no call was issued, and there is no event.
 fn is_new<U: Unit>(core: &Core<U>) -> bool {
     issued_none(core) && core.events().is_empty()
 }
 
-/// Whether no call was issued.
+/// Returns whether no call was issued.
 fn issued_none<U: Unit>(core: &Core<U>) -> bool {
-    core.next() == 1
+    core.next_number() == 1
 }
 
-/// Opens an object with one seat, once more with what is handed back where memory was wanting.
+/// Opens an object with one seat. If memory runs out, it tries once more with what is handed back.
 fn open<C: Story<Allocator, u64>, P: Ledger>(
     alloc: Global,
     core: Core<Allocator>,
@@ -230,7 +231,7 @@ fn open<C: Story<Allocator, u64>, P: Ledger>(
 {
     match Object::open(alloc, core, 1, calls, procedures, log) {
         Ok(opened) => Some(opened),
-        Err(OpenFault::OutOfMemory(core, calls, procedures, log)) => {
+        Err(OpenError::OutOfMemory(core, calls, procedures, log)) => {
             refusals.note(is_new(&core));
             Object::open(alloc, core, 1, calls, procedures, log).ok()
         }
@@ -277,7 +278,7 @@ fn print_end<U: Unit<Value = u64>, R: Print>(
     }
 }
 
-/// Opens, uses and closes an object over the core, and counts how often memory was wanting.
+/// Opens, uses and closes an object over the core, and counts how often memory runs out.
 fn try_object<C: Story<Allocator, u64>, P: Ledger, R: Print + Wait + AllocGlobal>(
     rt: &R,
     core: Core<Allocator>,
@@ -301,7 +302,7 @@ fn try_object<C: Story<Allocator, u64>, P: Ledger, R: Print + Wait + AllocGlobal
     print_end(rt, &closed, volumes)
 }
 
-/// Tries an object over an allocator of 1, and counts how often memory was wanting.
+/// Tries an object over an allocator of 1, and counts how often memory runs out.
 pub(crate) fn run<R: Print + Wait + AllocGlobal>(
     rt: &R,
     refusals: &mut Refusals,

@@ -1,6 +1,7 @@
-//! How often memory was wanting.
+// SPDX-License-Identifier: MIT
+//! How often memory ran out.
 
-/// How often memory was wanting, and how often something had changed where it was.
+/// How often memory ran out, and how often something had changed when it did.
 #[derive(Drop)]
 pub(crate) struct Refusals {
     pub(crate) times: u64,
@@ -8,7 +9,7 @@ pub(crate) struct Refusals {
 }
 
 impl Refusals {
-    /// None so far.
+    /// Returns no refusals yet.
     pub(crate) fn new() -> Refusals {
         Refusals {
             times: 0,
@@ -16,7 +17,7 @@ impl Refusals {
         }
     }
 
-    /// Counts that memory was wanting, and whether all is as before.
+    /// Counts that memory ran out, and whether all is as before.
     pub(crate) fn note(&mut self, is_same: bool) {
         self.times = self.times.saturating_add(1);
         if !is_same {

@@ -1,21 +1,22 @@
-//! Runs of three threads that meet ten times, whose allocations are refused: such a run ends for want of memory, and one made
-//! after it agrees. One is over an object that records its history, the other over one with fixed memory.
+// SPDX-License-Identifier: MIT
+//! Runs of three threads that meet ten times, whose allocations are refused: such a run ends because memory runs out, and one
+//! made after it agrees. One run is over an object that records its history, the other over one with fixed memory.
 
 use crate::refusals::Refusals;
 use po_streams::OverStd;
-use po_stress::{Progress, StressFault, StressUnit, stress_bounded, stress_watched};
+use po_stress::{Progress, StressError, StressUnit, stress_bounded, stress_watched};
 use std::io::{self, Print};
 use std::sync::{Arc, Wait};
 use std::thread::Threads;
 
-/// Has three threads meet ten times, at an object with fixed memory or at one that records its history, and prints the line
-/// of the run.
+/// Has three threads meet ten times, at an object with fixed memory or at one that records its history, and prints the run's
+/// line.
 fn meet<R: Threads + Wait + Print + AllocGlobal + Copy + Send + 'static>(
     rt: R,
     is_bounded: bool,
-) -> Result<(), StressFault> {
+) -> Result<(), StressError> {
     let Ok(progress) = Arc::new(rt.alloc(), Progress::new()) else {
-        return Err(StressFault::OutOfMemory);
+        return Err(StressError::OutOfMemory);
     };
     let mut output = OverStd::new(io::writer(&rt));
     if is_bounded {
@@ -28,7 +29,7 @@ fn meet<R: Threads + Wait + Print + AllocGlobal + Copy + Send + 'static>(
     Ok(())
 }
 
-/// Has them meet, a second time where memory was wanting in the first, and counts how often it was.
+/// Has them meet, once more if memory runs out, and counts how often it does.
 fn meet_again<R: Threads + Wait + Print + AllocGlobal + Copy + Send + 'static>(
     rt: R,
     is_bounded: bool,
@@ -37,14 +38,14 @@ fn meet_again<R: Threads + Wait + Print + AllocGlobal + Copy + Send + 'static>(
     for _ in 0..2 {
         match meet(rt, is_bounded) {
             Ok(()) => return Ok(()),
-            Err(StressFault::OutOfMemory) => refusals.note(true),
+            Err(StressError::OutOfMemory) => refusals.note(true),
             Err(fault) => println!(rt; "{fault}")?,
         }
     }
     println!(rt; "refused twice")
 }
 
-/// Makes both runs, and counts how often memory was wanting.
+/// Makes both runs, and counts how often memory runs out.
 pub(crate) fn run<R: Threads + Wait + Print + AllocGlobal + Copy + Send + 'static>(
     rt: R,
     refusals: &mut Refusals,

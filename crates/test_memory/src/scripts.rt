@@ -1,8 +1,9 @@
-//! Scripts whose allocations are refused: such a run ends for want of memory, and what it wrote is the answers of some
-//! number of first lines.
+// SPDX-License-Identifier: MIT
+//! Scripts whose allocations are refused: such a run ends because memory runs out, and what it wrote is the answers of the
+//! first lines, up to some line.
 
 use crate::refusals::Refusals;
-use po_language::RunFault;
+use po_language::RunError;
 use po_script::run_script;
 use po_streams::OverStd;
 use std::io::{self, Print};
@@ -22,7 +23,7 @@ const PULSE_ANSWERS: [&str; 4] = [
     "#4\n4 done 4\n",
 ];
 
-/// A script on the allocator, which is finalized in its midst.
+/// A script on the allocator, which is finalized midway.
 const ALLOCATOR: &str = "unit allocator 1\n\
                          call Request 1\n\
                          call Request 1\n\
@@ -58,7 +59,7 @@ const ALLOCATOR_ANSWERS: [&str; 13] = [
 /// How many bytes a script may write.
 const MOST: usize = 512;
 
-/// Whether the text is the answers of some number of first lines.
+/// Returns whether the text is the answers of the first lines, up to some line.
 fn is_of_lines(text: &[u8], answers: &[&str]) -> bool {
     let mut rest = text;
     for answer in answers {
@@ -73,8 +74,9 @@ fn is_of_lines(text: &[u8], answers: &[&str]) -> bool {
     rest.is_empty()
 }
 
-/// Runs the script without memory for what it writes: its fault, and how many bytes were written.
-fn write<R: AllocGlobal>(rt: &R, script: &str, text: &mut [u8]) -> (Result<(), RunFault>, usize) {
+/// Runs the script, and writes its answers to `text`, which takes no memory. Returns its fault, and how many bytes were
+/// written.
+fn write<R: AllocGlobal>(rt: &R, script: &str, text: &mut [u8]) -> (Result<(), RunError>, usize) {
     let most = text.len();
     let mut reader = OverStd::new(script.as_bytes());
     let mut writer = OverStd::new(text);
@@ -82,7 +84,7 @@ fn write<R: AllocGlobal>(rt: &R, script: &str, text: &mut [u8]) -> (Result<(), R
     (ran, most.saturating_sub(writer.into_inner().len()))
 }
 
-/// Runs the script, once more where memory was wanting, prints what it wrote, and counts how often memory was wanting.
+/// Runs the script, once more if memory runs out, prints what it wrote, and counts how often memory ran out.
 fn print<R: Print + AllocGlobal>(
     rt: &R,
     script: &str,
@@ -95,14 +97,14 @@ fn print<R: Print + AllocGlobal>(
         let text = &bytes[..count.min(MOST)];
         match ran {
             Ok(()) => return print!(rt; "{}", str::from_utf8(text).unwrap_or("no text\n")),
-            Err(RunFault::Memory) => refusals.note(is_of_lines(text, answers)),
+            Err(RunError::Memory) => refusals.note(is_of_lines(text, answers)),
             Err(fault) => return println!(rt; "{fault}"),
         }
     }
     println!(rt; "refused twice")
 }
 
-/// Runs both scripts, and counts how often memory was wanting.
+/// Runs both scripts, and counts how often memory runs out.
 pub(crate) fn run<R: Print + AllocGlobal>(rt: &R, refusals: &mut Refusals) -> io::Result<()> {
     print(rt, PULSE, &PULSE_ANSWERS, refusals)?;
     print(rt, ALLOCATOR, &ALLOCATOR_ANSWERS, refusals)

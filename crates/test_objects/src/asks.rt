@@ -1,6 +1,7 @@
-//! What one thread asks of an object, and what it is answered.
+// SPDX-License-Identifier: MIT
+//! What one thread asks an object, and what it is answered.
 
-use po_core::{Aborted, End, Refusal};
+use po_core::{Attempt, End, Refusal};
 use po_object::{Object, Pass, Story};
 use po_unit::{EntryRef, Unit};
 use std::fmt::Debug;
@@ -10,40 +11,40 @@ use std::sync::ledger::Ledger;
 
 /// The entry Put.
 pub const PUT: EntryRef = EntryRef {
-    entry: 0,
+    declaration: 0,
     index: None,
 };
 
 /// The entry Get.
 pub const GET: EntryRef = EntryRef {
-    entry: 1,
+    declaration: 1,
     index: None,
 };
 
-/// What is asked of an object. The values of procedures and functions are 0.
+/// What an object is asked. The values of procedures and functions are 0.
 #[derive(Clone, Copy)]
 pub enum Ask {
-    /// A call of the entry with this value.
+    /// Call the entry with this value.
     Call(EntryRef, u64),
-    /// The same, given up where it isn't selected at once.
+    /// Call it the same way, and give up if the call isn't selected at once.
     Conditional(EntryRef, u64),
-    /// The same, given up at the time that comes last.
+    /// Call it the same way, and give up at the time that comes last.
     Timed(EntryRef, u64, u64),
-    /// The procedure of this number.
+    /// Run the procedure with this number.
     Procedure(u16),
-    /// The function of this number.
+    /// Call the function with this number.
     Function(u16),
-    /// The clock raised to this time.
+    /// Raise the clock to this time.
     Tick(u64),
-    /// How many calls are queued on the entry.
+    /// Count the calls that are queued on the entry.
     Count(EntryRef),
-    /// The call of this seat cancelled.
-    AbortSeat(u16),
-    /// The end of the object.
+    /// Cancel the call of this seat.
+    CancelSeat(u16),
+    /// Finalize the object.
     Finalize,
 }
 
-/// What is answered.
+/// What the object answers.
 #[derive(Clone, Copy, Debug, PartialEq)]
 pub enum Answer {
     /// How the call ended.
@@ -54,18 +55,19 @@ pub enum Answer {
     Clock(u64),
     /// How many calls are queued.
     Counted(Option<u64>),
-    /// What came of the attempt to cancel.
-    Attempted(Aborted),
+    /// The outcome of the attempt to cancel.
+    Attempted(Attempt),
     /// The object is finalized.
     Finalized,
 }
 
-/// Asserts that what was seen is what was wanted.
+/// Asserts that the value seen is the value wanted.
 pub fn same<T: PartialEq + Debug + Drop, R: Abort>(rt: &R, seen: T, wanted: T) {
     assert_eq!(rt; seen, wanted);
 }
 
-/// Asks with a pass that waits for no call. Any other is refused as if its call were unknown.
+/// Asks with a pass that has no pending call. A pass that has one gets the refusal of an unknown
+/// call.
 fn answer_of<U: Unit<Value = u64>, C: Story<U, u64>, P: Ledger, R: Wait>(
     rt: &R,
     object: &Object<U, C, P>,
@@ -87,7 +89,7 @@ fn answer_of<U: Unit<Value = u64>, C: Story<U, u64>, P: Ledger, R: Wait>(
         Ask::Function(op) => Ok(Answer::Replied(object.function(rt, op, 0)?)),
         Ask::Tick(time) => Ok(Answer::Clock(object.tick(rt, time)?)),
         Ask::Count(entry) => Ok(Answer::Counted(object.try_count(entry)?)),
-        Ask::AbortSeat(seat) => Ok(Answer::Attempted(object.abort_seat(rt, seat)?)),
+        Ask::CancelSeat(seat) => Ok(Answer::Attempted(object.cancel_seat(rt, seat)?)),
         Ask::Finalize => {
             object.finalize(rt)?;
             Ok(Answer::Finalized)
@@ -95,7 +97,7 @@ fn answer_of<U: Unit<Value = u64>, C: Story<U, u64>, P: Ledger, R: Wait>(
     }
 }
 
-/// Asks all of these in turn, and asserts that each is answered as it stands beside it.
+/// Asks all of these in turn, and asserts that each answer is the one beside it.
 pub fn ask_all<U: Unit<Value = u64>, C: Story<U, u64>, P: Ledger, R: Abort + Wait>(
     rt: &R,
     object: &Object<U, C, P>,

@@ -1,3 +1,4 @@
+// SPDX-License-Identifier: MIT
 //! Objects over a buffer, from their opening to their closing.
 
 ghost use Rattle.po_classic_units.specs.Sizes.{IsSize};
@@ -11,7 +12,7 @@ use std::process::Abort;
 use std::sync::Wait;
 use std::test::Fail;
 
-/// A core of an empty buffer.
+/// Makes a core of an empty buffer.
 pub fn empty_buffer<R: AllocGlobal>(rt: &R, capacity: u16) -> Result<Core<Buffer>, Fail>
     requires { IsSize capacity }
 {
@@ -21,7 +22,7 @@ pub fn empty_buffer<R: AllocGlobal>(rt: &R, capacity: u16) -> Result<Core<Buffer
     Ok(core)
 }
 
-/// Plays the scene with a new buffer, and looks at what is left.
+/// Plays the scene with a new buffer, and checks what is left.
 fn on_buffer<R: Abort + Wait + AllocGlobal>(
     rt: &R,
     capacity: u16,
@@ -63,14 +64,14 @@ fn all_seats(rt: HostRuntime) -> Result<(), Fail> {
     on_buffer(&rt, 1, u16::MAX, Scene::Idle)
 }
 
-/// A core of a buffer on which a call waits.
+/// Makes a core of a buffer on which a call waits.
 fn used_core<R: AllocGlobal>(rt: &R) -> Result<Core<Buffer>, Fail> {
     let mut core = empty_buffer(rt, 1)?;
     core.issue(0, GET, 0, Deadline::Never)?;
     Ok(core)
 }
 
-/// No object is opened over a core on which a call waits from before.
+/// No object can be opened over a core on which a call already waits.
 #[test]
 fn a_used_core(rt: HostRuntime) -> Result<(), Fail> {
     let core = used_core(&rt)?;

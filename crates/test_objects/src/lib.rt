@@ -1,4 +1,12 @@
+// SPDX-License-Identifier: MIT
 //! Tests of an object behind its lock, which one thread calls, and of jobs and tickers.
+//!
+//! A `Scene` of scenes.rt says what is done with an object over a buffer. shelf.rt opens the
+//! object, plays the scene and closes the object; its `Shelf` is what is left. volumes.rt compares
+//! histories that were cut. threads.rt has threads do jobs at the object's two seats, also beside a
+//! ticker, which raises its clock.
+//!
+//! Begin with buffers.rt, which plays the scenes.
 #![tactic(auto)]
 
 #[cfg(test)]

@@ -1,4 +1,5 @@
-//! What the tests do with an object over a buffer, with the first of its passes, and what is then left of the object.
+// SPDX-License-Identifier: MIT
+//! What the tests do with an object over a buffer, using the first of its passes, and what is left of the object then.
 
 use crate::asks::{Answer, Ask, GET, PUT, ask_all, same};
 use po_core::{Deadline, End, Refusal, Volume};
@@ -15,9 +16,9 @@ pub enum Scene {
     OneCall,
     /// Calls of each kind, the clock, and a finalization.
     EachKind,
-    /// Attempts to cancel where no call waits.
+    /// Attempts to cancel when no call waits.
     NoneWaits,
-    /// The value is put and got, and the history is cut behind each of the calls.
+    /// The value is put and taken out, and the history is cut after each of the two calls.
     Cuts(u64),
     /// Nothing.
     Idle,
@@ -43,7 +44,7 @@ pub fn play<U: Unit<Value = u64> + Drop, C: Story<U, u64>, P: Ledger, R: Abort +
     }
 }
 
-/// How many events and receipts there are after the scene.
+/// Returns how many events and receipts there are after the scene.
 fn totals(scene: Scene) -> (usize, usize) {
     match scene {
         Scene::OneCall => (1, 1),
@@ -53,7 +54,7 @@ fn totals(scene: Scene) -> (usize, usize) {
     }
 }
 
-/// How many receipts all passes have, which stand by rising seat.
+/// Returns how many receipts all passes have, and checks that the passes are sorted by seat.
 fn count_receipts<U: Unit<Value = u64>, R: Abort>(rt: &R, closed: &Closed<U>) -> usize {
     let mut filed = 0usize;
     let mut seat = 0u16;
@@ -65,18 +66,19 @@ fn count_receipts<U: Unit<Value = u64>, R: Abort>(rt: &R, closed: &Closed<U>) ->
     filed
 }
 
-/// Looks at what is left of an object whose history was not cut.
+/// Checks what is left of an object whose history was not cut.
 pub fn look<U: Unit<Value = u64>, R: Abort>(rt: &R, closed: &Closed<U>, scene: Scene) {
     let seen = (closed.core().events().len(), count_receipts(rt, closed));
     same(rt, seen, totals(scene));
     let verdict = reconcile(closed, &[]);
     if verdict.is_ok() {
+        // Only for the prover: states what then holds of each answer.
         every_answer(closed, &[]);
     }
     same(rt, (verdict, closed.none_pending()), (Ok(Agreed), true));
 }
 
-/// What is put is seen in the receipt.
+/// Checks that the receipt shows the value put.
 fn one_call<U: Unit<Value = u64>, C: Story<U, u64>, P: Ledger, R: Abort + Wait>(
     rt: &R,
     object: &Object<U, C, P>,
@@ -98,7 +100,8 @@ fn one_call<U: Unit<Value = u64>, C: Story<U, u64>, P: Ledger, R: Abort + Wait>(
     look_behind(rt, object, pass);
 }
 
-/// A function and a count stand behind what the caller has seen, which then sees as far. So does a thread without a pass.
+/// Checks that a function and a count come after all that the caller has seen, and that the caller has then seen as far as they
+/// did. The same holds for a thread without a pass.
 fn look_behind<U: Unit<Value = u64>, C: Story<U, u64>, P: Ledger, R: Abort + Wait>(
     rt: &R,
     object: &Object<U, C, P>,
@@ -117,8 +120,8 @@ fn look_behind<U: Unit<Value = u64>, C: Story<U, u64>, P: Ledger, R: Abort + Wai
     );
 }
 
-/// An empty buffer of 1 has nothing to get at once; what is put into it is seen, and got. The clock doesn't go back. Every
-/// command on a finalized object is refused.
+/// Checks that an empty buffer of 1 has nothing to get at once, that a value put into it is seen and taken out, that the clock
+/// doesn't go back, and that every command on a finalized object is refused.
 fn each_kind<U: Unit<Value = u64>, C: Story<U, u64>, P: Ledger, R: Abort + Wait>(
     rt: &R,
     object: &Object<U, C, P>,
@@ -143,7 +146,7 @@ fn each_kind<U: Unit<Value = u64>, C: Story<U, u64>, P: Ledger, R: Abort + Wait>
     same(rt, pass.calls(), 4);
 }
 
-/// Every command on a finalized object is refused.
+/// Checks that every command on a finalized object is refused.
 fn refused_everywhere<U: Unit<Value = u64>, C: Story<U, u64>, P: Ledger, R: Abort + Wait>(
     rt: &R,
     object: &Object<U, C, P>,
@@ -156,25 +159,25 @@ fn refused_everywhere<U: Unit<Value = u64>, C: Story<U, u64>, P: Ledger, R: Abor
         (Ask::Function(0), Err(Refusal::Finalized)),
         (Ask::Tick(4), Err(Refusal::Finalized)),
         (Ask::Finalize, Err(Refusal::Finalized)),
-        (Ask::AbortSeat(0), Err(Refusal::NoCall)),
+        (Ask::CancelSeat(0), Err(Refusal::NoCall)),
     ];
     ask_all(rt, object, pass, &rows);
 }
 
-/// No call waits, and there is no seat 9.
+/// Checks what is answered if no call waits, and that there is no seat 9.
 fn none_waits<U: Unit<Value = u64>, C: Story<U, u64>, P: Ledger, R: Abort + Wait>(
     rt: &R,
     object: &Object<U, C, P>,
     pass: &mut Pass<u64, C, P>,
 ) {
     let rows = [
-        (Ask::AbortSeat(0), Err(Refusal::NoCall)),
-        (Ask::AbortSeat(9), Err(Refusal::NoCall)),
+        (Ask::CancelSeat(0), Err(Refusal::NoCall)),
+        (Ask::CancelSeat(9), Err(Refusal::NoCall)),
     ];
     ask_all(rt, object, pass, &rows);
 }
 
-/// Cuts the history, and keeps the volume. Where it isn't cut, the volume is missing in the end.
+/// Cuts the history, and keeps the volume. If the cut fails, the volume is missing at the end.
 fn cut<U: Unit<Value = u64> + Drop, C: Story<U, u64>, P: Ledger, R: Wait>(
     rt: &R,
     object: &Object<U, C, P>,
@@ -185,7 +188,7 @@ fn cut<U: Unit<Value = u64> + Drop, C: Story<U, u64>, P: Ledger, R: Wait>(
     }
 }
 
-/// Puts the value, gets it, and cuts the history behind each of the calls.
+/// Puts the value, gets it, and cuts the history after each of the two calls.
 fn put_and_get<U: Unit<Value = u64> + Drop, C: Story<U, u64>, P: Ledger, R: Abort + Wait>(
     rt: &R,
     object: &Object<U, C, P>,

@@ -1,4 +1,5 @@
-//! How the tests open an object over a buffer and close it.
+// SPDX-License-Identifier: MIT
+//! Opens an object over a buffer for the tests, and closes it.
 
 ghost use Rattle.std.specs.Prelude.{◌≡◌, ◌+◌, [], Some};
 ghost use Rattle.po_classic_units.specs.Buffer.{buffer_meaning};
@@ -8,17 +9,17 @@ use crate::asks::same;
 use crate::scenes::{Scene, look, play};
 use po_classic_units::Buffer;
 use po_core::{Core, Event, Volume};
-use po_object::{CloseFault, Closed, Keeper, Object, OpenFault, Pass, Story};
+use po_object::{CloseError, Closed, Keeper, Object, OpenError, Pass, Story};
 use std::marker::Brand;
 use std::process::Abort;
 use std::sync::Wait;
 use std::sync::ledger::{Blank, Ledger};
 use std::test::Fail;
 
-/// What is said of a core that has events already.
+/// What is said of a core that already has events.
 pub const NOT_FRESH: &str = "not fresh";
 
-/// What is left of an object, and the volumes that were cut off from its history, in their order.
+/// What is left of an object, and the volumes that were cut off from its history, in order.
 #[derive(Drop)]
 pub struct Shelf {
     pub closed: Closed<Buffer>,
@@ -34,7 +35,7 @@ fn close_twice<C: Story<Buffer, u64>, P: Ledger, R: Abort>(
     passes.reverse();
     let first = passes.pop()?;
     let fault = object.close(passes).err()?;
-    let CloseFault::PassMissing {
+    let CloseError::PassMissing {
         seat,
         object,
         mut passes,
@@ -44,15 +45,15 @@ fn close_twice<C: Story<Buffer, u64>, P: Ledger, R: Abort>(
     object.close(passes).ok()
 }
 
-/// Lets go what the fault hands back, and says which one it is.
-fn name_of(fault: OpenFault<Buffer>) -> &'static str {
+/// Drops what the fault hands back, and returns which fault it is.
+fn name_of(fault: OpenError<Buffer>) -> &'static str {
     match &fault {
-        OpenFault::NotFresh(..) => NOT_FRESH,
-        OpenFault::OutOfMemory(..) => "out of memory",
+        OpenError::NotFresh(..) => NOT_FRESH,
+        OpenError::OutOfMemory(..) => "out of memory",
     }
 }
 
-/// Opens an object, plays the scene, and closes it: where it has two seats, first without the pass of one of them.
+/// Opens an object, plays the scene, and closes it. If it has two seats, it is first closed without the pass of one of them.
 fn open_and_close<C: Story<Buffer, u64>, P: Ledger, R: Abort + Wait + AllocGlobal>(
     rt: &R,
     core: Core<Buffer>,
@@ -83,7 +84,7 @@ fn open_and_close<C: Story<Buffer, u64>, P: Ledger, R: Abort + Wait + AllocGloba
     })
 }
 
-/// Plays the scene with an object of so many seats over the core, and gives what is left of it; else says why there is none.
+/// Plays the scene with an object of `seats` seats over the core. Returns what is left of it, or the reason why there is none.
 pub fn perform<R: Abort + Wait + AllocGlobal>(
     rt: &R,
     core: Core<Buffer>,
@@ -95,7 +96,7 @@ pub fn perform<R: Abort + Wait + AllocGlobal>(
     open_and_close::<Brand, Brand, R>(rt, core, seats, calls, procedures, Keeper::open(), scene)
 }
 
-/// Plays the scene, and looks at what is left.
+/// Plays the scene, and checks what is left.
 pub fn show<R: Abort + Wait + AllocGlobal>(
     rt: &R,
     core: Core<Buffer>,

@@ -1,3 +1,4 @@
+// SPDX-License-Identifier: MIT
 //! Threads that do jobs with an object over a buffer of 1, and tickers that raise its clock.
 
 ghost use Rattle.std.specs.Prelude.{◌≡◌, ◌+◌, [], Some};
@@ -20,10 +21,10 @@ use std::test::Fail;
 use std::thread::Threads;
 use std::time::{Clock, Duration, Instant};
 
-/// How many values are put, and got.
+/// How many values are put in and taken out.
 const VALUES: u64 = 100;
 
-/// After so many milliseconds the timed call expires.
+/// After how many milliseconds the timed call expires.
 const DEADLINE: u64 = 20;
 
 /// How many milliseconds the thread of a ticker sleeps.
@@ -61,7 +62,8 @@ impl<C: Story<Buffer, u64>, P: Ledger> Job<Object<Buffer, C, P>, Pass<u64, C, P>
     }
 }
 
-/// Calls the entry with the values from 0 on. Where a call is refused, the object is finalized, so that nobody waits for it.
+/// Calls the entry with the values from 0 on. If a call is refused, the object is finalized, so that no one waits for this
+/// thread.
 fn call_often<C: Story<Buffer, u64>, P: Ledger, W: Wait>(
     rt: &W,
     object: &Object<Buffer, C, P>,
@@ -135,7 +137,7 @@ fn do_in_time<
     Ok(())
 }
 
-/// A ticker over a finalized object is refused at once.
+/// Checks that a ticker over a finalized object is refused at once.
 fn tick_in_vain<
     C: Story<Buffer, u64> + Send + Sync + 'static,
     P: Ledger + Send + Sync + 'static,
@@ -179,7 +181,7 @@ fn open_and_close<
     Ok(object.close(passes)?)
 }
 
-/// What is left of an object with which threads did these errands. Its history agrees with the receipts.
+/// Returns what is left of an object after threads did these errands. Checks that its history agrees with the receipts.
 fn perform<R: Threads + Wait + Clock + Abort + AllocGlobal + Copy + Send + 'static>(
     rt: R,
     first: Errand,
@@ -200,7 +202,7 @@ fn perform<R: Threads + Wait + Clock + Abort + AllocGlobal + Copy + Send + 'stat
     Ok(closed)
 }
 
-/// How many calls of all passes completed.
+/// Returns how many calls of all passes completed.
 fn completed(closed: &Closed<Buffer>) -> u64 {
     let mut completed = 0u64;
     for pass in closed.passes() {
@@ -217,7 +219,7 @@ fn completed(closed: &Closed<Buffer>) -> u64 {
     completed
 }
 
-/// All values that one thread puts another gets.
+/// One thread gets all values that another puts.
 #[test]
 fn two_jobs(rt: HostRuntime) -> Result<(), Fail> {
     let closed = perform(rt, Errand::Calls(PUT), Errand::Calls(GET))?;

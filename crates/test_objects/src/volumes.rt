@@ -1,4 +1,6 @@
-//! Objects whose history was cut: what the comparison says of their volumes, in order, out of order, and of another object.
+// SPDX-License-Identifier: MIT
+//! Objects whose history was cut: what the comparison says for their volumes in order, out of order, and mixed with those of
+//! another object.
 
 use crate::asks::same;
 use crate::buffers::empty_buffer;
@@ -6,13 +8,13 @@ use crate::scenes::Scene;
 use crate::shelf::{Shelf, perform};
 use po_classic_units::Buffer;
 use po_core::{Core, Volume};
-use po_object::{Agreed, Closed, ReconcileFault, reconcile};
+use po_object::{Agreed, Closed, ReconcileError, reconcile};
 use po_unit::Unit;
 use std::process::Abort;
 use std::sync::Wait;
 use std::test::Fail;
 
-/// The volumes of an object in which the value was put and got, with a cut behind each of the calls.
+/// Returns the volumes of an object in which the value was put and taken out, with a cut after each of the two calls.
 fn cut_off<R: Abort + Wait + AllocGlobal>(
     rt: &R,
     core: Core<Buffer>,
@@ -26,12 +28,12 @@ fn cut_off<R: Abort + Wait + AllocGlobal>(
     Ok(volumes)
 }
 
-/// What the comparison says where no volume that is given begins at the place.
-fn gap(place: u64) -> Result<Agreed, ReconcileFault> {
-    Err(ReconcileFault::Gap { place })
+/// Returns what the comparison says if no given volume begins at the place.
+fn gap(place: u64) -> Result<Agreed, ReconcileError> {
+    Err(ReconcileError::Gap { place })
 }
 
-/// All volumes in order agree; where one is missing or out of order, the gap is where it should begin.
+/// Checks that all volumes in order agree. If one is missing or out of order, there is a gap at the place of its first event.
 fn compare_orders<U: Unit<Value = u64>, R: Abort>(
     rt: &R,
     closed: &Closed<U>,
@@ -51,7 +53,7 @@ fn compare_orders<U: Unit<Value = u64>, R: Abort>(
     volumes.reverse();
 }
 
-/// With the first volume of another object, in which another value was put, the receipts differ.
+/// Checks that the receipts differ with the first volume of another object, in which another value was put.
 fn compare_other<U: Unit<Value = u64>, R: Abort>(
     rt: &R,
     closed: &Closed<U>,
@@ -62,7 +64,7 @@ fn compare_other<U: Unit<Value = u64>, R: Abort>(
     if let Some(last) = volumes.pop() {
         let _kept = mixed.push(last);
     }
-    let mismatch = ReconcileFault::Mismatch { seat: 0, place: 0 };
+    let mismatch = ReconcileError::Mismatch { seat: 0, place: 0 };
     same(rt, reconcile(closed, mixed.as_slice()), Err(mismatch));
 }
 

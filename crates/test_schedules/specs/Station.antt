@@ -1,11 +1,12 @@
--- What a station means: a store for one value, a gate, and entries that hand their calls on to a private one.
+-- SPDX-License-Identifier: MIT
+-- The meaning of a station: a store for one value, a gate, and entries that hand their calls on to a private one.
 use Rattle.std.specs.Prelude.{◌≡◌, ℕ, ◌==◌, not, Bool, true, false, Result, Ok, Err, refl, if◌then◌else◌}
 use Rattle.std.proofs.Common.{arith}
 use Rattle.po_unit.specs.Meaning.{Meaning, IsLawful, LowersRank}
 use Rattle.po_unit.specs.declared.outcome.Outcome.{Outcome}
 use Rattle.po_unit.specs.declared.outcome.Outcome.TheVariants.{Complete, Requeue}
 
--- a station's store, and what its barriers ask
+-- a station's store, and what its barriers depend on
 pub record StationState : Type 0 where
   pub store : ℕ
   pub is_full : Bool
@@ -13,12 +14,12 @@ pub record StationState : Type 0 where
   pub is_released : Bool
   pub is_spoiled : Bool
 
--- Pass faults if the station is spoiled, and else is open as the station is (9.5.2, 9.5.3)
+-- Pass faults if the station is spoiled, and otherwise is open if the station is (9.5.2, 9.5.3)
 abbrev pub pass_barrier : StationState → Result Bool ℕ
 pass_barrier s = if s.is_spoiled then Err 1 else Ok s.is_open
 
--- Put, the entry 0, is open while the store is empty, Get, 1, while it is full; Pass is 2; Open, 3, and Release, 4, are always
--- open, and Never, 5, isn't; Change, 6, is open as the station is, and Stay, 7, once calls are released
+-- Put, entry 0, is open while the store is empty, Get, 1, while it is full; Pass is 2; Open, 3, and Release, 4, are always
+-- open, and Never, 5, never is; Change, 6, is open if the station is, and Stay, 7, once calls are released
 abbrev pub station_barrier : StationState → ℕ → Result Bool ℕ
 station_barrier s e =
     if e == 0 then Ok (not s.is_full) else
@@ -47,7 +48,7 @@ station_outcome s e v =
 abbrev pub station_procedure : StationState → ℕ → StationState
 station_procedure s op = if op == 0 then record s { is_open = true } else record s { is_spoiled = true }
 
--- how many requeues are ahead
+-- how many requeues are still ahead of a call
 abbrev pub station_rank : ℕ → ℕ
 station_rank e = if e == 3 then 1 else (if e == 6 then 1 else 0)
 

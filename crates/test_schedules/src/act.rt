@@ -1,16 +1,17 @@
+// SPDX-License-Identifier: MIT
 //! What a thread of a scene does.
 
 use crate::station::{CHANGE, GET, NEVER, OPEN, PASS, PUT, RELEASE, SIGNAL, STAY};
 use std::fmt;
 
-/// What a thread of a scene does. Each begins with a pass of its own.
+/// One act of a thread of a scene. Each thread begins with a pass of its own.
 #[derive(Clone, Copy)]
 pub(crate) enum Act {
     /// Calls the entry with the value.
     Call(u16, u64),
     /// Calls the entry until this deadline.
     Timed(u16, u64),
-    /// Calls the entry, and gives up where the call isn't selected at once.
+    /// Calls the entry, and gives up if the call isn't selected at once.
     Conditional(u16),
     /// Runs the procedure.
     Procedure(u16),
@@ -23,17 +24,17 @@ pub(crate) enum Act {
     /// Finalizes the object.
     Finalize,
     /// Cancels the call of the seat.
-    Abort(u16),
-    /// Cuts the history, where there is one.
+    Cancel(u16),
+    /// Cuts the history, if there is one.
     Cut,
     /// Hands its pass over.
     HandOver,
-    /// Takes over the pass that another thread hands over, and calls from it from then on.
+    /// Takes over the pass that another thread hands over, and calls with it from then on.
     TakeOver,
 }
 
 impl Act {
-    /// Whether it needs a pass.
+    /// Returns whether the act needs a pass.
     pub(crate) fn needs_pass(self) -> bool {
         matches!(
             self,
@@ -42,7 +43,7 @@ impl Act {
     }
 }
 
-/// The name of an entry of the station.
+/// Returns the name of an entry of the station.
 fn entry_name(entry: u16) -> &'static str {
     match entry {
         PUT => "Put",
@@ -57,7 +58,7 @@ fn entry_name(entry: u16) -> &'static str {
     }
 }
 
-/// The name of a procedure of the station.
+/// Returns the name of a procedure of the station.
 fn procedure_name(procedure: u16) -> &'static str {
     if procedure == SIGNAL {
         "Signal"
@@ -77,7 +78,7 @@ impl fmt::Display for Act {
             Act::Count(entry) => write!(f, "counts {}", entry_name(entry)),
             Act::Tick(time) => write!(f, "raises the clock to {time}"),
             Act::Finalize => f.write_str("finalizes"),
-            Act::Abort(seat) => write!(f, "cancels the call of seat {seat}"),
+            Act::Cancel(seat) => write!(f, "cancels the call of seat {seat}"),
             Act::Cut => f.write_str("cuts the history"),
             Act::HandOver => f.write_str("hands its pass over"),
             Act::TakeOver => f.write_str("takes a pass over"),

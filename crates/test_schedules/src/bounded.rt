@@ -1,3 +1,4 @@
+// SPDX-License-Identifier: MIT
 //! Objects with fixed memory.
 
 ghost use Rattle.std.specs.Prelude.{◌≡◌, ◌≤◌, ◌+◌, IfSome, true, [], Some};
@@ -12,7 +13,7 @@ use crate::scene::Scene;
 use crate::station::Station;
 use po_core::{BoundedCore, Core, Event, Order, Unrecorded, Volume};
 use po_history::Trace;
-use po_object::steps::Steps;
+use po_object::steps::Hook;
 use po_object::{Keeper, Object, Receipt, Receipts, Story};
 use std::alloc::AllocError;
 use std::marker::Brand;
@@ -22,8 +23,8 @@ use std::thread::Threads;
 use std::time::Clock;
 
 impl Kept for Unrecorded<Station> {
-    /// The history is known to proofs alone.
-    fn cut<C: Story<Station, u64>, P: Ledger, F: Ledger, Q: Receipts<u64>, S: Steps, W: Wait>(
+    /// Only proofs know the history, so there is nothing to cut.
+    fn cut<C: Story<Station, u64>, P: Ledger, F: Ledger, Q: Receipts<u64>, S: Hook, W: Wait>(
         _rt: &W,
         _object: &Object<Station, C, P, F, Unrecorded<Station>, Q, S>,
     ) -> Option<Volume<u64>> {
@@ -79,8 +80,8 @@ fn open_and_close<
     play_and_close(rt, explorer, object, passes, scene)
 }
 
-/// Plays the scene in the explorer's next schedule. Says whether all threads came to an end, and no call is
-/// left without an answer.
+/// Plays the scene in the explorer's next schedule. Returns whether all threads came to an end, and no call is left without an
+/// answer.
 pub(crate) fn agrees<W: Threads + Wait + Clock + AllocGlobal + Copy + Drop + Send + Sync + 'static>(
     rt: W,
     explorer: &Arc<Explorer>,

@@ -1,3 +1,4 @@
+// SPDX-License-Identifier: MIT
 //! The threads of a scene, and the object that they share.
 
 use crate::ending::Ending;
@@ -13,7 +14,7 @@ use std::sync::{Arc, Wait};
 use std::thread::{JoinHandle, Threads};
 use std::time::Clock;
 
-/// What is left of a schedule: the object, the passes, what was cut off from the history, and what each thread was told.
+/// What is left of a schedule: the object, the passes, the volumes cut off from the history, and each thread's answers.
 #[derive(Drop)]
 pub(crate) struct Left<P: Drop, O: Drop> {
     pub(crate) object: O,
@@ -76,7 +77,7 @@ fn join_all<P: Drop, O: Drop, W: Threads>(
     }))
 }
 
-/// Has threads play the scene in the explorer's next schedule. Gives what is left of it, if all of them come to an end.
+/// Has threads play the scene in the explorer's next schedule. Returns what is left, if all of them come to an end.
 pub(crate) fn play<
     P: Send + Drop + 'static,
     O: Plays<P> + Send + Sync + Drop + 'static,

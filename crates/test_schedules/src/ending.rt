@@ -1,3 +1,4 @@
+// SPDX-License-Identifier: MIT
 //! How a schedule ends.
 
 use std::fmt;
@@ -11,7 +12,7 @@ pub(crate) enum Ending {
     Stuck,
     /// There are too many steps.
     Endless,
-    /// The thread that was to go on doesn't come to its next step: it waits though nothing says that it has to.
+    /// The thread whose turn it is doesn't come to its next step: it waits although nothing says that it has to.
     Lost,
 }
 

@@ -1,3 +1,4 @@
+// SPDX-License-Identifier: MIT
 //! Explores a scene: plays it in each schedule of a plan.
 
 use crate::ending::Ending;
@@ -14,15 +15,15 @@ use std::time::Clock;
 /// How many schedules were played.
 #[derive(Clone, Copy)]
 struct Count {
-    /// All.
+    /// All of them.
     schedules: u64,
-    /// Those of them that were cut off: the others are enough.
+    /// Those of them that were cut off, since other schedules cover them.
     like_others: u64,
-    /// The most steps of one.
+    /// The most steps of one schedule.
     most_steps: usize,
 }
 
-/// What comes of one schedule.
+/// Plays one schedule, and returns whether all its answers are as they should be.
 fn agrees<W: Threads + Wait + Clock + AllocGlobal + Copy + Drop + Send + Sync + 'static>(
     rt: W,
     explorer: &Arc<Explorer>,
@@ -47,8 +48,8 @@ impl Count {
     }
 }
 
-/// Plays the scene in each schedule of the plan, and prints how many there were. Says whether all of them ended as they are to;
-/// else it prints the first that didn't.
+/// Plays the scene in each schedule of the plan, and prints how many there were. Returns whether all of them ended as they
+/// should; if one didn't, it prints the first such one.
 pub(crate) fn explore<
     W: Threads + Wait + Clock + Print + AllocGlobal + Copy + Drop + Send + Sync + 'static,
 >(rt: W, plan: Plan) -> io::Result<bool> {

@@ -1,4 +1,5 @@
-//! What lets the threads of a scene go on, one at a time.
+// SPDX-License-Identifier: MIT
+//! Lets the threads of a scene go on, one at a time.
 
 use crate::ending::Ending;
 use crate::next::Next;
@@ -16,13 +17,13 @@ const NOT_YET: u64 = 0;
 /// It is the thread's turn.
 const NOW: u64 = 1;
 
-/// How often it is looked whether a schedule has ended, before it is given up.
+/// How often the explorer looks whether a schedule has ended before it gives up.
 const LOOKS: u32 = 100;
 
 /// How many milliseconds are between two of these looks, at most.
 const PAUSE: u64 = 50;
 
-/// What lets the threads of a scene go on. Who asks it is the one that goes on, so that no thread needs a name.
+/// Lets the threads of a scene go on. Only the thread whose turn it is calls it, so no thread has to say which one it is.
 #[derive(Drop)]
 pub(crate) struct Explorer {
     schedule: Mutex<Schedule>,
@@ -31,7 +32,7 @@ pub(crate) struct Explorer {
 }
 
 impl Explorer {
-    /// No schedule was tried yet.
+    /// Makes an explorer that has tried no schedule yet.
     pub(crate) fn new(alloc: Global, bound: Bound, may_doze: bool) -> Result<Explorer, AllocError> {
         Ok(Explorer {
             schedule: Mutex::new(Schedule::new(alloc, bound, may_doze)?),
@@ -49,12 +50,12 @@ impl Explorer {
         })
     }
 
-    /// The schedule that is tried.
+    /// Returns the schedule that is tried.
     pub(crate) fn schedule<W: Wait>(&self, rt: &W) -> MutexGuard<'_, Schedule> {
         self.schedule.lock(rt)
     }
 
-    /// Begins a schedule of so many threads, which needn't be there yet.
+    /// Begins a schedule of `threads` threads, which needn't exist yet.
     pub(crate) fn begin<W: Wait>(&self, rt: &W, threads: usize) {
         for turn in &self.turns {
             turn.store(NOT_YET, Ordering::SeqCst);
@@ -64,7 +65,7 @@ impl Explorer {
         self.hand_on(schedule);
     }
 
-    /// The thread waits for its turn.
+    /// Waits until it is the thread's turn.
     pub(crate) fn wait_for_turn<W: Wait>(&self, rt: &W, thread: usize) {
         let Some(turn) = self.turns.get(thread) else {
             return;
@@ -77,7 +78,7 @@ impl Explorer {
         }
     }
 
-    /// The thread whose turn it is comes to what it does next, and waits until it is to do it.
+    /// Notes what the thread whose turn it is does next, and waits until it may do it.
     pub(crate) fn reach<W: Wait>(&self, rt: &W, next: Next) {
         let mut schedule = self.schedule.lock(rt);
         let thread = schedule.current();
@@ -89,14 +90,14 @@ impl Explorer {
         self.wait_for_turn(rt, thread);
     }
 
-    /// The thread whose turn it is has done all.
+    /// Notes that the thread whose turn it is has done all.
     pub(crate) fn finish<W: Wait>(&self, rt: &W) {
         let mut schedule = self.schedule.lock(rt);
         schedule.finish();
         self.hand_on(schedule);
     }
 
-    /// Lets the chosen thread go on, or tells that the schedule has ended.
+    /// Lets the chosen thread go on, or notifies the waiting one that the schedule has ended.
     fn hand_on(&self, schedule: MutexGuard<'_, Schedule>) {
         let thread = schedule.current();
         let has_ended = schedule.ending().is_some();
@@ -111,7 +112,7 @@ impl Explorer {
         }
     }
 
-    /// How the schedule ended.
+    /// Waits for the end of the schedule, and returns how it ended.
     pub(crate) fn ending<W: Wait + Clock>(&self, rt: &W) -> Ending {
         let mut schedule = self.schedule.lock(rt);
         for _ in 0..LOOKS {

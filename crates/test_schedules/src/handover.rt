@@ -1,15 +1,16 @@
-//! Where a pass lies between two threads that call from it, one after the other.
+// SPDX-License-Identifier: MIT
+//! The place of a pass between two threads that call with it, one after the other.
 
 use std::sync::{Mutex, Wait};
 
-/// The pass that one thread hands over to another, until that takes it.
+/// The pass that one thread hands over, until another takes it.
 #[derive(Drop)]
 pub(crate) struct Handover<P: Drop> {
     pass: Mutex<Option<P>>,
 }
 
 impl<P: Drop> Handover<P> {
-    /// No pass was handed over.
+    /// Makes a place without a pass.
     pub(crate) fn new() -> Handover<P> {
         Handover {
             pass: Mutex::new(None),

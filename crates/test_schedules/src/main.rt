@@ -1,8 +1,9 @@
-//! A program for the gate: scenes of a few callers, played on the object as it is, in each order of their steps.
+// SPDX-License-Identifier: MIT
+//! A program for the gate: scenes of a few callers, played on real objects, in each order of their steps.
 //!
 //! Without an argument each scene is played with up to one interruption, and the scenes of two threads in every order, some of
 //! them also with sleeps that end for no reason. With the argument `all` the scenes of three threads are played in every order
-//! too. A scene's name plays that scene alone, and `recorded`, `bounded` or `refused` plays on objects of that kind alone.
+//! too. A scene's name plays only that scene, and `recorded`, `bounded` or `refused` plays only on objects of that kind.
 #![tactic(auto)]
 
 mod act;
@@ -78,7 +79,7 @@ impl Asked {
         }
     }
 
-    /// Whether the scene is played.
+    /// Returns whether the scene is played.
     fn has_scene(&self, scene: Scene) -> bool {
         match self.scene {
             Some(only) => only == scene,
@@ -86,7 +87,7 @@ impl Asked {
         }
     }
 
-    /// Whether objects of this kind are played on.
+    /// Returns whether objects of this kind are played on.
     fn has_kind(&self, kind: Kind) -> bool {
         match self.kind {
             Some(only) => only == kind,
@@ -94,8 +95,8 @@ impl Asked {
         }
     }
 
-    /// Whether the plan's scene is played in every order: those of three threads and the longest one of two with `all` alone,
-    /// and those of three never where memory is refused.
+    /// Returns whether the plan's scene is played in every order. Scenes of two threads are; if memory is refused, the longest
+    /// of them only with `all`. Scenes of three threads are only with `all`, and never if memory is refused.
     fn has_every_order(&self, plan: Plan) -> bool {
         let is_refused = plan.kind == Kind::Refused;
         match plan.scene.threads() {
@@ -105,7 +106,8 @@ impl Asked {
         }
     }
 
-    /// Whether the plan's scene is played with sleeps that end for no reason too: else those with few schedules alone are.
+    /// Returns whether the plan's scene is also played with sleeps that end for no reason. Only scenes of two threads and
+    /// `HandOn` are; without `all` only those with few schedules, on objects that keep their history.
     fn has_dozing(&self, plan: Plan) -> bool {
         let is_long = matches!(
             plan.scene,
@@ -118,12 +120,12 @@ impl Asked {
     }
 }
 
-/// The scene of this name.
+/// Returns the scene with this name.
 fn scene_named(name: &str) -> Option<Scene> {
     SCENES.into_iter().find(|scene| scene.name() == name)
 }
 
-/// Plays the scene in all ways that are asked for. Says whether all schedules ended as they are to.
+/// Plays the scene in all ways that are asked for. Returns whether all schedules ended as they should.
 fn explore_scene<
     W: Threads + Wait + Clock + Print + AllocGlobal + Copy + Drop + Send + Sync + 'static,
 >(rt: W, kind: Kind, scene: Scene, asked: Asked) -> io::Result<bool> {
@@ -142,7 +144,7 @@ fn explore_scene<
     explore_every_order(rt, plan, asked)
 }
 
-/// Plays the scene in every order, and where that is asked for also with sleeps that end for no reason.
+/// Plays the scene in every order, and if asked for also with sleeps that end for no reason.
 fn explore_every_order<
     W: Threads + Wait + Clock + Print + AllocGlobal + Copy + Drop + Send + Sync + 'static,
 >(rt: W, plan: Plan, asked: Asked) -> io::Result<bool> {

@@ -1,6 +1,7 @@
+// SPDX-License-Identifier: MIT
 //! What a thread does next.
 
-use po_object::steps::Step;
+use po_object::steps::SharedStep;
 
 /// What a thread does next.
 #[derive(Clone, Copy)]
@@ -8,12 +9,12 @@ pub(crate) enum Next {
     /// It begins.
     Begin,
     /// It takes a step of the object.
-    Take(Step),
+    Take(SharedStep),
     /// It hands its pass over.
     HandOver,
-    /// It takes over the pass that another one hands over.
+    /// It takes over the pass that another thread hands over.
     TakeOver,
-    /// Nothing more.
+    /// It has nothing more to do.
     Nothing,
 }
 
@@ -24,27 +25,28 @@ enum Touched {
     Nothing,
     /// The lock.
     Lock,
-    /// The lock, which stays as it is for others that take it for a look.
+    /// The lock, for a look: for others that take it for a look, nothing changes.
     LockForLook,
     /// The flag of a seat.
     Flag(u16),
-    /// The reason of a seat's caller not to sleep.
+    /// The token of a seat, which says that its caller needn't sleep.
     Token(u16),
     /// The pass that is handed over.
     Pass,
 }
 
-/// What the step reads or changes.
-fn touched_by_step(step: Step) -> Touched {
+/// Returns what the step reads or changes.
+fn touched_by_step(step: SharedStep) -> Touched {
     match step {
-        Step::TryChange | Step::Change | Step::Changed | Step::Looked => Touched::Lock,
-        Step::TryLook | Step::Look => Touched::LockForLook,
-        Step::Flag(seat) => Touched::Flag(seat),
-        Step::Sleep(seat) | Step::Wake(seat) => Touched::Token(seat),
+        SharedStep::TryChange | SharedStep::Change | SharedStep::Changed | SharedStep::Looked =>
+            Touched::Lock,
+        SharedStep::TryLook | SharedStep::Look => Touched::LockForLook,
+        SharedStep::Flag(seat) => Touched::Flag(seat),
+        SharedStep::Sleep(seat) | SharedStep::Wake(seat) => Touched::Token(seat),
     }
 }
 
-/// What a thread reads or changes next.
+/// Returns what a thread reads or changes next.
 fn touched_by(next: Next) -> Touched {
     match next {
         Next::Take(step) => touched_by_step(step),
@@ -54,7 +56,8 @@ fn touched_by(next: Next) -> Touched {
 }
 
 impl Next {
-    /// Whether it makes no difference which of two threads does what it does next first.
+    /// Returns whether it makes no difference which of two threads goes first with what it does
+    /// next.
     pub(crate) fn is_apart(self, other: Next) -> bool {
         match (touched_by(self), touched_by(other)) {
             (Touched::Nothing, _) | (_, Touched::Nothing) => true,

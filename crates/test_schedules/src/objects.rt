@@ -1,4 +1,5 @@
-//! How a schedule is played on an object of either kind, from its opening to its closing.
+// SPDX-License-Identifier: MIT
+//! Plays a schedule on an object of either kind, from its opening to its closing.
 
 use crate::company::play;
 use crate::explorer::Explorer;
@@ -15,7 +16,7 @@ use std::sync::{Arc, Wait};
 use std::thread::Threads;
 use std::time::Clock;
 
-/// What is left of an object, what was cut off from its history, and what each thread was told.
+/// What is left of an object, the volumes cut off from its history, and each thread's answers.
 #[derive(Drop)]
 pub(crate) struct Shelf<R: Record<Station>, Q: Receipts<u64>> {
     pub(crate) closed: Closed<Station, R, Q>,
@@ -23,7 +24,7 @@ pub(crate) struct Shelf<R: Record<Station>, Q: Receipts<u64>> {
     pub(crate) told: Vec<Told>,
 }
 
-/// From where the object of a scene starts.
+/// Returns how the object of a scene starts.
 pub(crate) fn beginning(scene: Scene) -> Start {
     Start {
         first_number: 1,

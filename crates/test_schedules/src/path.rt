@@ -1,19 +1,20 @@
-//! The way to a schedule: depth first through all turns.
+// SPDX-License-Identifier: MIT
+//! The path through the schedules: depth first through all turns.
 
 use crate::next::Next;
 use crate::threads::{MOST, ThreadSet};
 use crate::turn::Turn;
 use std::alloc::{AllocError, Global};
 
-/// The most turns of a schedule. One that has more doesn't end.
+/// The most turns of a schedule. One with more counts as endless.
 pub(crate) const MOST_TURNS: usize = 2_000;
 
 /// Which schedules are tried.
 #[derive(Clone, Copy, PartialEq, Eq)]
 pub(crate) enum Bound {
-    /// Those in which a thread that could go on is passed over at most so often.
+    /// Those in which threads that could go on are passed over at most this number of times.
     Interruptions(u64),
-    /// All, but for those that differ from another only in the order of steps of which it makes no difference.
+    /// All, except those that differ from another one only in the order of steps for which the order makes no difference.
     EveryOrder,
 }
 
@@ -29,7 +30,7 @@ pub(crate) struct Path {
 }
 
 impl Path {
-    /// Nothing was tried yet.
+    /// Makes a path on which nothing was tried yet.
     pub(crate) fn new(alloc: Global, bound: Bound) -> Result<Path, AllocError> {
         let mut turns = Vec::new(alloc);
         turns.reserve(MOST_TURNS + MOST)?;
@@ -51,12 +52,13 @@ impl Path {
         self.is_like_another = false;
     }
 
-    /// Whether the schedule is like one that was tried: it was cut off there.
+    /// Returns whether the schedule was cut off, since it is like one that was tried.
     pub(crate) fn is_like_another(&self) -> bool {
         self.is_like_another
     }
 
-    /// Chooses who goes on, if anyone can: the thread that went on before, or as the turn says that was tried here.
+    /// Chooses the thread that goes on, if any can: the one that the path has for this turn, or at a new turn preferably the
+    /// one that went on before.
     pub(crate) fn choose(
         &mut self,
         able: &ThreadSet,
@@ -76,7 +78,7 @@ impl Path {
         Some(turn.chosen)
     }
 
-    /// Adds a turn, unless all that can go on are left out.
+    /// Adds a turn, unless all threads that can go on are left out.
     fn extend(&mut self, able: &ThreadSet, interrupted: Option<usize>) {
         let lowest = able.first_without(&self.asleep);
         let same = interrupted.filter(|thread| !self.asleep.has(*thread));
@@ -86,7 +88,7 @@ impl Path {
         }
     }
 
-    /// Adds a turn in which this thread goes on. There is room for it.
+    /// Adds a turn in which this thread goes on. There is room for the turn.
     fn add_turn(&mut self, able: &ThreadSet, interrupted: Option<usize>, chosen: usize) {
         let mut tried = self.asleep;
         tried.put(chosen, true);
@@ -108,8 +110,8 @@ impl Path {
         }
     }
 
-    /// Threads that were tried before stay left out as long as no step is taken of which it makes a difference whether it
-    /// comes before theirs.
+    /// Keeps threads that were tried before left out, until a step is taken for which it makes a difference whether it comes
+    /// before theirs.
     fn keep_asleep(&mut self, turn: &Turn, next: &[Next; MOST]) {
         let taken = next_of(next, turn.chosen);
         let mut asleep = ThreadSet::new();
@@ -120,7 +122,7 @@ impl Path {
         self.asleep = asleep;
     }
 
-    /// Goes over to the next schedule, and says whether there is one.
+    /// Goes to the next schedule, and returns whether there is one.
     pub(crate) fn go_back(&mut self) -> bool {
         for _ in 0..self.turns.len() {
             let Some(mut turn) = self.turns.pop() else {
@@ -135,7 +137,7 @@ impl Path {
         false
     }
 
-    /// How many times a thread may be interrupted.
+    /// Returns how many times a thread may be interrupted.
     fn most(&self) -> u64 {
         match self.bound {
             Bound::Interruptions(most) => most,
@@ -144,7 +146,7 @@ impl Path {
     }
 }
 
-/// What the thread does next.
+/// Returns what the thread does next.
 pub(crate) fn next_of(next: &[Next; MOST], thread: usize) -> Next {
     next.get(thread).copied().unwrap_or(Next::Nothing)
 }

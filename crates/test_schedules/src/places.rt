@@ -1,26 +1,27 @@
-//! What an object's lock and waiting places let a thread do: so threads that would wait aren't let go on.
+// SPDX-License-Identifier: MIT
+//! Whether an object's lock and waiting places let a thread go on, so that no thread is let go on that would wait.
 
 use crate::next::Next;
 use crate::threads::ThreadSet;
-use po_object::steps::Step;
+use po_object::steps::SharedStep;
 
-/// Who has the lock, and whose sleep would end at once.
+/// Which threads have the lock, and whose sleep would end at once.
 #[derive(Clone, Copy)]
 pub(crate) struct Places {
     is_changed: bool,
     looks: u64,
     woken: ThreadSet,
-    /// Whether a sleep may end once at each seat for no reason.
+    /// Whether one sleep at each seat may end for no reason.
     may_doze: bool,
     dozed: ThreadSet,
-    /// Whether a pass was handed over that nobody has taken.
+    /// Whether a pass was handed over that no thread has taken.
     is_handed_over: bool,
-    /// Whether the last sleep had a reason to end.
+    /// Whether the latest sleep had a reason to end.
     was_woken: bool,
 }
 
 impl Places {
-    /// Nobody has the lock, and nobody was woken.
+    /// Returns places at which no thread has the lock, and none was woken.
     pub(crate) fn new(may_doze: bool) -> Places {
         Places {
             is_changed: false,
@@ -33,37 +34,37 @@ impl Places {
         }
     }
 
-    /// Nobody has the lock, and nobody was woken, as before.
+    /// Makes the places as they were at first.
     pub(crate) fn renew(&mut self) {
         *self = Places::new(self.may_doze);
     }
 
-    /// Whether the last sleep had a reason to end.
+    /// Returns whether the latest sleep had a reason to end.
     pub(crate) fn was_woken(&self) -> bool {
         self.was_woken
     }
 
-    /// Whether what a thread does next doesn't wait.
+    /// Returns whether a thread that does this next doesn't wait.
     pub(crate) fn can_go_on(&self, next: Next) -> bool {
         match next {
             Next::Nothing => false,
-            Next::Take(Step::Change) => !self.is_changed && self.looks == 0,
-            Next::Take(Step::Look) => !self.is_changed,
-            Next::Take(Step::Sleep(seat)) => self.woken.has(seat as usize),
+            Next::Take(SharedStep::Change) => !self.is_changed && self.looks == 0,
+            Next::Take(SharedStep::Look) => !self.is_changed,
+            Next::Take(SharedStep::Sleep(seat)) => self.woken.has(seat as usize),
             Next::TakeOver => self.is_handed_over,
             _ => true,
         }
     }
 
-    /// Whether a thread's sleep may end for no reason.
+    /// Returns whether a thread's sleep may end for no reason.
     pub(crate) fn can_doze(&self, next: Next) -> bool {
         match next {
-            Next::Take(Step::Sleep(seat)) => self.may_doze && !self.dozed.has(seat as usize),
+            Next::Take(SharedStep::Sleep(seat)) => self.may_doze && !self.dozed.has(seat as usize),
             _ => false,
         }
     }
 
-    /// A thread does what it does next.
+    /// Notes that a thread does this.
     pub(crate) fn go_on(&mut self, next: Next) {
         match next {
             Next::Take(step) => self.take(step),
@@ -73,27 +74,27 @@ impl Places {
         }
     }
 
-    /// A step is taken.
-    fn take(&mut self, step: Step) {
+    /// Notes that a step is taken.
+    fn take(&mut self, step: SharedStep) {
         match step {
-            Step::TryChange | Step::Change => self.is_changed |= self.looks == 0,
-            Step::Changed => self.is_changed = false,
-            Step::TryLook | Step::Look => self.look(),
-            Step::Looked => self.looks = self.looks.saturating_sub(1),
-            Step::Flag(_) => {}
-            Step::Sleep(seat) => self.sleep(seat as usize),
-            Step::Wake(seat) => self.woken.put(seat as usize, true),
+            SharedStep::TryChange | SharedStep::Change => self.is_changed |= self.looks == 0,
+            SharedStep::Changed => self.is_changed = false,
+            SharedStep::TryLook | SharedStep::Look => self.look(),
+            SharedStep::Looked => self.looks = self.looks.saturating_sub(1),
+            SharedStep::Flag(_) => {}
+            SharedStep::Sleep(seat) => self.sleep(seat as usize),
+            SharedStep::Wake(seat) => self.woken.put(seat as usize, true),
         }
     }
 
-    /// The lock is taken for a look, if it can be.
+    /// Notes that the lock is taken for a look, if it can be.
     fn look(&mut self) {
         if !self.is_changed {
             self.looks = self.looks.saturating_add(1);
         }
     }
 
-    /// A sleep begins and ends, since it was ended before, or for no reason.
+    /// Notes that a sleep begins and ends, because it was ended before or for no reason.
     fn sleep(&mut self, seat: usize) {
         self.was_woken = self.woken.has(seat);
         self.woken.put(seat, false);

@@ -1,3 +1,4 @@
+// SPDX-License-Identifier: MIT
 //! What is explored: a scene, on an object of one kind, in some of its schedules.
 
 use crate::path::Bound;
@@ -16,7 +17,7 @@ pub(crate) enum Kind {
 }
 
 impl Kind {
-    /// Whether the scene is played on objects of this kind.
+    /// Returns whether the scene is played on objects of this kind.
     pub(crate) fn has(self, scene: Scene) -> bool {
         self != Kind::Refused || scene.has_refusals()
     }
@@ -38,7 +39,7 @@ pub(crate) struct Plan {
     pub(crate) kind: Kind,
     pub(crate) scene: Scene,
     pub(crate) bound: Bound,
-    /// Whether a sleep may end once at each seat for no reason.
+    /// Whether one sleep at each seat may end for no reason.
     pub(crate) may_doze: bool,
 }
 

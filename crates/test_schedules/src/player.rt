@@ -1,3 +1,4 @@
+// SPDX-License-Identifier: MIT
 //! A thread of a scene.
 
 use crate::act::Act;
@@ -12,20 +13,20 @@ use std::alloc::{AllocError, Global};
 use std::sync::{Arc, Wait};
 use std::thread::{self, JoinHandle, Threads};
 
-/// What a thread of a scene has: its number, its passes, what it cut off from the history, and what it was told.
+/// What a thread of a scene has: its number, its passes, the volumes that it cut off from the history, and its answers.
 #[derive(Drop)]
 pub(crate) struct Player<P: Drop> {
     pub(crate) number: usize,
-    /// It calls from the last one.
+    /// The thread calls with the last one.
     pub(crate) passes: Vec<P>,
     pub(crate) volumes: Vec<Volume<u64>>,
     pub(crate) told: Told,
-    /// Where it hands a pass over, or takes one.
+    /// Through this the thread hands a pass over, or takes one.
     handover: Arc<Handover<P>>,
 }
 
 impl<P: Drop> Player<P> {
-    /// A thread with room for one volume and for one pass more.
+    /// Makes a player with room for one volume and for one more pass.
     pub(crate) fn new(
         alloc: Global,
         number: usize,
@@ -45,7 +46,7 @@ impl<P: Drop> Player<P> {
         })
     }
 
-    /// Does what the scene says, whenever it is its turn.
+    /// Does what the scene says, each time when it is the thread's turn.
     fn play<O: Plays<P>, W: Wait>(
         mut self,
         rt: &W,
@@ -85,7 +86,7 @@ impl<P: Drop> Player<P> {
         }
     }
 
-    /// Takes over the pass that another thread hands over, and calls from it from now on.
+    /// Takes over the pass that another thread hands over, and calls with it from now on.
     fn take_over<W: Wait>(&mut self, rt: &W, explorer: &Explorer) {
         explorer.reach(rt, Next::TakeOver);
         if let Some(pass) = self.handover.take(rt) {
@@ -94,7 +95,7 @@ impl<P: Drop> Player<P> {
     }
 }
 
-/// Starts a thread that does what the scene says, and gives back what it has.
+/// Starts a thread that does what the scene says, and gives back what it then has.
 pub(crate) fn start<
     P: Send + Drop + 'static,
     O: Plays<P> + Send + Sync + Drop + 'static,

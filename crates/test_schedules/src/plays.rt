@@ -1,10 +1,11 @@
-//! How a thread does what it has to, on an object of either kind.
+// SPDX-License-Identifier: MIT
+//! Does what a thread has to do, on an object of either kind.
 
 use crate::act::Act;
 use crate::station::Station;
 use crate::told::{Answer, Told};
 use po_core::{Record, Refusal, Volume};
-use po_object::steps::Steps;
+use po_object::steps::Hook;
 use po_object::{Object, Pass, Receipts, Story};
 use po_unit::EntryRef;
 use std::sync::Wait;
@@ -12,7 +13,7 @@ use std::sync::ledger::Ledger;
 
 /// An object that the threads of a scene share, with passes of this type.
 pub(crate) trait Plays<P> {
-    /// Does what the act says, if the thread has a pass or needs none, notes what it is told, and answers what it cut off
+    /// Does what the act says, if the thread has a pass or needs none, and notes the answer. Returns the volume that it cut off
     /// from the history, if it cut it.
     fn play<W: Wait>(
         &self,
@@ -23,21 +24,24 @@ pub(crate) trait Plays<P> {
     ) -> Option<Volume<u64>>;
 }
 
-/// What an object keeps of what has happened, which is cut where that is its history.
+/// What an object keeps of the past. If that is its history, it can be cut.
 pub(crate) trait Kept: Record<Station> + Drop {
-    /// Cuts the history, where the object keeps one.
-    fn cut<C: Story<Station, u64>, P: Ledger, F: Ledger, Q: Receipts<u64>, S: Steps, W: Wait>(
+    /// Cuts the history, if the object keeps one.
+    fn cut<C: Story<Station, u64>, P: Ledger, F: Ledger, Q: Receipts<u64>, S: Hook, W: Wait>(
         rt: &W,
         object: &Object<Station, C, P, F, Self, Q, S>,
     ) -> Option<Volume<u64>>;
 }
 
-/// The single entry with this number.
+/// Returns the single entry with this number.
 fn single(entry: u16) -> EntryRef {
-    EntryRef { entry, index: None }
+    EntryRef {
+        declaration: entry,
+        index: None,
+    }
 }
 
-impl<C: Story<Station, u64>, P: Ledger, F: Ledger, R: Kept, Q: Receipts<u64>, S: Steps> Plays<
+impl<C: Story<Station, u64>, P: Ledger, F: Ledger, R: Kept, Q: Receipts<u64>, S: Hook> Plays<
     Pass<u64, C, P, F, Q>,
 > for Object<Station, C, P, F, R, Q, S> {
     fn play<W: Wait>(
@@ -58,14 +62,14 @@ impl<C: Story<Station, u64>, P: Ledger, F: Ledger, R: Kept, Q: Receipts<u64>, S:
     }
 }
 
-/// Asks what the act says, if that needs no pass. The answer is of no interest.
+/// Asks the object what the act says, if that needs no pass. The answer doesn't matter.
 fn ask<
     C: Story<Station, u64>,
     P: Ledger,
     F: Ledger,
     R: Record<Station>,
     Q: Receipts<u64>,
-    S: Steps,
+    S: Hook,
     W: Wait,
 >(rt: &W, object: &Object<Station, C, P, F, R, Q, S>, act: Act) {
     match act {
@@ -81,28 +85,28 @@ fn ask<
         Act::Finalize => {
             let _done = object.finalize(rt);
         }
-        Act::Abort(seat) => {
-            let _aborted = object.abort_seat(rt, seat);
+        Act::Cancel(seat) => {
+            let _aborted = object.cancel_seat(rt, seat);
         }
         _ => {}
     }
 }
 
-/// What a refused call may not change of its pass.
+/// Returns the part of the pass that a refused call may not change.
 fn tally_of<C: Story<Station, u64>, P: Ledger, F: Ledger, Q: Receipts<u64>>(
     pass: &Pass<u64, C, P, F, Q>,
 ) -> (u64, u64, bool) {
     (pass.calls(), pass.procedures(), pass.pending())
 }
 
-/// Makes the call, or runs the procedure, of the act, once more where memory was wanting, and notes what is answered.
+/// Makes the call of the act, or runs its procedure, once more if memory runs out, and notes the answer.
 fn call_again<
     C: Story<Station, u64>,
     P: Ledger,
     F: Ledger,
     R: Record<Station>,
     Q: Receipts<u64>,
-    S: Steps,
+    S: Hook,
     W: Wait,
 >(
     rt: &W,
@@ -121,14 +125,14 @@ fn call_again<
     }
 }
 
-/// Makes the call, or runs the procedure, of the act.
+/// Makes the call of the act, or runs its procedure.
 fn call<
     C: Story<Station, u64>,
     P: Ledger,
     F: Ledger,
     R: Record<Station>,
     Q: Receipts<u64>,
-    S: Steps,
+    S: Hook,
     W: Wait,
 >(
     rt: &W,

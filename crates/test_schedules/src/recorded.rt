@@ -1,3 +1,4 @@
+// SPDX-License-Identifier: MIT
 //! Objects that keep their history.
 
 ghost use Rattle.std.specs.Prelude.{◌≡◌, ◌+◌, false, [], Some};
@@ -11,7 +12,7 @@ use crate::plays::Kept;
 use crate::scene::Scene;
 use crate::station::Station;
 use po_core::{Core, Event, Order, Recorded, Volume};
-use po_object::steps::Steps;
+use po_object::steps::Hook;
 use po_object::{Keeper, Object, Receipt, Receipts, Story, reconcile};
 use std::alloc::AllocError;
 use std::marker::Brand;
@@ -21,7 +22,7 @@ use std::thread::Threads;
 use std::time::Clock;
 
 impl Kept for Recorded<Station> {
-    fn cut<C: Story<Station, u64>, P: Ledger, F: Ledger, Q: Receipts<u64>, S: Steps, W: Wait>(
+    fn cut<C: Story<Station, u64>, P: Ledger, F: Ledger, Q: Receipts<u64>, S: Hook, W: Wait>(
         rt: &W,
         object: &Object<Station, C, P, F, Recorded<Station>, Q, S>,
     ) -> Option<Volume<u64>> {
@@ -73,7 +74,7 @@ fn open_and_close<
     play_and_close(rt, explorer, object, passes, scene)
 }
 
-/// Plays the scene in the explorer's next schedule, on an object whose receipts are of this type. Gives what is left of the
+/// Plays the scene in the explorer's next schedule, on an object whose receipts have this type. Returns what is left of the
 /// object, if all threads came to an end.
 pub(crate) fn open_and_play<
     Q: Receipts<u64> + Send + Sync + 'static,
@@ -110,7 +111,7 @@ pub(crate) fn open_and_play<
     )
 }
 
-/// Plays the scene in the explorer's next schedule. Says whether all threads came to an end, and every answer is the
+/// Plays the scene in the explorer's next schedule. Returns whether all threads came to an end, and every answer is the
 /// history's.
 pub(crate) fn agrees<W: Threads + Wait + Clock + AllocGlobal + Copy + Drop + Send + Sync + 'static>(
     rt: W,

@@ -1,4 +1,5 @@
-//! Objects that keep their history, where memory for each call and each procedure is refused once.
+// SPDX-License-Identifier: MIT
+//! Objects that keep their history, and for which memory for each call and each procedure is refused once.
 
 use crate::explorer::Explorer;
 use crate::objects::Shelf;
@@ -13,7 +14,7 @@ use std::sync::{Arc, Wait};
 use std::thread::Threads;
 use std::time::Clock;
 
-/// What the history says to the call with this number.
+/// Returns the history's answer to the call with this number.
 fn answer_to_call(core: &Core<Station>, number: u64) -> Answer {
     match core.outcome(number) {
         Some(end) => Answer::Ended(end),
@@ -21,7 +22,7 @@ fn answer_to_call(core: &Core<Station>, number: u64) -> Answer {
     }
 }
 
-/// What the history says to the seat's caller, if that asked for the event.
+/// Returns the history's answer to the seat's caller, if that caller asked for the event.
 fn answer_to(core: &Core<Station>, event: Event<u64>, seat: u16) -> Option<Answer> {
     match event {
         Event::Issue { n, owner, .. } if owner == seat => Some(answer_to_call(core, n)),
@@ -30,7 +31,7 @@ fn answer_to(core: &Core<Station>, event: Event<u64>, seat: u16) -> Option<Answe
     }
 }
 
-/// Whether the seat's caller was told what the history says, and no more.
+/// Returns whether the seat's caller was answered as the history says, and nothing else.
 fn has_answers(core: &Core<Station>, told: &Told, seat: u16) -> bool {
     let mut given = 0usize;
     for event in core.events() {
@@ -44,12 +45,12 @@ fn has_answers(core: &Core<Station>, told: &Told, seat: u16) -> bool {
     given == told.answers.len()
 }
 
-/// Whether all that the thread asked for was refused once, and then answered as the history says.
+/// Returns whether all that the thread asked for was refused once, and then answered as the history says.
 fn is_told(core: &Core<Station>, told: &Told, scene: Scene, thread: u16) -> bool {
     told.refusals == scene.asks(thread as usize) && has_answers(core, told, thread)
 }
 
-/// Whether that is so for all threads, each of which has its own seat.
+/// Returns whether that holds for all threads, each of which has its own seat.
 fn are_told(shelf: &Shelf<Recorded<Station>, Refusing>, scene: Scene) -> bool {
     let mut thread = 0u16;
     for told in &shelf.told {
@@ -61,7 +62,7 @@ fn are_told(shelf: &Shelf<Recorded<Station>, Refusing>, scene: Scene) -> bool {
     true
 }
 
-/// Plays the scene in the explorer's next schedule. Says whether all threads came to an end, and every answer is the
+/// Plays the scene in the explorer's next schedule. Returns whether all threads came to an end, and every answer is the
 /// history's.
 pub(crate) fn agrees<W: Threads + Wait + Clock + AllocGlobal + Copy + Drop + Send + Sync + 'static>(
     rt: W,

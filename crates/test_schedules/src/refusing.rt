@@ -1,3 +1,4 @@
+// SPDX-License-Identifier: MIT
 //! Receipts for which memory is refused.
 
 ghost use Rattle.std.specs.Prelude.{◌≡◌, ◌<◌, ◌∷◌, ◌++◌, [], false, vec_len, vec_capacity};
@@ -5,7 +6,7 @@ ghost use Rattle.std.specs.Prelude.{◌≡◌, ◌<◌, ◌∷◌, ◌++◌, [],
 use po_object::{Receipt, Receipts};
 use std::alloc::{AllocError, Global};
 
-/// Receipts in memory. The room for each is refused once, and is there when it is asked for again.
+/// Receipts in memory. The room for each is refused once, and granted when it is asked for again.
 #[derive(Drop)]
 pub(crate) struct Refusing {
     receipts: Vec<Receipt<u64>>,

@@ -1,28 +1,29 @@
-//! Prints a schedule in words, by which a reader can go through it by hand.
+// SPDX-License-Identifier: MIT
+//! Prints a schedule in words, so that a reader can go through it by hand.
 
 use crate::explorer::Explorer;
 use crate::next::Next;
 use crate::scene::Scene;
-use po_object::steps::Step;
+use po_object::steps::SharedStep;
 use std::io::{self, Print};
 use std::sync::Wait;
 
-/// What a thread does in a step of the object.
-fn words_of_step(step: Step) -> &'static str {
+/// Returns in words what a thread does in a step of the object.
+fn words_of_step(step: SharedStep) -> &'static str {
     match step {
-        Step::TryChange => "tries to take the lock for a change",
-        Step::Change => "takes the lock for a change",
-        Step::Changed => "leaves the lock after a change",
-        Step::TryLook => "tries to take the lock for a look",
-        Step::Look => "takes the lock for a look",
-        Step::Looked => "leaves the lock after a look",
-        Step::Flag(_) => "reads or writes the flag of seat",
-        Step::Sleep(_) => "sleeps until it is woken at seat",
-        Step::Wake(_) => "wakes the caller of seat",
+        SharedStep::TryChange => "tries to take the lock for a change",
+        SharedStep::Change => "takes the lock for a change",
+        SharedStep::Changed => "leaves the lock after a change",
+        SharedStep::TryLook => "tries to take the lock for a look",
+        SharedStep::Look => "takes the lock for a look",
+        SharedStep::Looked => "leaves the lock after a look",
+        SharedStep::Flag(_) => "reads or writes the flag of seat",
+        SharedStep::Sleep(_) => "sleeps until it is woken at seat",
+        SharedStep::Wake(_) => "wakes the caller of seat",
     }
 }
 
-/// What a thread does.
+/// Returns in words what a thread does.
 fn words(next: Next) -> &'static str {
     match next {
         Next::Begin => "begins",
@@ -33,10 +34,11 @@ fn words(next: Next) -> &'static str {
     }
 }
 
-/// The seat of a step that is of one.
+/// Returns the seat of a step, if it belongs to one.
 fn seat_of(next: Next) -> Option<u16> {
     match next {
-        Next::Take(Step::Flag(seat) | Step::Sleep(seat) | Step::Wake(seat)) => Some(seat),
+        Next::Take(SharedStep::Flag(seat) | SharedStep::Sleep(seat) | SharedStep::Wake(seat)) =>
+            Some(seat),
         _ => None,
     }
 }
@@ -50,7 +52,7 @@ fn print_step<W: Print>(rt: &W, thread: usize, verb: &str, step: Next) -> io::Re
     }
 }
 
-/// Prints what each thread was to do.
+/// Prints what each thread had to do.
 fn print_scene<W: Print>(rt: &W, scene: Scene) -> io::Result<()> {
     for thread in 0..usize::from(scene.threads()) {
         print!(rt; "  thread {thread}:")?;
@@ -62,8 +64,8 @@ fn print_scene<W: Print>(rt: &W, scene: Scene) -> io::Result<()> {
     Ok(())
 }
 
-/// Prints the schedule: what each thread was to do, the steps in their order, and the step to which each thread came that
-/// isn't at its end.
+/// Prints the schedule: what each thread had to do, the steps in their order, and the step at which each thread is that hasn't
+/// ended.
 pub(crate) fn print_schedule<W: Wait + Print>(
     rt: &W,
     explorer: &Explorer,

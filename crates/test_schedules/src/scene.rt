@@ -1,9 +1,11 @@
+// SPDX-License-Identifier: MIT
 //! The scenes: what the threads of each do.
 
 use crate::act::Act;
 use crate::station::{CHANGE, GET, NEVER, OPEN, PASS, PUT, RELEASE, SIGNAL, SPOIL, STAY};
 
-/// A scene. Thread n calls from seat n. Who ends the others' calls comes last, so that they sleep in the first schedules.
+/// A scene. Thread n calls from seat n. The thread that ends the others' calls comes last, so that the others sleep in the
+/// first schedules.
 #[derive(Clone, Copy, PartialEq, Eq)]
 pub(crate) enum Scene {
     /// One puts, the other gets.
@@ -12,23 +14,23 @@ pub(crate) enum Scene {
     Twice,
     /// One command queues its caller's call and ends another's, whose caller then lets the first go.
     Requeue,
-    /// A call is cancelled that nobody else ends.
+    /// A call is cancelled that no one else ends.
     Cancel,
-    /// A second call, beside what ended the first.
+    /// A second call, beside the command that ended the first.
     Again,
     /// A requeue finds the queue full, and so ends a call while its caller goes to sleep.
     Full,
-    /// The history is cut beside a call that waits.
+    /// The history is cut while a call waits.
     Cut,
-    /// A cut of the history is refused for want of memory, beside a call that waits.
+    /// A cut of the history is refused because memory runs out, while a call waits.
     Uncut,
-    /// The places of the history are spent: what else is asked for beside a call that waits is refused.
+    /// The places of the history are spent: while a call waits, whatever else is asked for is refused.
     Spent,
-    /// A pass whose call waited is handed to who ended the call, and waits again.
+    /// A pass whose call waited is handed to the thread that ended the call, and waits again.
     Hand,
-    /// A pass whose call didn't wait is handed over, and waits.
+    /// A pass whose call didn't wait is handed over, and then its next call waits.
     HandAtOnce,
-    /// A timed call, one that may serve it, and the clock that comes to its deadline.
+    /// A timed call, a thread that may serve it, and the clock that comes to its deadline.
     Tick,
     /// Two put, and one gets twice.
     Three,
@@ -38,19 +40,19 @@ pub(crate) enum Scene {
     Abort,
     /// Functions and counts beside calls.
     Readers,
-    /// As `Requeue`, with two that wait.
+    /// As `Requeue`, with two calls that wait.
     RequeueTwo,
-    /// As `Again`, beside one that cancels whichever call it finds.
+    /// As `Again`, beside a thread that cancels whichever call it finds.
     AgainAbort,
     /// A barrier faults, and so ends two calls.
     Fault,
-    /// A pass is handed to a third thread, whose call waits while the first one's caller may yet be woken.
+    /// A pass is handed to a third thread. Its call waits, while the wake-up for the first thread's call may still be to come.
     HandOn,
-    /// Five callers whose calls one procedure ends.
+    /// Five callers, whose calls one procedure ends.
     Five,
 }
 
-/// What the threads of a scene do, one after the other.
+/// What the threads of a scene do, each one act after another.
 type Script = &'static [&'static [Act]];
 
 const PAIR: Script = &[&[Act::Call(PUT, 1)], &[Act::Call(GET, 0)]];
@@ -65,7 +67,7 @@ const REQUEUE: Script = &[
     &[Act::Call(PASS, 2), Act::Call(RELEASE, 3)],
 ];
 
-const CANCEL: Script = &[&[Act::Call(NEVER, 0)], &[Act::Abort(0), Act::Finalize]];
+const CANCEL: Script = &[&[Act::Call(NEVER, 0)], &[Act::Cancel(0), Act::Finalize]];
 
 const AGAIN: Script = &[
     &[Act::Timed(GET, 5), Act::Call(PASS, 1)],
@@ -120,7 +122,7 @@ const FINAL: Script = &[
 const ABORT: Script = &[
     &[Act::Call(GET, 0)],
     &[Act::Conditional(PUT)],
-    &[Act::Abort(0), Act::Finalize],
+    &[Act::Cancel(0), Act::Finalize],
 ];
 
 const READERS: Script = &[
@@ -138,7 +140,7 @@ const REQUEUE_TWO: Script = &[
 const AGAIN_ABORT: Script = &[
     &[Act::Timed(GET, 5), Act::Call(PASS, 1)],
     &[Act::Tick(5), Act::Procedure(SIGNAL)],
-    &[Act::Abort(0)],
+    &[Act::Cancel(0)],
 ];
 
 const FAULT: Script = &[
@@ -188,7 +190,7 @@ pub(crate) const SCENES: [Scene; 21] = [
 ];
 
 impl Scene {
-    /// The scene's name.
+    /// Returns the scene's name.
     pub(crate) fn name(self) -> &'static str {
         match self {
             Scene::Pair => "pair",
@@ -215,7 +217,7 @@ impl Scene {
         }
     }
 
-    /// What its threads do.
+    /// Returns what its threads do.
     fn script(self) -> Script {
         match self {
             Scene::Pair => PAIR,
@@ -242,7 +244,7 @@ impl Scene {
         }
     }
 
-    /// How many threads it has: as many as seats.
+    /// Returns how many threads it has, which is also the number of seats.
     pub(crate) fn threads(self) -> u16 {
         match self {
             Scene::Five => 6,
@@ -259,7 +261,7 @@ impl Scene {
         }
     }
 
-    /// What a thread does.
+    /// Returns what a thread does.
     pub(crate) fn acts(self, thread: usize) -> &'static [Act] {
         match self.script().get(thread) {
             Some(acts) => *acts,
@@ -267,7 +269,7 @@ impl Scene {
         }
     }
 
-    /// How many times a thread asks for a call or for a procedure.
+    /// Returns how many times a thread asks for a call or a procedure.
     pub(crate) fn asks(self, thread: usize) -> usize {
         self.acts(thread)
             .iter()
@@ -275,7 +277,7 @@ impl Scene {
             .count()
     }
 
-    /// Whether it is played where memory is refused too.
+    /// Returns whether it is also played with memory refused.
     pub(crate) fn has_refusals(self) -> bool {
         matches!(
             self,
@@ -290,7 +292,7 @@ impl Scene {
         )
     }
 
-    /// The place of the first event in the history.
+    /// Returns the place of the first event in the history.
     pub(crate) fn first_place(self) -> u64 {
         if self == Scene::Spent {
             u64::MAX - 1
@@ -299,12 +301,12 @@ impl Scene {
         }
     }
 
-    /// How many calls may wait on an entry.
+    /// Returns how many calls may wait on an entry.
     pub(crate) fn max_queue(self) -> Option<u64> {
         (self == Scene::Full).then_some(1)
     }
 
-    /// How many of its schedules are played at most: of six threads there are too many for any test.
+    /// Returns how many of its schedules are played at most: with six threads there are too many for any test.
     pub(crate) fn most_schedules(self) -> u64 {
         if self == Scene::Five {
             1_000

@@ -1,4 +1,5 @@
-//! The schedule that is tried: where each thread stands, and what was done.
+// SPDX-License-Identifier: MIT
+//! The schedule that is tried: at which step each thread is, and what was done.
 
 use crate::ending::Ending;
 use crate::next::Next;
@@ -16,7 +17,7 @@ pub(crate) struct Taken {
     pub(crate) step: Next,
 }
 
-/// The schedule that is tried, on the way to it.
+/// The schedule that is tried, as far as it has come.
 #[derive(Drop)]
 pub(crate) struct Schedule {
     next: [Next; MOST],
@@ -28,7 +29,7 @@ pub(crate) struct Schedule {
 }
 
 impl Schedule {
-    /// No schedule was tried yet.
+    /// Makes a schedule before the first was tried.
     pub(crate) fn new(alloc: Global, bound: Bound, may_doze: bool) -> Result<Schedule, AllocError> {
         let mut log = Vec::new(alloc);
         log.reserve(MOST_TURNS + MOST)?;
@@ -42,7 +43,7 @@ impl Schedule {
         })
     }
 
-    /// Begins a schedule of so many threads, and chooses who goes on.
+    /// Begins a schedule of `threads` threads, and chooses the one that goes on.
     pub(crate) fn begin(&mut self, threads: usize) {
         for thread in 0..MOST {
             let next = if thread < threads {
@@ -59,54 +60,54 @@ impl Schedule {
         self.pass_on(None);
     }
 
-    /// The thread that goes on.
+    /// Returns the thread that goes on.
     pub(crate) fn current(&self) -> usize {
         self.current
     }
 
-    /// How the schedule ended, if it has.
+    /// Returns how the schedule ended, if it has.
     pub(crate) fn ending(&self) -> Option<Ending> {
         self.ending
     }
 
-    /// The thread that was to go on doesn't come to its next step.
+    /// Notes that the thread that was to go on doesn't come to its next step.
     pub(crate) fn give_up(&mut self) {
         self.ending = Some(Ending::Lost);
     }
 
-    /// Whether the last sleep had a reason to end.
+    /// Returns whether the latest sleep had a reason to end.
     pub(crate) fn was_woken(&self) -> bool {
         self.places.was_woken()
     }
 
-    /// Whether the schedule is like one that was tried: it was cut off there.
+    /// Returns whether the schedule was cut off, since it is like one that was tried.
     pub(crate) fn is_like_another(&self) -> bool {
         self.path.is_like_another()
     }
 
-    /// The steps that were taken.
+    /// Returns the steps that were taken.
     pub(crate) fn log(&self) -> &Vec<Taken> {
         &self.log
     }
 
-    /// What a thread does next.
+    /// Returns what a thread does next.
     pub(crate) fn next(&self, thread: usize) -> Next {
         next_of(&self.next, thread)
     }
 
-    /// The thread that goes on comes to what it does next.
+    /// Notes what the thread that goes on does next, and chooses the one that goes on then.
     pub(crate) fn reach(&mut self, next: Next) {
         self.set_next(self.current, next);
         self.pass_on(Some(self.current));
     }
 
-    /// The thread that goes on has done all.
+    /// Notes that the thread that goes on has done all, and chooses the one that goes on then.
     pub(crate) fn finish(&mut self) {
         self.set_next(self.current, Next::Nothing);
         self.pass_on(None);
     }
 
-    /// Goes over to the next schedule, and says whether there is one.
+    /// Goes to the next schedule, and returns whether there is one.
     pub(crate) fn go_back(&mut self) -> bool {
         self.path.go_back()
     }
@@ -118,7 +119,7 @@ impl Schedule {
         }
     }
 
-    /// Chooses who goes on, or ends the schedule.
+    /// Chooses the thread that goes on, or ends the schedule.
     fn pass_on(&mut self, before: Option<usize>) {
         let able = self.able();
         if self.log.len() >= MOST_TURNS {
@@ -131,7 +132,7 @@ impl Schedule {
         }
     }
 
-    /// The thread does what it does next.
+    /// Has the thread do what it does next.
     fn take(&mut self, thread: usize) {
         self.current = thread;
         let step = next_of(&self.next, thread);
@@ -141,13 +142,14 @@ impl Schedule {
         }
     }
 
-    /// How a schedule ends in which no thread goes on.
+    /// Returns how a schedule ends in which no thread goes on.
     fn ending_without(&self) -> Ending {
         let is_done = self.next.iter().all(|next| matches!(next, Next::Nothing));
         if is_done { Ending::Done } else { Ending::Stuck }
     }
 
-    /// The threads that can go on. A sleep that ends for no reason isn't waited for: it counts where another one can go on.
+    /// Returns the threads that can go on. A sleep that may end for no reason isn't waited for: it counts only if another
+    /// thread can go on.
     fn able(&self) -> ThreadSet {
         let mut able = ThreadSet::new();
         let mut able_or_dozing = ThreadSet::new();

@@ -1,4 +1,5 @@
-//! A unit of which one command queues its caller's call and ends another's.
+// SPDX-License-Identifier: MIT
+//! A unit of which one command queues its caller's call and ends another's. In Ada it would be:
 //!
 //! ```ada
 //! protected type Station is
@@ -161,7 +162,7 @@ impl Model for Station {
 }
 
 impl Station {
-    /// An empty station that is closed.
+    /// Makes an empty station that is closed.
     pub(crate) fn new() -> Station {
         Station {
             store: 0,
@@ -172,7 +173,7 @@ impl Station {
         }
     }
 
-    /// The declarations of its entries.
+    /// Makes the shape of its entries' declarations.
     pub(crate) fn shape(alloc: Global) -> Result<Shape, AllocError> {
         Shape::new(alloc, &DECLARATIONS).map_err(|_| AllocError)
     }
@@ -254,7 +255,7 @@ impl Unit for Station {
         }
     }
 
-    /// No memory is there for a copy of a station that is open and whose calls on `STAY` wait.
+    /// Fails, as if memory ran out, while the station is open and calls on `STAY` have to wait.
     fn copy(&self) -> Result<Station, AllocError> {
         if self.is_open && !self.is_released {
             return Err(AllocError);

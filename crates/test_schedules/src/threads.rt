@@ -1,3 +1,4 @@
+// SPDX-License-Identifier: MIT
 //! Sets of the threads of a scene.
 
 /// The most threads that a scene has, and the most seats.
@@ -10,14 +11,14 @@ pub(crate) struct ThreadSet {
 }
 
 impl ThreadSet {
-    /// No thread.
+    /// Returns the set of no threads.
     pub(crate) fn new() -> ThreadSet {
         ThreadSet {
             members: [false; MOST],
         }
     }
 
-    /// Whether the thread is one of them.
+    /// Returns whether the thread is in the set.
     pub(crate) fn has(&self, thread: usize) -> bool {
         self.members.get(thread).copied().unwrap_or(false)
     }
@@ -29,12 +30,12 @@ impl ThreadSet {
         }
     }
 
-    /// Whether there is none.
+    /// Returns whether the set is empty.
     pub(crate) fn is_empty(&self) -> bool {
         self.first_without(&ThreadSet::new()).is_none()
     }
 
-    /// The lowest of them that isn't one of the others.
+    /// Returns the lowest thread of the set that isn't one of the others.
     pub(crate) fn first_without(&self, others: &ThreadSet) -> Option<usize> {
         (0..MOST).find(|thread| self.has(*thread) && !others.has(*thread))
     }

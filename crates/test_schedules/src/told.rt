@@ -1,9 +1,10 @@
-//! What a thread of a scene was told.
+// SPDX-License-Identifier: MIT
+//! The answers to a thread of a scene.
 
 use po_core::End;
 use std::alloc::{AllocError, Global};
 
-/// What a thread is told by the object.
+/// An answer of the object to a thread.
 #[derive(Clone, Copy, PartialEq, Eq)]
 pub(crate) enum Answer {
     /// How its call ended.
@@ -14,16 +15,16 @@ pub(crate) enum Answer {
     Nothing,
 }
 
-/// All that a thread was told, in that order, and how often memory was wanting.
+/// All answers to a thread, in order, and how often memory ran out.
 #[derive(Drop)]
 pub(crate) struct Told {
     pub(crate) answers: Vec<Answer>,
-    /// How often memory was wanting, and the pass was as before.
+    /// How often memory ran out and the pass was as before.
     pub(crate) refusals: usize,
 }
 
 impl Told {
-    /// Nothing yet, with room for some answers.
+    /// Makes an empty list of answers, with room for some.
     pub(crate) fn new(alloc: Global) -> Result<Told, AllocError> {
         let mut answers = Vec::new(alloc);
         answers.reserve(4)?;
@@ -38,7 +39,7 @@ impl Told {
         let _noted = self.answers.push(answer);
     }
 
-    /// Notes that memory was wanting, and whether the pass is as before.
+    /// Notes that memory ran out, and whether the pass is as before.
     pub(crate) fn note_refusal(&mut self, is_same: bool) {
         if is_same {
             self.refusals = self.refusals.saturating_add(1);

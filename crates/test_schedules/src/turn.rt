@@ -1,4 +1,5 @@
-//! A turn of a schedule: who could go on, and who did.
+// SPDX-License-Identifier: MIT
+//! A turn of a schedule: which threads could go on, and which did.
 
 use crate::threads::ThreadSet;
 
@@ -7,18 +8,18 @@ use crate::threads::ThreadSet;
 pub(crate) struct Turn {
     /// The threads that can go on.
     pub(crate) able: ThreadSet,
-    /// Those of them that were tried, the chosen one too.
+    /// Those of them that were tried, including the chosen one.
     pub(crate) tried: ThreadSet,
     /// The one that goes on.
     pub(crate) chosen: usize,
-    /// The one that went on before, if it can: another one interrupts it.
+    /// The one that went on before, if it can go on. If another is chosen, that interrupts it.
     pub(crate) interrupted: Option<usize>,
-    /// How many times a thread was interrupted before.
+    /// How many times threads were interrupted before.
     pub(crate) interruptions: u64,
 }
 
 impl Turn {
-    /// How many times a thread was interrupted, if this one goes on.
+    /// Returns how many times threads were interrupted, if this one goes on.
     pub(crate) fn interruptions_with(&self, thread: usize) -> u64 {
         match self.interrupted {
             Some(before) if before != thread => self.interruptions.saturating_add(1),
@@ -26,7 +27,7 @@ impl Turn {
         }
     }
 
-    /// The one that goes on next, if another one than before is to and may.
+    /// Returns the thread to try next, if there is one and it may interrupt.
     pub(crate) fn next(&self, bound: u64) -> Option<usize> {
         let thread = self.able.first_without(&self.tried)?;
         (self.interruptions_with(thread) <= bound).then_some(thread)

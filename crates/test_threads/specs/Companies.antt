@@ -1,10 +1,11 @@
--- What a unit means without data, of which a call that waits on its second entry lets the calls on its first one go.
+-- SPDX-License-Identifier: MIT
+-- The meaning of a unit without data, in which a call that waits on the second entry lets the calls on the first one go.
 use Rattle.std.specs.Prelude.{ℕ, nat_lt, slice_index, false, Ok, refl, ◌==◌, if◌then◌else◌}
 use Rattle.po_unit.specs.Meaning.{Meaning, IsLawful}
 use Rattle.po_unit.specs.declared.outcome.Outcome.TheVariants.{Complete}
 use Rattle.test_threads.specs.NoData.{NoData}
 
--- Wait, the entry 0, is open while a call is queued on Stay, the entry 1 (9.9), which never opens; bodies do nothing
+-- Wait, entry 0, is open while a call is queued on Stay, entry 1 (9.9), which never opens; bodies do nothing
 abbrev pub company_meaning : Meaning NoData ℕ
 company_meaning = record {
   entries = λ s. 2;

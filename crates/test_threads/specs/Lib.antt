@@ -1,3 +1,4 @@
+-- SPDX-License-Identifier: MIT
 pub mod Companies
 pub mod NoData
 pub mod Signs

@@ -1,10 +1,11 @@
--- What a unit means that has no entry and no procedure, and whose function gives back what it is given.
+-- SPDX-License-Identifier: MIT
+-- The meaning of a unit without entries and procedures, whose function gives back what it is given.
 use Rattle.std.specs.Prelude.{ℕ, false, Ok, refl}
 use Rattle.po_unit.specs.Meaning.{Meaning, IsLawful}
 use Rattle.po_unit.specs.declared.outcome.Outcome.TheVariants.{Complete}
 use Rattle.test_threads.specs.NoData.{NoData}
 
--- there is one function, and what it is given it gives back
+-- the only function gives back what it is given
 abbrev pub signs_meaning : Meaning NoData ℕ
 signs_meaning = record {
   entries = λ s. 0;

@@ -1,4 +1,5 @@
-//! What one thread is answered by calls that no thread waits in.
+// SPDX-License-Identifier: MIT
+//! What one thread is answered by calls that never wait.
 
 use crate::buffers::{GET, PUT};
 use crate::shared::Shared;
@@ -10,7 +11,7 @@ use std::sync::Wait;
 /// The first number that no entry of a buffer has.
 const NO_ENTRY: u16 = 2;
 
-/// The clock is raised, and once it isn't; nothing waits, and nothing can be cancelled. Then the object is finalized.
+/// The clock is raised, once in vain; nothing waits, and nothing can be cancelled. Then the object is finalized.
 pub(crate) fn play<P: Drop, O: Shared<P> + Drop, R: Wait + Print>(
     rt: &R,
     stage: &mut Stage<P, O>,

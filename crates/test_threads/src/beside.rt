@@ -1,4 +1,5 @@
-//! A meeting of three threads ends beside a thread that only looks: it would never end if its calls were all made by one.
+// SPDX-License-Identifier: MIT
+//! A meeting of three threads ends beside a thread that only watches. It would never end if one thread made all its calls.
 
 use crate::team::Team;
 use po_stress::{StressUnit, stress};
@@ -8,7 +9,7 @@ use std::sync::{Arc, Wait};
 use std::thread::{self, JoinHandle, Threads};
 use std::time::Clock;
 
-/// Has three threads meet ten times, and counts that where all of their calls completed.
+/// Has three threads meet ten times, and counts this on the team if all their calls completed.
 fn meet<R: Threads + Wait + AllocGlobal + Copy + Send + 'static>(rt: R, team: &Team) {
     if let Ok(report) = stress(rt, StressUnit::Meeting, 3, 10) {
         if report.completed == 30 {
@@ -26,7 +27,7 @@ fn start<R: Threads + Wait + AllocGlobal + Copy + Send + 'static>(
     Ok(thread::spawn(&rt, job)?)
 }
 
-/// Looks while the others meet, and prints whether they have.
+/// Watches while the others meet, and prints whether they have.
 pub(crate) fn run<R: Threads + Wait + Clock + Print + AllocGlobal + Copy + Send + 'static>(
     rt: R,
 ) -> io::Result<()> {

@@ -1,4 +1,5 @@
-//! Objects with fixed memory: what they show, and how a scene is played on one.
+// SPDX-License-Identifier: MIT
+//! Objects with fixed memory: what is printed of them, and how a scene is played on one.
 
 ghost use Rattle.std.specs.Prelude.{◌≡◌, ◌≤◌, ◌+◌, IfSome, true, [], Some};
 ghost use Rattle.po_object.specs.Stories.{IsStory};
@@ -18,7 +19,7 @@ use std::thread::Threads;
 use std::time::{Clock, CpuClock};
 
 impl<U: Unit<Value = u64>> Kept<U> for Unrecorded<U> {
-    /// The history is known to proofs alone.
+    /// Only proofs know the history, so there is nothing to cut.
     fn cut_history<C: Story<U, u64>, L: Ledger, F: Ledger, Q: Receipts<u64>, W: Wait>(
         _rt: &W,
         _object: &Object<U, C, L, F, Unrecorded<U>, Q>,
@@ -82,7 +83,7 @@ fn open_and_close<
 /// What is left of an object with fixed memory.
 type BoundedShelf<U> = Shelf<U, Unrecorded<U>, Trace<Receipt<u64>>>;
 
-/// Plays the scene with an object of so many seats. Gives what is left of the object, or none where it wasn't opened or not
+/// Plays the scene with an object of `seats` seats. Returns what is left of the object, or `None` if it wasn't opened or not
 /// closed.
 fn perform<
     U: Unit<Value = u64> + Send + Sync + Drop + 'static,

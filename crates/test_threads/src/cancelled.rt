@@ -1,4 +1,5 @@
-//! Callers whose calls another thread attempts to cancel: one is cancelled, one is kept and then let go.
+// SPDX-License-Identifier: MIT
+//! Callers whose calls another thread tries to cancel: one is cancelled, the other is kept and then let go.
 
 use crate::scenes::{Made, Scene};
 use crate::shared::Shared;
@@ -20,24 +21,24 @@ const REQUEST: u16 = 0;
 /// The entry that asks for some of the resource, and may not be cancelled.
 const CLAIM: u16 = 1;
 
-/// Where those wait that ask for one.
+/// The entry where callers wait that ask for one.
 const GRANT: EntryRef = EntryRef {
-    entry: 2,
+    declaration: 2,
     index: Some(1),
 };
 
 /// The procedure that gives some back.
 const RELEASE: u16 = 0;
 
-/// An allocator of one.
+/// Makes an allocator of one.
 fn allocator(alloc: Global) -> Result<Made<Allocator>, AllocError> {
     let unit = Allocator::new(1);
     let shape = unit.shape(alloc).map_err(|_| AllocError)?;
     Ok((unit, shape))
 }
 
-/// Starts a thread that asks for one and is to be answered so, and looks whether it and so many calls in all are seen to
-/// wait.
+/// Starts a thread that asks for one and should be answered in this way, and returns whether its call and all others, `calls`
+/// in all, are seen to wait.
 fn ask<
     P: Send + Drop + 'static,
     O: Shared<P> + Send + Sync + Drop + 'static,
@@ -53,8 +54,8 @@ fn ask<
     Ok(sees_waiting(&rt, &*stage.object, GRANT, calls))
 }
 
-/// Attempts to cancel both calls, of which only that of seat 2 may be: its caller comes back. Then seat 0 gives back the one
-/// that it has, so that the caller of seat 1 comes back.
+/// Tries to cancel both calls. Only the call of seat 2 may be cancelled, so its caller comes back. Then seat 0 gives back the
+/// one that it has, so that the caller of seat 1 comes back.
 fn end_both<P: Drop, O: Shared<P> + Drop, R: Threads + Wait + Clock + Print>(
     rt: &R,
     stage: &mut Stage<P, O>,
@@ -70,7 +71,7 @@ fn end_both<P: Drop, O: Shared<P> + Drop, R: Threads + Wait + Clock + Print>(
     Ok(())
 }
 
-/// Seat 0 has the one that there is. Seats 1 and 2 wait for it, and both of their calls are to be cancelled.
+/// Seat 0 has the only one. Seats 1 and 2 wait for it, and both their calls are to be cancelled.
 pub(crate) fn play<
     P: Send + Drop + 'static,
     O: Shared<P> + Send + Sync + Drop + 'static,
@@ -89,7 +90,7 @@ pub(crate) fn play<
     end_both(&rt, stage)
 }
 
-/// An allocator of one, and three seats, each in a thread of its own.
+/// Plays the scene on an allocator of one with three seats, each in a thread of its own.
 pub(crate) fn run<
     R: Threads + Wait + Clock + CpuClock + Print + AllocGlobal + Copy + Send + 'static,
 >(rt: R) -> io::Result<()> {

@@ -1,4 +1,5 @@
-//! A unit of which a call that waits lets others go.
+// SPDX-License-Identifier: MIT
+//! A unit in which a waiting call lets others go. In Ada it would be:
 //!
 //! ```ada
 //! protected type Company is
@@ -40,7 +41,7 @@ const ENTRY: Decl = Decl {
     high: 0,
 };
 
-/// A unit without data: its calls on `Wait` are let go by a call that waits on `Stay` (9.9).
+/// A unit without data: a call that waits on `Stay` lets the calls on `Wait` go (9.9).
 #[derive(Drop)]
 pub(crate) struct Company {}
 
@@ -83,14 +84,14 @@ impl Unit for Company {
         Outcome::Complete(v)
     }
 
-    /// There is no procedure to call, so this says of any number what the meaning does: nothing changes.
+    /// There is no procedure to call, so for any number this does what the meaning says: nothing changes.
     fn procedure(&mut self, _op: u16, v: u64, _counts: &[u64]) -> Result<u64, u32>
         ensures { (self.new, result) ≡ company_meaning.procedure self.old _op v _counts.now }
     {
         Ok(v)
     }
 
-    /// There is no function to call, so this says of any number what the meaning does.
+    /// There is no function to call, so for any number this does what the meaning says.
     fn function(&self, _op: u16, v: u64, _counts: &[u64]) -> Result<u64, u32>
         ensures { result ≡ company_meaning.function self.now _op v _counts.now }
     {
@@ -112,7 +113,7 @@ impl Unit for Company {
     ghost equality = { Prim.search rules };
 }
 
-/// The unit, on which nobody has called.
+/// Makes the unit, on which no one has called.
 pub(crate) fn make_company(alloc: Global) -> Result<Made<Company>, AllocError> {
     let shape = Shape::new(alloc, &[ENTRY, ENTRY]).map_err(|_| AllocError)?;
     Ok((Company {}, shape))

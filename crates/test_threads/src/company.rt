@@ -1,4 +1,5 @@
-//! A call that lets sleepers go and waits itself: one command queues it and ends six others, whose callers are woken.
+// SPDX-License-Identifier: MIT
+//! A call that lets sleepers go and waits itself: one command queues it and ends six other calls, whose callers are woken.
 
 use crate::companies::{STAY, WAIT, make_company};
 use crate::scenes::Scene;
@@ -12,7 +13,7 @@ use std::sync::Wait;
 use std::thread::Threads;
 use std::time::{Clock, CpuClock};
 
-/// How many callers wait for company: more than the four that are woken once the lock is left.
+/// How many callers wait for company: more than the four that are woken after the lock is left.
 const WAITERS: u64 = 6;
 
 /// The seat of the caller that stays.
@@ -21,7 +22,7 @@ const STAYING: u16 = 6;
 /// One seat for each caller.
 const SEATS: u16 = 7;
 
-/// Six callers sleep in Wait. A seventh calls Stay, and waits until its call is cancelled; the six come back before.
+/// Six callers sleep in Wait. A seventh calls Stay, and waits until its call is cancelled; the six come back before that.
 pub(crate) fn play<
     P: Send + Drop + 'static,
     O: Shared<P> + Send + Sync + Drop + 'static,
@@ -42,7 +43,7 @@ pub(crate) fn play<
     stage.gather(&rt, "came back", WAITERS + 1)
 }
 
-/// Plays the scene on an object of each kind, on which nobody has called.
+/// Plays the scene on an object of each kind, on which no one has called.
 pub(crate) fn run<
     R: Threads + Wait + Clock + CpuClock + Print + AllocGlobal + Copy + Send + 'static,
 >(rt: R) -> io::Result<()> {

@@ -1,3 +1,4 @@
+// SPDX-License-Identifier: MIT
 //! A history that is cut while many callers add to it: all receipts agree with its volumes, which are in order.
 
 use crate::shared::Shared;
@@ -5,7 +6,7 @@ use crate::stage::Stage;
 use crate::team::Team;
 use crate::threads::Work;
 use po_core::{Refusal, Volume};
-use po_object::{Closed, ReconcileFault, reconcile};
+use po_object::{Closed, ReconcileError, reconcile};
 use po_unit::Unit;
 use std::alloc::AllocError;
 use std::io::{self, Print};
@@ -21,10 +22,10 @@ const CALLS: u64 = 10_000;
 /// How often the history is cut.
 const CUTS: u64 = 100;
 
-/// After so many calls it is cut again.
+/// After how many calls it is cut again.
 const STEP: u64 = 790;
 
-/// Cuts the history each time that so many more calls are answered.
+/// Cuts the history each time that `STEP` more calls are answered.
 fn cut_beside<P, O: Shared<P>, R: Wait>(
     rt: &R,
     object: &O,
@@ -59,7 +60,7 @@ pub(crate) fn play<
     }
 }
 
-/// Whether an exchange with the volume before it leaves a gap where that one begins, if that one has events.
+/// Returns whether an exchange with the volume before it leaves a gap at the beginning of that volume, if it has events.
 fn gap_is_found<U: Unit<Value = u64>>(
     closed: &Closed<U>,
     volumes: &mut Vec<Volume<u64>>,
@@ -75,10 +76,10 @@ fn gap_is_found<U: Unit<Value = u64>>(
     volumes.swap(later - 1, later);
     let verdict = reconcile(closed, volumes.as_slice());
     volumes.swap(later - 1, later);
-    verdict == Err(ReconcileFault::Gap { place })
+    verdict == Err(ReconcileError::Gap { place })
 }
 
-/// Prints what the comparison says with the volumes in order, and in each order in which two neighbours are exchanged.
+/// Prints what the comparison says for the volumes in order, and in each order in which two neighbours are exchanged.
 pub(crate) fn print_orders<U: Unit<Value = u64>, R: Print>(
     rt: &R,
     closed: &Closed<U>,

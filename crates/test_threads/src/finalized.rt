@@ -1,4 +1,5 @@
-//! An object that is finalized while callers sleep: each of them is told, and nobody calls it any more.
+// SPDX-License-Identifier: MIT
+//! An object that is finalized while callers sleep: each of them is told, and no one can call it any more.
 
 use crate::buffers::{GET, PUT, buffer};
 use crate::scenes::{NOT_CLOSED, Scene};
@@ -21,7 +22,7 @@ const WAITERS: u64 = 8;
 /// One seat for each of them, and one more.
 const SEATS: u16 = 9;
 
-/// Eight callers wait, and the object is finalized; a ninth calls it then.
+/// Eight callers wait, and the object is finalized. Then a ninth calls it.
 pub(crate) fn play<
     P: Send + Drop + 'static,
     O: Shared<P> + Send + Sync + Drop + 'static,
@@ -36,17 +37,18 @@ pub(crate) fn play<
     stage.gather(&rt, "Program_Error", WAITERS)
 }
 
-/// Whether all receipts agree with the history, which has then the law of a buffer that was new.
+/// Returns whether all receipts agree with the history and the buffer was new, so that the history has the buffer's law.
 fn is_lawful(closed: &Closed<Buffer>) -> bool {
     if reconcile(closed, &[]).is_err() || !closed.core().opening().is_new() {
         return false;
     }
+    // Only for the prover: states what then holds of the answers and of the history.
     every_answer(closed, &[]);
     buffer_law(closed.core(), &[]);
     true
 }
 
-/// A buffer for one value, which nobody puts.
+/// Plays the scene on a buffer for one value, into which no one puts any.
 pub(crate) fn run<
     R: Threads + Wait + Clock + CpuClock + Print + AllocGlobal + Copy + Send + 'static,
 >(rt: R) -> io::Result<()> {

@@ -1,6 +1,7 @@
-//! A caller that waits holds nothing: another thread sees its call in the queue, and lets it go.
+// SPDX-License-Identifier: MIT
+//! A waiting caller holds nothing: another thread sees its call in the queue, and lets it go.
 //!
-//! A held lock would be seen: the call that waits is found from another thread, which then lets it go.
+//! If it held the lock, that would show: the other thread could neither find the waiting call nor let it go.
 
 use crate::buffers::{GET, PUT};
 use crate::shared::Shared;

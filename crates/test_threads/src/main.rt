@@ -1,7 +1,8 @@
+// SPDX-License-Identifier: MIT
 //! A program for the gate: objects that several threads use at once, runs of many threads, and their reports.
 //!
-//! What is printed is the same whatever the threads' schedule is. Each scene ends by closing its object; where the object
-//! keeps its history, the receipts of all callers are compared with it.
+//! The output is the same for every schedule of the threads. Each scene ends by closing its object; if the object keeps its
+//! history, the receipts of all callers are compared with it.
 #![tactic(auto)]
 
 mod answers;

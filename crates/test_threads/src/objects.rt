@@ -1,9 +1,10 @@
+// SPDX-License-Identifier: MIT
 //! Objects of both kinds: what the tests ask of them, and how a scene is played on one.
 
 use crate::scenes::{Scene, play};
 use crate::shared::Shared;
 use crate::stage::Stage;
-use po_core::{Aborted, End, Record, Refusal, Volume};
+use po_core::{Attempt, End, Record, Refusal, Volume};
 use po_object::{CallLedger, Closed, Object, Pass, Receipts, Story};
 use po_unit::{EntryRef, Unit};
 use std::io::{self, Print};
@@ -12,16 +13,16 @@ use std::sync::ledger::Ledger;
 use std::thread::Threads;
 use std::time::{Clock, CpuClock};
 
-/// What an object keeps of what has happened, which is cut where that is its history.
+/// What an object keeps of the past. If that is its history, it can be cut.
 pub(crate) trait Kept<U: Unit<Value = u64>>: Record<U> + Drop {
-    /// Cuts the history, where the object keeps one.
+    /// Cuts the history, if the object keeps one.
     fn cut_history<C: Story<U, u64>, L: Ledger, F: Ledger, Q: Receipts<u64>, W: Wait>(
         rt: &W,
         object: &Object<U, C, L, F, Self, Q>,
     ) -> Result<Option<Volume<u64>>, Refusal>;
 }
 
-/// The receipts of a pass, which are printed where they are in memory.
+/// The receipts of a pass, which are printed if they are in memory.
 pub(crate) trait Shown: Receipts<u64> {
     /// Prints what the pass keeps of its calls.
     fn print_pass<C: CallLedger<u64>, L: Ledger, F: Ledger, W: Print>(
@@ -73,8 +74,8 @@ impl<U: Unit<Value = u64>, C: Story<U, u64>, L: Ledger, F: Ledger, R: Kept<U>, Q
         self.tick(rt, time)
     }
 
-    fn cancel_seat<W: Wait>(&self, rt: &W, seat: u16) -> Result<Aborted, Refusal> {
-        self.abort_seat(rt, seat)
+    fn cancel_seat<W: Wait>(&self, rt: &W, seat: u16) -> Result<Attempt, Refusal> {
+        self.cancel_seat(rt, seat)
     }
 
     fn end_all<W: Wait>(&self, rt: &W) -> Result<(), Refusal> {
@@ -101,7 +102,7 @@ pub(crate) struct Shelf<U: Unit<Value = u64> + Drop, R: Record<U>, Q: Receipts<u
     pub(crate) volumes: Vec<Volume<u64>>,
 }
 
-/// Closes the object with all passes that are here, or gives none where one is missing or a thread still has the object.
+/// Closes the object with all passes that are here. Returns `None` if one is missing or a thread still has the object.
 fn close<
     U: Unit<Value = u64> + Drop,
     C: Story<U, u64>,

@@ -1,4 +1,5 @@
-//! Objects that keep their history: what they show, and how a scene is played on one.
+// SPDX-License-Identifier: MIT
+//! Objects that keep their history: what is printed of them, and how a scene is played on one.
 
 ghost use Rattle.std.specs.Prelude.{◌≡◌, ◌+◌, false, [], Some};
 ghost use Rattle.po_object.specs.Stories.{IsStory};
@@ -72,7 +73,7 @@ fn open_and_close<
 /// What is left of an object that keeps its history.
 pub(crate) type RecordedShelf<U> = Shelf<U, Recorded<U>, Vec<Receipt<u64>>>;
 
-/// Plays the scene with an object of so many seats. Gives what is left of the object, or none where it wasn't opened or not
+/// Plays the scene with an object of `seats` seats. Returns what is left of the object, or `None` if it wasn't opened or not
 /// closed.
 pub(crate) fn perform<
     U: Unit<Value = u64> + Send + Sync + Drop + 'static,

@@ -1,13 +1,14 @@
-//! Reports made by hand, and sinks that don't take all of a line.
+// SPDX-License-Identifier: MIT
+//! Reports made by hand, and sinks that don't take a whole line.
 
 use crate::sinks::Narrow;
-use po_object::{Agreed, ReconcileFault};
+use po_object::{Agreed, ReconcileError};
 use po_streams::OverStd;
 use po_stress::{Report, Totals};
 use std::io::{self, Print, Write};
 
-/// A report with this verdict.
-fn report(verdict: Result<Agreed, ReconcileFault>) -> Report {
+/// Returns a report with this verdict.
+fn report(verdict: Result<Agreed, ReconcileError>) -> Report {
     Report {
         issued: 3,
         completed: 1,
@@ -17,7 +18,7 @@ fn report(verdict: Result<Agreed, ReconcileFault>) -> Report {
     }
 }
 
-/// Prints what a sink takes of a report's line, where it has room for so many bytes, and what `write` answers.
+/// Prints what a sink takes of a report's line if it has room for `room` bytes, and what `write` answers.
 fn print_line<R: Print + AllocGlobal>(
     rt: &R,
     report: &Report,
@@ -30,7 +31,7 @@ fn print_line<R: Print + AllocGlobal>(
     println!(rt; "{answer:?}")
 }
 
-/// Prints the line of numbers that don't agree: two calls ended of three that were issued.
+/// Prints the line of numbers that don't agree: three calls were issued, and two of them ended.
 fn print_difference<R: Print>(rt: &R) -> io::Result<()> {
     let totals = Totals {
         issued: 3,
@@ -48,13 +49,13 @@ pub(crate) fn print_all<R: Print + AllocGlobal>(rt: &R) -> io::Result<()> {
     print_line(rt, &agreed, 1000, true)?;
     print_line(
         rt,
-        &report(Err(ReconcileFault::Mismatch { seat: 1, place: 0 })),
+        &report(Err(ReconcileError::Mismatch { seat: 1, place: 0 })),
         1000,
         true,
     )?;
     print_line(
         rt,
-        &report(Err(ReconcileFault::Gap { place: 5 })),
+        &report(Err(ReconcileError::Gap { place: 5 })),
         1000,
         true,
     )?;

@@ -1,11 +1,12 @@
-//! Runs whose report isn't one line: races, and one with a thread too many.
+// SPDX-License-Identifier: MIT
+//! Runs whose report isn't just one line: races, and a run with one thread too many.
 
-use po_stress::{Progress, StressFault, StressUnit, stress, stress_bounded};
+use po_stress::{Progress, StressError, StressUnit, stress, stress_bounded};
 use std::io::{self, Print};
 use std::sync::{Arc, Wait};
 use std::thread::Threads;
 
-/// Prints a race of eight threads, whose calls complete or are cancelled as it happens, but are 800 together.
+/// Prints a race of eight threads. How many calls complete or are cancelled depends on the schedule, but together they are 800.
 fn print_race<R: Threads + Wait + Print + AllocGlobal + Copy + Send + 'static>(
     rt: R,
 ) -> io::Result<()> {
@@ -38,7 +39,7 @@ fn print_bounded_race<R: Threads + Wait + Print + AllocGlobal + Copy + Send + 's
     }
 }
 
-/// Prints what is said of a number of threads that isn't even.
+/// Prints what is said about an odd number of threads.
 fn print_odd<R: Threads + Wait + Print + AllocGlobal + Copy + Send + 'static>(
     rt: R,
     unit: StressUnit,
@@ -58,5 +59,5 @@ pub(crate) fn print_all<R: Threads + Wait + Print + AllocGlobal + Copy + Send + 
     print_odd(rt, StressUnit::Buffer)?;
     print_odd(rt, StressUnit::Race)?;
     print_odd(rt, StressUnit::Allocator)?;
-    println!(rt; "{}", StressFault::OutOfMemory)
+    println!(rt; "{}", StressError::OutOfMemory)
 }

@@ -1,4 +1,5 @@
-//! The scenes: what is done with an object, from its opening to its closing, whether it keeps its history or not.
+// SPDX-License-Identifier: MIT
+//! The scenes: what is done with an object from its opening to its closing, whether it keeps its history or not.
 
 use crate::shared::Shared;
 use crate::stage::Stage;
@@ -13,14 +14,14 @@ use std::time::{Clock, CpuClock};
 /// A unit, and the shape of its entries.
 pub(crate) type Made<U> = (U, Shape);
 
-/// From where each object starts: calls from 1, events from 0, and no greatest length of a queue.
+/// The start of each object: calls are numbered from 1, events from 0, and queues may have any length.
 pub(crate) const START: Start = Start {
     first_number: 1,
     first_place: 0,
     max_queue: None,
 };
 
-/// What is printed of an object that can't be opened, or that a thread still has at the end.
+/// What is printed if an object can't be opened, or a thread still has it at the end.
 pub(crate) const NOT_CLOSED: &str = "not opened, or not closed";
 
 /// What is done with an object.
@@ -28,26 +29,26 @@ pub(crate) const NOT_CLOSED: &str = "not opened, or not closed";
 pub(crate) enum Scene {
     /// A caller waits, and another lets it go.
     HeldLock,
-    /// Two functions run side by side.
+    /// Two functions run at the same time.
     SideBySide,
-    /// The history is cut while many call.
+    /// The history is cut while many threads call.
     Cuts,
     /// The object is finalized while callers wait.
     Finalized,
-    /// Calls of others are to be cancelled.
+    /// A thread tries to cancel the calls of others.
     Cancelled,
     /// A call lets others go, and waits itself.
     Company,
     /// Callers wait a second time.
     SecondWait,
-    /// What one thread is answered.
+    /// One thread's answers.
     Answers,
-    /// Nothing but that the passes are turned around: the highest seat comes first.
+    /// Only the order of the passes is reversed: the highest seat comes first.
     Idle,
 }
 
 impl Scene {
-    /// How many threads start together.
+    /// Returns how many threads start together.
     pub(crate) fn together(self) -> usize {
         match self {
             Scene::SideBySide => 2,

@@ -1,4 +1,5 @@
-//! Callers whose calls wait a second time sleep again: they take next to no processor time.
+// SPDX-License-Identifier: MIT
+//! Callers whose calls wait a second time sleep again: they take hardly any processor time.
 
 use crate::buffers::{GET, PUT};
 use crate::shared::Shared;
@@ -16,11 +17,11 @@ const WAITERS: u64 = 8;
 /// One seat for each of them, and one more.
 pub(crate) const SEATS: u16 = 9;
 
-/// For how many milliseconds they are watched.
+/// For how many milliseconds the callers are watched.
 const REST: u64 = 1_000;
 
-/// How many milliseconds of processor time all of them together may take meanwhile. One that looks for the end of its call
-/// all the time takes more.
+/// How many milliseconds of processor time all of them together may take meanwhile. A caller that looked for the end of its
+/// call all the time would take more.
 const MOST: u128 = 500;
 
 /// Puts a value for each caller, and prints how many were put.
@@ -37,7 +38,7 @@ fn put_all<P: Drop, O: Shared<P> + Drop, R: Wait + Print>(
     println!(rt; "put {put}")
 }
 
-/// Prints whether the process takes next to no processor time for a second.
+/// Prints whether the process takes hardly any processor time for a second.
 fn print_rest<R: Clock + CpuClock + Print>(rt: &R) -> io::Result<()> {
     let before = rt.process_cpu_time()?;
     thread::sleep(rt, Duration::from_millis(REST));
@@ -48,7 +49,7 @@ fn print_rest<R: Clock + CpuClock + Print>(rt: &R) -> io::Result<()> {
     )
 }
 
-/// Eight callers get a value, for which they wait, and then wait for a second one.
+/// Eight callers get a value each, for which they wait, and then wait for a second one.
 pub(crate) fn play<
     P: Send + Drop + 'static,
     O: Shared<P> + Send + Sync + Drop + 'static,

@@ -1,4 +1,5 @@
-//! Functions run side by side: two of them, each of which waits for the other, both end.
+// SPDX-License-Identifier: MIT
+//! Functions run side by side: two of them wait for each other, and both end.
 
 use crate::scenes::{Made, Scene};
 use crate::shared::Shared;
@@ -12,14 +13,14 @@ use std::sync::{Arc, Wait};
 use std::thread::Threads;
 use std::time::{Clock, CpuClock};
 
-/// A unit that writes on this board.
+/// Makes a unit that writes on this board.
 fn signs(alloc: Global, board: &Arc<Board>) -> Result<Made<Signs>, AllocError> {
     let unit = Signs::new(Arc::try_clone(board)?);
     let shape = unit.shape(alloc).map_err(|_| AllocError)?;
     Ok((unit, shape))
 }
 
-/// Two threads leave the line together, and call the function with 0 and 1.
+/// Two threads start together, and call the function with 0 and 1.
 pub(crate) fn play<
     P: Send + Drop + 'static,
     O: Shared<P> + Send + Sync + Drop + 'static,
@@ -32,7 +33,8 @@ pub(crate) fn play<
     println!(rt; "functions answered {}", stage.team.answered())
 }
 
-/// Functions that excluded each other would be seen: the one that came first couldn't note that it saw the other.
+/// Plays the scene. If functions excluded each other, that would show: the one that came first couldn't note that it saw the
+/// other.
 pub(crate) fn run<
     R: Threads + Wait + Clock + CpuClock + Print + AllocGlobal + Copy + Send + 'static,
 >(rt: R) -> io::Result<()> {

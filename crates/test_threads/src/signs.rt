@@ -1,16 +1,17 @@
-//! A unit whose function waits for another call of it, so that it shows whether functions run side by side.
+// SPDX-License-Identifier: MIT
+//! A unit whose function waits for another call of it, which shows whether functions run side by side.
 
 ghost use Rattle.std.specs.Prelude.{◌≡◌, ◌<◌};
 ghost use Rattle.test_threads.specs.Signs.{signs_meaning};
 
 use crate::team::TURNS;
-use po_unit::{Outcome, Shape, ShapeFault, Unit};
+use po_unit::{Outcome, Shape, ShapeError, Unit};
 use std::alloc::{AllocError, Global};
 use std::marker::Model;
 use std::sync::Arc;
 use std::sync::atomic::{AtomicBool, Ordering};
 
-/// A flag that a function is there, and a note that it saw the other one's flag, each for the values 0 and 1.
+/// For each of the values 0 and 1, a flag that its function is there, and a note that it saw the other one's flag.
 #[derive(Drop)]
 pub(crate) struct Board {
     flags: [AtomicBool; 2],
@@ -18,7 +19,7 @@ pub(crate) struct Board {
 }
 
 impl Board {
-    /// A board on which nothing is set.
+    /// Returns a board on which nothing is set.
     pub(crate) fn new() -> Board {
         Board {
             flags: [AtomicBool::new(false), AtomicBool::new(false)],
@@ -26,7 +27,7 @@ impl Board {
         }
     }
 
-    /// Sets one's own flag, looks for the other one, and notes whether it was seen.
+    /// Sets its own flag, looks for the other one, and notes whether it saw it.
     fn meet(&self, own: usize, other: usize)
         requires { (own < 2) × (other < 2) }
     {
@@ -39,7 +40,7 @@ impl Board {
         }
     }
 
-    /// Which of the two saw the other.
+    /// Returns which of the two saw the other.
     pub(crate) fn notes(&self) -> [bool; 2] {
         [
             self.notes[0].load(Ordering::SeqCst),
@@ -48,8 +49,8 @@ impl Board {
     }
 }
 
-/// A unit without entries and procedures, whose data is constant. Its function gives back what it is given, once it has
-/// looked for the one that is given the other of the values 0 and 1.
+/// A unit without entries and procedures, whose data is constant. Its function returns the value that it is given, after it has
+/// looked for the function that is given the other of the values 0 and 1.
 #[derive(Drop)]
 pub(crate) struct Signs {
     board: Arc<Board>,
@@ -64,13 +65,13 @@ impl Model for Signs {
 }
 
 impl Signs {
-    /// The unit that writes on this board.
+    /// Makes the unit that writes on this board.
     pub(crate) fn new(board: Arc<Board>) -> Signs {
         Signs { board }
     }
 
-    /// The shape of no declarations.
-    pub(crate) fn shape(&self, alloc: Global) -> Result<Shape, ShapeFault> {
+    /// Returns the shape of no declarations.
+    pub(crate) fn shape(&self, alloc: Global) -> Result<Shape, ShapeError> {
         Shape::new(alloc, &[])
     }
 }
@@ -94,21 +95,21 @@ impl Unit for Signs {
         1
     }
 
-    /// There is no entry to ask for, so this says of any number what the meaning does: it is closed.
+    /// There is no entry to ask for, so for any number this does what the meaning says: it is closed.
     fn barrier(&self, _e: u16, _counts: &[u64]) -> Result<bool, u32>
         ensures { result ≡ signs_meaning.barrier self.now _e _counts.now }
     {
         Ok(false)
     }
 
-    /// There is no entry to call, so this says of any number what the meaning does: nothing changes.
+    /// There is no entry to call, so for any number this does what the meaning says: nothing changes.
     fn body(&mut self, _e: u16, v: u64, _counts: &[u64]) -> Outcome<u64>
         ensures { (self.new, result) ≡ signs_meaning.body self.old _e v _counts.now }
     {
         Outcome::Complete(v)
     }
 
-    /// There is no procedure to call, so this says of any number what the meaning does: nothing changes.
+    /// There is no procedure to call, so for any number this does what the meaning says: nothing changes.
     fn procedure(&mut self, _op: u16, v: u64, _counts: &[u64]) -> Result<u64, u32>
         ensures { (self.new, result) ≡ signs_meaning.procedure self.old _op v _counts.now }
     {

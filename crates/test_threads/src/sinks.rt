@@ -1,11 +1,12 @@
-//! A sink that has room for so many bytes.
+// SPDX-License-Identifier: MIT
+//! A sink with room for a limited number of bytes.
 
 ghost use Rattle.std.specs.Prelude.{◌≡◌, false};
 
 use po_streams::{IoFailed, Sink};
 use std::alloc::Global;
 
-/// Takes one byte a call, has room for so many, and then fails or takes none.
+/// A sink that takes one byte a call, has room for `room` of them, and then fails or takes none.
 #[derive(Drop)]
 pub(crate) struct Narrow {
     pub(crate) bytes: Vec<u8>,
@@ -16,7 +17,7 @@ pub(crate) struct Narrow {
 }
 
 impl Narrow {
-    /// An empty one.
+    /// Returns an empty sink.
     pub(crate) fn new(alloc: Global, room: usize, fails: bool) -> Narrow {
         Narrow {
             bytes: Vec::new(alloc),

@@ -1,3 +1,4 @@
+// SPDX-License-Identifier: MIT
 //! An object that threads share, from its opening to its closing.
 
 use crate::shared::Shared;
@@ -10,8 +11,8 @@ use std::sync::{Arc, Wait};
 use std::thread::{JoinHandle, Threads};
 use std::time::Clock;
 
-/// A shared object with the passes that no thread has, those that came back last behind the others, the threads that have
-/// the rest, what these share beside the object, and the volumes that were cut off from the history, in their order.
+/// A shared object; the passes that no thread has, with those that came back last at the end; the threads that have the other
+/// passes; what these share besides the object; and the volumes that were cut off from the history, in order.
 #[derive(Drop)]
 pub(crate) struct Stage<P: Drop, O: Drop> {
     pub(crate) object: Arc<O>,
@@ -21,7 +22,7 @@ pub(crate) struct Stage<P: Drop, O: Drop> {
     threads: Vec<JoinHandle<P>>,
 }
 
-/// The object with its passes and volumes, when no thread has it any more.
+/// The object with its passes and volumes, after no thread has it any more.
 #[derive(Drop)]
 pub(crate) struct Left<P: Drop, O: Drop> {
     pub(crate) object: O,
@@ -30,7 +31,7 @@ pub(crate) struct Left<P: Drop, O: Drop> {
 }
 
 impl<P: Drop, O: Drop> Stage<P, O> {
-    /// An object with its passes, for threads so many of which start together.
+    /// Returns an object with its passes, for threads of which `together` start together.
     pub(crate) fn new(
         alloc: Global,
         object: O,
@@ -46,7 +47,7 @@ impl<P: Drop, O: Drop> Stage<P, O> {
         })
     }
 
-    /// The object, or none where a thread still has it.
+    /// Returns what is left, or `None` if a thread still has the object.
     pub(crate) fn leave(self) -> Option<Left<P, O>> {
         let Stage {
             object,
@@ -65,7 +66,7 @@ impl<P: Drop, O: Drop> Stage<P, O> {
         })
     }
 
-    /// Waits for the end of the thread that was started last, if there is one, and takes its pass back.
+    /// Waits for the end of the latest thread, if there is one, and takes its pass back.
     pub(crate) fn join<R: Threads>(&mut self, rt: &R) -> Result<(), AllocError> {
         if let Some(thread) = self.threads.pop() {
             self.passes.push(thread.join(rt))?;
@@ -81,7 +82,7 @@ impl<P: Drop, O: Drop> Stage<P, O> {
         Ok(())
     }
 
-    /// Prints how many calls had their answers: so many, or fewer where more aren't seen to come. Says whether all had.
+    /// Prints how many calls had their answers: `calls`, or fewer if no more are seen to come. Returns whether all had.
     pub(crate) fn print_answered<R: Clock + Print>(
         &self,
         rt: &R,
@@ -93,7 +94,7 @@ impl<P: Drop, O: Drop> Stage<P, O> {
         Ok(all)
     }
 
-    /// The same, and where all had, takes the passes of all threads back.
+    /// Does the same, and if all had, takes the passes of all threads back.
     pub(crate) fn gather<R: Threads + Clock + Print>(
         &mut self,
         rt: &R,
@@ -130,8 +131,8 @@ impl<P: Drop, O: Shared<P> + Drop> Stage<P, O> {
         self.object.run_procedure(rt, pass, op, value)
     }
 
-    /// Once so many calls in all have their answers, takes back the pass of the thread that was started last, and prints what
-    /// it keeps of its calls. Says whether they had.
+    /// Once `calls` calls in all have their answers, takes back the pass of the latest thread, and prints what it keeps of its
+    /// calls. Returns whether they had.
     pub(crate) fn come_back<R: Threads + Clock + Print>(
         &mut self,
         rt: &R,
@@ -168,7 +169,7 @@ impl<P: Send + Drop + 'static, O: Shared<P> + Send + Sync + Drop + 'static> Stag
         Ok(())
     }
 
-    /// Starts so many threads that do the work.
+    /// Starts `threads` threads that do the work.
     pub(crate) fn start_all<R: Threads + Wait + Copy + Send + 'static>(
         &mut self,
         rt: R,

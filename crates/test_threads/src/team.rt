@@ -1,20 +1,21 @@
-//! What threads share beside their object.
+// SPDX-License-Identifier: MIT
+//! What threads share besides their object.
 
 use std::sync::Barrier;
 use std::sync::atomic::{AtomicU64, Ordering};
 use std::thread;
 use std::time::{Clock, Duration};
 
-/// How often something is looked for before it is given up, where nobody sleeps between two looks.
+/// How often a thread looks for something before it gives up, without sleeping between two looks.
 pub(crate) const TURNS: u64 = 100_000_000;
 
-/// How often it is looked whether calls wait or are answered, before that is given up: for ten seconds.
+/// How often a thread looks whether calls wait or are answered before it gives up: for ten seconds.
 pub(crate) const LOOKS: u32 = 10_000;
 
-/// How long it is slept between two of these looks, in milliseconds.
+/// How long it sleeps between two of these looks, in milliseconds.
 pub(crate) const PAUSE: u64 = 1;
 
-/// The line from which threads start together, and how many of their calls had the answer that they were to have.
+/// The line from which threads start together, and how many of their calls had the answer that they should have.
 #[derive(Drop)]
 pub(crate) struct Team {
     pub(crate) line: Barrier,
@@ -22,7 +23,7 @@ pub(crate) struct Team {
 }
 
 impl Team {
-    /// A team that starts when so many threads have come to the line.
+    /// Returns a team that starts when `threads` threads have come to the line.
     pub(crate) fn new(threads: usize) -> Team {
         Team {
             line: Barrier::new(threads),
@@ -30,17 +31,17 @@ impl Team {
         }
     }
 
-    /// Counts a call that had the answer that it was to have.
+    /// Counts a call that had the answer that it should have.
     pub(crate) fn count(&self) {
         self.answered.fetch_add(1, Ordering::SeqCst);
     }
 
-    /// How many calls had the answer that they were to have.
+    /// Returns how many calls had the answer that they should have.
     pub(crate) fn answered(&self) -> u64 {
         self.answered.load(Ordering::SeqCst)
     }
 
-    /// Waits until so many calls are answered, but not for ever.
+    /// Waits until `calls` calls are answered, but not for ever.
     pub(crate) fn wait_for(&self, calls: u64) {
         for _ in 0..TURNS {
             if self.answered() >= calls {
@@ -50,7 +51,7 @@ impl Team {
         }
     }
 
-    /// Whether so many calls are answered within ten seconds.
+    /// Returns whether `calls` calls are answered within ten seconds.
     pub(crate) fn sees_answered<R: Clock>(&self, rt: &R, calls: u64) -> bool {
         for _ in 0..LOOKS {
             if self.answered() >= calls {

@@ -1,3 +1,4 @@
+// SPDX-License-Identifier: MIT
 //! The threads that use an object.
 
 use crate::shared::Shared;
@@ -9,27 +10,31 @@ use std::sync::{Arc, Wait};
 use std::thread::{self, JoinHandle, Threads};
 use std::time::{Clock, Duration};
 
-/// How many milliseconds callers that wait are given to fall asleep: they look for the ends of their calls a hundred times
-/// first.
+/// How many milliseconds waiting callers are given to fall asleep. Before they do, they look for the ends of their calls a
+/// hundred times.
 const UNTIL_ASLEEP: u64 = 100;
 
 /// What a thread does once its team starts.
 #[derive(Clone, Copy)]
 pub(crate) enum Work {
-    /// Calls this single entry so often, with the values from 0 on; each call is to complete.
+    /// Call this single entry the given number of times, with the values from 0 on; each call should complete.
     Calls(u16, u64),
-    /// Calls this single entry once, with this value; the call is to end so.
+    /// Call this single entry once, with this value; the call should end in this way.
     Call(u16, u64, End<u64>),
-    /// Calls the function with this value, which is to give it back.
+    /// Call the function with this value, which it should give back.
     Function(u64),
 }
 
-/// The single entry with this number.
+/// Returns the single entry with this number.
 pub(crate) fn single(entry: u16) -> EntryRef {
-    EntryRef { entry, index: None }
+    EntryRef {
+        declaration: entry,
+        index: None,
+    }
 }
 
-/// Whether so many calls are seen to wait on the entry within ten seconds. Then their callers are let fall asleep.
+/// Returns whether `calls` calls are seen to wait on the entry within ten seconds. If so, it first gives their callers time to
+/// fall asleep.
 pub(crate) fn sees_waiting<P, O: Shared<P>, R: Clock>(
     rt: &R,
     object: &O,
@@ -46,7 +51,7 @@ pub(crate) fn sees_waiting<P, O: Shared<P>, R: Clock>(
     false
 }
 
-/// Does the work, counts what was answered as it should be, and gives the pass back.
+/// Does the work, counts the answers that were as they should be, and gives the pass back.
 fn carry_out<P, O: Shared<P>, R: Wait>(
     rt: &R,
     object: &O,

@@ -1,13 +1,14 @@
 #!/usr/bin/env bash
+# SPDX-License-Identifier: MIT
 # Carries out scripts by two programs, and compares what they write: `script` of this folder, over the engine, and `pobj_run`,
 # which is proved to write what docs/SCRIPTS.md says. The scripts are those of examples/, cases/ and comparison/differences/,
-# and N random ones of the SEED (200 of the seed 1, where nothing is said).
+# and N random ones of the SEED (by default 200 of seed 1).
 #
 #     gcc -std=c11 -O2 -Iinclude -o script bindings/c/tests/scripts/*.c libpobj.a
 #     bindings/c/tests/scripts/compare.sh ./script crates/pobj_run/out/pobj_run 10000
 #
-# The last line is 'N passed, M failed, K skipped', and the exit status tells. Skipped is a script that has a fault, or what
-# the engine hasn't: another service order than the textual one, or queues without room (max 0).
+# The last line is 'N passed, M failed, K skipped'. The exit status is 0 if none failed. A script is skipped if it has a fault,
+# or asks for something that the engine lacks: another service order than the textual one, or queues without room (max 0).
 set -u
 if [ $# -lt 2 ] || [ $# -gt 4 ]; then
   echo "usage: compare.sh SCRIPT_PROGRAM POBJ_RUN_PROGRAM [N [SEED]]" >&2
@@ -24,10 +25,10 @@ passed=0 failed=0 skipped=0
 
 # How long a program may compute for one script, in seconds.
 limit=5
-# What a script says that the engine hasn't.
+# What a script may ask for that the engine lacks.
 lacking='^ *unit .* (oldest|rotating)( |$)|^ *unit .* max +0+ *$'
 
-# Says what is wrong with the script.
+# Counts a failure, and says what is wrong with the script.
 fail() {
   failed=$((failed + 1))
   echo "$1: $2"
@@ -69,12 +70,12 @@ compare() {
   fi
 }
 
-# Whether it is a script: a case of the command line alone has no bytes, but its words beside it.
+# Whether it is a script: a case about the command line only is empty, and has its words in a file beside it.
 is_script() {
   [ -s "$1" ] || [ ! -e "${1%.pobj}.words" ]
 }
 
-# The random scripts are kept where something failed, so that they can be looked at.
+# Keeps the random scripts if something failed, so that they can be looked at.
 clean_up() {
   [ "$failed" -ne 0 ] || rm -rf "$scratch"
 }

@@ -1,4 +1,4 @@
-/* Reads the lines of a script. A reader takes its words off the rest of the line, and answers whether they have its form. */
+/* Reads the lines of a script. A reader takes its words off the rest of the line, and returns whether they have its form. */
 #include "language.h"
 
 #include <string.h>
@@ -12,7 +12,7 @@ bool text_is(text self, const char *name) {
     return self.length == strlen(name) && memcmp(self.at, name, self.length) == 0;
 }
 
-/* Takes so many bytes off the beginning. */
+/* Takes this many bytes off the beginning. */
 static text take(text *rest, size_t length) {
     const text taken = {rest->at, length};
     rest->at += length;
@@ -20,7 +20,7 @@ static text take(text *rest, size_t length) {
     return taken;
 }
 
-/* Takes what stands before the byte, or all where the byte isn't there. */
+/* Takes what is before the byte, or everything if the byte isn't there. */
 static text take_before(text *rest, char byte) {
     const char *found = rest->length == 0 ? NULL : memchr(rest->at, byte, rest->length);
     return take(rest, found == NULL ? rest->length : (size_t)(found - rest->at));
@@ -35,7 +35,7 @@ bool next_line(text *script, text *line) {
     return true;
 }
 
-/* Takes the next word; it has no bytes where there is none. */
+/* Takes the next word, which is empty if there is none. */
 static text next_word(text *rest) {
     while (rest->length > 0 && rest->at[0] == ' ') {
         take(rest, 1);
@@ -55,7 +55,7 @@ static bool is_letter(char byte) {
     return (byte >= 'a' && byte <= 'z') || (byte >= 'A' && byte <= 'Z');
 }
 
-/* Puts a digit behind the number, if 64 bits hold that. */
+/* Appends a digit to the number, if 64 bits hold the result. */
 static bool add_digit(uint64_t *number, char byte) {
     const uint64_t digit = (uint64_t)(byte - '0');
     if (!is_digit(byte) || *number > (UINT64_MAX - digit) / 10) {
@@ -86,7 +86,7 @@ static bool read_number(text *rest, uint64_t *number) {
     return number_of(next_word(rest), GREATEST_NUMBER_DIGITS, number);
 }
 
-/* What stands between the parentheses of an index. */
+/* Reads what is between the parentheses of an index. */
 static bool index_of(text word, int64_t *index) {
     const bool is_negative = word.length > 0 && word.at[0] == '-';
     uint64_t size = 0;
@@ -98,7 +98,7 @@ static bool index_of(text word, int64_t *index) {
     return *index >= lowest_index && *index <= greatest_index;
 }
 
-/* What stands behind the name of an entry: nothing, or an index in parentheses. */
+/* Reads what follows the name of an entry: nothing, or an index in parentheses. */
 static bool read_index(text behind, command *says) {
     if (behind.length == 0) {
         return true;
@@ -162,7 +162,7 @@ static bool read_size(text *rest, command *says) {
     return read_number(rest, &says->size) && says->size >= 1 && says->size <= UNIT_GREATEST_SIZE;
 }
 
-/* A word that names no order is left. */
+/* Takes a service order. A word that names none is left. */
 static void read_order(text *rest, command *says) {
     static const char *const names[] = {[TEXTUAL] = "textual", [OLDEST] = "oldest", [ROTATING] = "rotating"};
     text behind = *rest;
@@ -191,7 +191,7 @@ static bool read_unit(text *rest, command *says) {
     return read_longest(rest, says);
 }
 
-/* The first word of a line, what it says, and the reader of what stands behind it. */
+/* The first word of a line, the command it begins, and the reader of what follows. */
 typedef struct {
     const char *word;
     verb verb;
@@ -219,7 +219,7 @@ static const beginning *beginning_of(text word) {
     return NULL;
 }
 
-/* What a line says whose first word is this one. A unit is begun by the first command, and by no other. */
+/* Reads the command that begins with this word. The first command begins a unit, and no other does. */
 static bool read_command(text word, text rest, bool is_begun, command *says) {
     const beginning *found = beginning_of(word);
     if (found == NULL || (found->verb == SAYS_UNIT) == is_begun) {

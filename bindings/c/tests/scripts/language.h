@@ -20,7 +20,7 @@ typedef enum { SAYS_NOTHING, SAYS_UNIT, SAYS_CALL, SAYS_PROC, SAYS_FUNC, SAYS_CA
 /* Which entry is served first. */
 typedef enum { TEXTUAL, OLDEST, ROTATING } service_order;
 
-/* A command. What its verb doesn't speak of is zero. */
+/* A command. The parts that its verb doesn't use are zero. */
 typedef struct {
     verb verb;
     text name; /* of an entry, a procedure or a function */
@@ -39,10 +39,10 @@ typedef struct {
 /* Whether the text is this name. */
 bool text_is(text self, const char *name);
 
-/* Takes the next line, without its newline, off a script. False: there is none. */
+/* Takes the next line, without its newline, off a script. Returns false if there is none. */
 bool next_line(text *script, text *line);
 
-/* What the line says, where a unit is begun or isn't. False: it has a fault. */
+/* Reads the line, given whether a unit is begun. Returns false if it has a fault. */
 bool read_line(text line, bool is_begun, command *says);
 
 #endif

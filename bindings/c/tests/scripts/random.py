@@ -1,15 +1,16 @@
 #!/usr/bin/env python3
+# SPDX-License-Identifier: MIT
 """Writes random scripts over the eight units, with every command that the engine can carry out, into the files 00001.pobj,
 00002.pobj and so on of a folder: random.py FOLDER COUNT [SEED]. The same seed gives the same ones.
 
-Its numbers are its own. So they are the same in every version of Python, and nothing here needs the module `random`, which
-a file of this name hides."""
+It makes its own random numbers, so they are the same in every version of Python, and it doesn't need the module `random`,
+which a file of this name hides."""
 
 import os
 import sys
 
 SIZED = ("buffer", "meeting", "allocator")
-# Of each unit the entries that a script may call, and its procedure.
+# The entries of each unit that a script may call, and its procedure.
 ENTRIES = {
     "buffer": ("Put", "Get"),
     "signal": ("Wait",),
@@ -34,7 +35,7 @@ MASK = 2**64 - 1
 
 
 class Chance:
-    """Numbers by chance (SplitMix64)."""
+    """A source of random numbers (SplitMix64)."""
 
     def __init__(self, *seeds):
         self.state = 0
@@ -42,26 +43,26 @@ class Chance:
             self.state = (self.number() + seed) & MASK
 
     def number(self):
-        """A number of 64 bits."""
+        """Returns a number of 64 bits."""
         self.state = (self.state + 0x9E3779B97F4A7C15) & MASK
         mixed = ((self.state ^ (self.state >> 30)) * 0xBF58476D1CE4E5B9) & MASK
         mixed = ((mixed ^ (mixed >> 27)) * 0x94D049BB133111EB) & MASK
         return mixed ^ (mixed >> 31)
 
     def within(self, low, high):
-        """A number from low to high."""
+        """Returns a number from low to high."""
         return low + self.number() % (high - low + 1)
 
     def happens(self, percent):
-        """Whether something happens that does in so many of a hundred cases."""
+        """Returns true in this many of a hundred cases."""
         return self.within(0, 99) < percent
 
     def one_of(self, things):
-        """One of the things."""
+        """Returns one of the things."""
         return things[self.within(0, len(things) - 1)]
 
     def weighted(self, weights):
-        """One of the keys, each as often as its weight says."""
+        """Returns one of the keys, each as often as its weight says."""
         left = self.within(0, sum(weights.values()) - 1)
         for thing, weight in weights.items():
             if left < weight:
@@ -71,7 +72,7 @@ class Chance:
 
 
 class Script:
-    """A script in the making. Scripts differ in how often each command and each entry comes."""
+    """A script that is being made. Scripts differ in how often each command and each entry comes."""
 
     def __init__(self, chance):
         self.chance = chance
@@ -96,7 +97,7 @@ class Script:
         self.lines = [self.beginning()]
 
     def beginning(self):
-        """The line that makes the object."""
+        """Returns the line that makes the object."""
         words = ["unit", self.unit]
         if self.unit in SIZED:
             words.append(self.number(self.size))
@@ -107,11 +108,11 @@ class Script:
         return " ".join(words)
 
     def number(self, value):
-        """The number, seldom with zeros before it."""
+        """Returns the number as text, rarely with leading zeros."""
         return f"{value:020}" if self.chance.happens(1) else str(value)
 
     def value(self):
-        """A value that mostly says something to the unit."""
+        """Returns a value, mostly one that means something to the unit."""
         if self.chance.happens(3):
             return self.number(self.chance.one_of(GREAT))
         if self.unit == "allocator":
@@ -121,42 +122,42 @@ class Script:
         return self.number(self.chance.within(0, 99))
 
     def kind(self):
-        """The first words of a call."""
+        """Returns the first words of a call."""
         kind = self.chance.one_of(self.kinds)
         if kind != "timed":
             return kind
         return f"timed {self.number(max(0, self.clock + self.chance.one_of((-1, 0, 1, 1, 2, 2, 3, 9))))}"
 
     def call(self):
-        """A call of an entry."""
+        """Adds a call of an entry."""
         self.calls += 1
         self.lines.append(f"{self.kind()} {self.chance.weighted(self.entries)} {self.value()}")
 
     def procedure(self):
-        """A call of the procedure, where the unit has one."""
+        """Adds a call of the procedure, or of an entry if the unit has none."""
         if self.unit in PROCEDURES:
             self.lines.append(f"proc {PROCEDURES[self.unit]} {self.value()}")
         else:
             self.call()
 
     def cancel(self):
-        """An attempt to cancel one of the last calls, seldom of others."""
+        """Adds an attempt to cancel a call, mostly one of the last."""
         latest = max(0, self.calls - self.chance.one_of((0, 0, 0, 1, 1, 2, 3, 5)))
         number = self.chance.within(0, self.calls + 1) if self.chance.happens(10) else latest
         self.lines.append(f"cancel {self.number(number)}")
 
     def tick(self):
-        """A tick, seldom backwards."""
+        """Adds a tick, rarely backwards."""
         time = max(0, self.clock + self.chance.within(-1, 4))
         self.clock = max(self.clock, time)
         self.lines.append(f"tick {self.number(time)}")
 
     def look(self):
-        """A call of the function."""
+        """Adds a call of the function."""
         self.lines.append(f"func State {self.value()}")
 
     def strange(self):
-        """A command that is refused, or a line that says nothing."""
+        """Adds a command that is refused, or a line without one."""
         command = self.chance.one_of(
             (
                 f"{self.kind()} {self.chance.one_of(STRANGE_ENTRIES)} {self.value()}",
@@ -168,28 +169,28 @@ class Script:
         self.lines.append(command)
 
     def finalize(self):
-        """The end of the object, behind which each command is refused."""
+        """Adds the end of the object, after which each command is refused."""
         self.lines.append("final")
 
     def go_on(self):
-        """One command more, and perhaps what the queues are then."""
+        """Adds one more command, and perhaps a `show` of the queues."""
         self.chance.weighted(self.commands)()
         if self.chance.happens(self.shows):
             self.lines.append("show")
 
     def spaced(self, line):
-        """The line, seldom with more spaces than it needs."""
+        """Returns the line, rarely with more spaces than it needs."""
         return "  " + line.replace(" ", "  ") + " " if self.chance.happens(2) else line
 
     def text(self, length):
-        """So many lines."""
+        """Returns a script of this many lines."""
         while len(self.lines) < length:
             self.go_on()
         return "".join(f"{self.spaced(line)}\n" for line in self.lines[:length])
 
 
 def script(seed, place):
-    """The script at that place among those of the seed."""
+    """Returns the script at that place among those of the seed."""
     chance = Chance(seed, place)
     return Script(chance).text(chance.within(5, 60))
 

@@ -1,8 +1,8 @@
-/* Reads a script on standard input, and carries it out over the engine in one thread, as `pobj run` does. Statuses: 0 it was
-   carried out; 1 memory was wanting, a read or a write failed, or the engine answered what it may not; 77 the script has what
-   the engine hasn't, or a fault. Then nothing was written, and standard error says what it is.
+/* Reads a script on standard input, and carries it out over the engine in one thread, as `pobj run` does. Statuses: 0, it was
+   carried out; 1, memory ran out, a read or a write failed, or the engine gave an answer that it mustn't; 77, the script has a
+   fault, or asks for something that the engine lacks. Then nothing is written, and standard error says what it is.
 
-   What the engine hasn't is a service order other than the textual one, and a queue without room (max 0). */
+   The engine lacks service orders other than the textual one, and queues without room (max 0). */
 #include "language.h"
 
 #include <inttypes.h>
@@ -23,25 +23,25 @@ enum {
     FINALIZED = 7
 };
 
-/* A call, whether it waits or has ended. */
+/* A call, which waits or has ended. */
 typedef struct {
     uint64_t value;
     bool is_timed;
     uint64_t time;
     bool is_waiting;
-    size_t key; /* of its ticket while it waits, as the next line */
+    size_t key; /* of its ticket while it waits, like the next part */
     uint64_t ticket_number;
-    uint64_t arrival; /* how many calls had been queued when it was, this one counted */
-    uint64_t before;  /* the number of the call that was queued next before it, of those that wait; 0: none */
-    uint64_t behind;  /* the same of the one behind it */
+    uint64_t arrival; /* how many calls had been queued when it was, including this one */
+    uint64_t before;  /* the number of the waiting call that was queued last before it; 0: none */
+    uint64_t behind;  /* the same of the one queued next after it */
 } call;
 
-/* An object, and what its client has to know. */
+/* An object, and what its client keeps. */
 typedef struct {
     pobj_object object;
     pobj_step step;
     unit unit;
-    call *calls; /* by their numbers; number 0 stands before the first and behind the last one that waits */
+    call *calls; /* by their numbers; number 0 is both before the first that waits and after the last */
     uint64_t room;
     uint64_t next;
     uint64_t arrivals;
@@ -58,7 +58,7 @@ _Noreturn static void fail(const char *reason) {
     stop(EXIT_FAILURE, reason);
 }
 
-/* Memory for so many things of this size, with what was in the smaller one. */
+/* Enlarges memory to `count` things of this size, and keeps its contents. */
 static void *grown(void *memory, uint64_t count, size_t size) {
     void *larger = count > SIZE_MAX / size ? NULL : realloc(memory, (size_t)count * size);
     if (larger == NULL) {
@@ -77,14 +77,14 @@ static void make_room(session *self) {
     self->calls = grown(self->calls, self->room, sizeof *self->calls);
 }
 
-/* The number of a new call. */
+/* Makes a new call. Returns its number. */
 static uint64_t new_call(session *self, const command *says) {
     make_room(self);
     self->calls[self->next] = (call){.value = says->number, .is_timed = says->is_timed, .time = says->time};
     return self->next++;
 }
 
-/* The call of the last step is queued, with the ticket that the step has. */
+/* Notes that the last step's call is queued, with the step's ticket. */
 static void note_queued(session *self) {
     call *queued = &self->calls[self->step.caller];
     queued->is_waiting = true;
@@ -97,7 +97,7 @@ static void note_queued(session *self) {
     self->calls[0].before = self->step.caller;
 }
 
-/* The call doesn't wait any more, if it did. */
+/* Notes that the call doesn't wait any more, if it did. */
 static void note_gone(session *self, uint64_t number) {
     call *gone = &self->calls[number];
     if (!gone->is_waiting) {
@@ -112,7 +112,7 @@ static bool is_due(const session *self, const call *one) {
     return one->is_timed && one->time <= self->clock;
 }
 
-/* The number of the first call that waits and is due, of those that were queued behind this arrival; 0: there is none. */
+/* Returns the number of the first waiting call that is due and was queued after this arrival, or 0 if there is none. */
 static uint64_t first_due(const session *self, uint64_t arrival) {
     uint64_t number = self->calls[0].behind;
     while (number != 0 && !(self->calls[number].arrival > arrival && is_due(self, &self->calls[number]))) {
@@ -140,7 +140,7 @@ static void tell_completed(uint64_t number, unit_reply reply) {
     tell_reply("done ", reply);
 }
 
-/* ---- What the engine asks for, up to rest. */
+/* ---- What the engine asks for, until it answers rest. */
 
 static uint64_t barrier(const session *self, uint64_t entry) {
     return self->unit.kind->barrier(&self->unit, entry);
@@ -172,7 +172,7 @@ static uint64_t call_ended(session *self, const char *end) {
     return pobj_next(&self->object, &self->step);
 }
 
-/* Does what the engine answered, and gives what it answers next. */
+/* Does what the engine answered, and returns its next answer. */
 static uint64_t carry_on(session *self, uint64_t answer) {
     const uint64_t entry = pobj_entry_of(answer);
     switch (pobj_action_of(answer)) {
@@ -229,7 +229,7 @@ static void begin(session *self, const command *says) {
     unit_begin(&self->unit, says->kind, says->size, &self->object);
 }
 
-/* The declaration of the name, and the number of its first entry; NULL: there is none. */
+/* Returns the declaration of the name, and sets the number of its first entry. Returns NULL if there is none. */
 static const unit_declaration *declaration_of(const session *self, text name, uint64_t *first) {
     const unit_declaration *declared = self->unit.kind->declarations;
     for (*first = 0; declared->name != NULL; declared++) {
@@ -241,7 +241,7 @@ static const unit_declaration *declaration_of(const session *self, text name, ui
     return NULL;
 }
 
-/* Whether the declaration has an entry with this index, or with none. */
+/* Returns whether the declaration has an entry with this index, or without one. */
 static bool has_member(const session *self, const unit_declaration *declared, const command *says) {
     const uint64_t members = unit_members(declared, self->unit.size);
     if (!says->has_index) {
@@ -250,7 +250,7 @@ static bool has_member(const session *self, const unit_declaration *declared, co
     return says->index >= 1 && (uint64_t)says->index <= members;
 }
 
-/* The refusal of a call, or the number of its entry. */
+/* Returns the refusal of a call, or sets the number of its entry. */
 static unsigned find_entry(const session *self, const command *says, uint64_t *entry) {
     const unit_declaration *declared = declaration_of(self, says->name, entry);
     if (declared == NULL) {
@@ -283,7 +283,7 @@ static void issue(session *self, const command *says) {
     }
 }
 
-/* The refusal of a procedure or a function, where the unit has the one of this name, or none. */
+/* Returns the refusal of a procedure or a function. `name` is the unit's own, or NULL if it has none. */
 static unsigned operation_refusal(const session *self, const command *says, const char *name) {
     if (name == NULL || !text_is(says->name, name)) {
         return NO_SUCH_OPERATION;
@@ -310,7 +310,7 @@ static void call_function(session *self, const command *says) {
     tell_number("value ", self->unit.kind->state(&self->unit));
 }
 
-/* Tries to cancel a call that waits. False: it is kept. */
+/* Tries to cancel a call that waits. Returns false if it is kept. */
 static bool withdraw(session *self, uint64_t number, bool is_expired) {
     const call *waiting = &self->calls[number];
     const uint64_t came = pobj_cancel(&self->object, waiting->key, waiting->ticket_number, is_expired);
@@ -341,7 +341,8 @@ static void cancel(session *self, const command *says) {
     }
 }
 
-/* Cancels what is due, the call first that was queued first. What a cancellation lets go is served before the next one. */
+/* Cancels the calls that are due, in the order in which they were queued. Calls that a cancellation lets go are served before
+   the next one. */
 static void expire(session *self) {
     uint64_t number = first_due(self, 0);
     while (number != 0) {
@@ -372,7 +373,7 @@ static void finalize(session *self, const command *says) {
     drive(self, pobj_finalize(&self->object, &self->step));
 }
 
-/* A line for the entry, or for each member of the family, the first of which has this number. */
+/* Writes a line for the entry, or one for each member of the family, whose first has this number. */
 static void show_entries(session *self, const unit_declaration *declared, uint64_t first) {
     const uint64_t members = unit_members(declared, self->unit.size);
     if (members == 0) {
@@ -415,7 +416,7 @@ static void carry_out(session *self, const command *says) {
 
 /* ---- The script. */
 
-/* What the engine hasn't, or NULL. */
+/* Returns what the command needs and the engine lacks, or NULL. */
 static const char *lacking(const command *says) {
     if (says->order != TEXTUAL) {
         return "the engine has no other service order than the textual one";
@@ -423,7 +424,7 @@ static const char *lacking(const command *says) {
     return says->has_longest && says->longest == 0 ? "to the engine a limit of 0 is none" : NULL;
 }
 
-/* Whether a unit is begun behind the line. Ends the program where the line can't be carried out. */
+/* Checks a line. Returns whether a unit is begun after it. Ends the program if the line can't be carried out. */
 static bool judge(text line, bool is_begun) {
     command says;
     if (!read_line(line, is_begun, &says)) {
@@ -468,7 +469,7 @@ static void carry_out_all(text script) {
     session_ended(&self);
 }
 
-/* All of standard input, up to one byte more than a script may have. */
+/* Reads standard input, up to one byte more than a script may have. */
 static char *read_script(size_t *length) {
     const size_t most = (size_t)GREATEST_SCRIPT + 1;
     char *bytes = grown(NULL, most, 1);

@@ -3,7 +3,7 @@
 
 #include <string.h>
 
-/* The last declaration is followed by this one. */
+/* This follows the last declaration. */
 #define NO_DECLARATION {NULL, false, 0}
 
 static uint64_t open_if(bool condition) {
@@ -125,7 +125,7 @@ static uint64_t broadcast_state(const unit *self) {
     return self->broadcast.message;
 }
 
-/* The pulse: Signal lets all calls go that wait on Wait, and ends behind them, on Reset. */
+/* The pulse: Signal lets all calls on Wait go, and ends after them, on Reset. */
 
 enum { PULSE_WAIT, PULSE_SIGNAL, PULSE_RESET };
 
@@ -180,7 +180,7 @@ static uint64_t meeting_state(const unit *self) {
     return count(self, MEETING_WAIT);
 }
 
-/* The allocator: Request, with abort, and Claim, without, go on to Grant of the number that they ask for. */
+/* The allocator: Request, with abort, and Claim, without, requeue to the Grant of the number that they ask for. */
 
 enum { ALLOCATOR_REQUEST, ALLOCATOR_CLAIM, ALLOCATOR_GRANT };
 
@@ -196,7 +196,7 @@ static uint64_t allocator_state(const unit *self) {
     return self->size - self->allocator.taken;
 }
 
-/* How many the entry grants: Grant (1) is the first of its family. */
+/* Returns how many the entry grants: Grant (1) is the first of its family. */
 static uint64_t granted_by(uint64_t entry) {
     return entry - ALLOCATOR_GRANT + 1;
 }
@@ -229,7 +229,7 @@ static unit_reply allocator_release(unit *self, uint64_t value) {
     return returned(value);
 }
 
-/* The relay: First goes on to Second without abort, and Second to Third with abort, as the level allows. */
+/* The relay: First requeues to Second without abort, and Second to Third with abort, as the level allows. */
 
 enum { RELAY_FIRST, RELAY_SECOND, RELAY_THIRD };
 

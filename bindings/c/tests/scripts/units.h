@@ -1,8 +1,8 @@
 /* The eight units that a script may name, as a client of the engine writes them: their data, barriers, bodies, procedures and
    functions. docs/UNITS.md says what each is for, and crates/po_classic_units/specs what it means.
 
-   Entries are numbered from 0 in the order of their declarations, and of a family from its lowest index up. A unit has one
-   procedure at most, and one function, State. */
+   Entries are numbered from 0 in the order of their declarations, those of a family from its lowest index up. A unit has at
+   most one procedure, and one function, State. */
 #ifndef UNITS_H
 #define UNITS_H
 
@@ -17,15 +17,15 @@ typedef struct unit unit;
 
 /* An entry, or a family of entries with the indices 1, 2 and so on. */
 typedef struct {
-    const char *name; /* NULL behind the last declaration */
+    const char *name; /* NULL after the last declaration */
     bool is_public;
-    uint64_t members; /* of a family; 0: a single entry */
+    uint64_t members; /* of a family; 0 means a single entry */
 } unit_declaration;
 
-/* As many members as the unit's size says. */
+/* The family has as many members as the unit's size says. */
 #define UNIT_SIZE_MEMBERS UINT64_MAX
 
-/* What an operation comes back with: a value, or the number of the exception that it raised. */
+/* What an operation returns: a value, or the number of the exception that it raised. */
 typedef struct {
     bool is_raised;
     uint64_t value;
@@ -38,7 +38,7 @@ typedef struct {
     unit_reply reply;
 } unit_outcome;
 
-/* What all units of a name have in common. */
+/* What all units of a name share. */
 typedef struct {
     const char *name;
     bool has_size;
@@ -54,7 +54,7 @@ typedef struct {
 struct unit {
     const unit_kind *kind;
     pobj_object *object;
-    uint64_t size; /* 0 where the kind has none */
+    uint64_t size; /* 0 if the kind has none */
     union {
         struct {
             uint64_t values[UNIT_GREATEST_SIZE];
@@ -88,16 +88,16 @@ struct unit {
 
 extern const unit_kind unit_kinds[UNIT_KINDS];
 
-/* The unit as it is made, of this kind and size. */
+/* Returns a new unit of this kind and size. */
 void unit_begin(unit *self, const unit_kind *kind, uint64_t size, pobj_object *object);
 
-/* How many members the declared family has; 0: it is a single entry. */
+/* Returns how many members the declared family has, or 0 if it is a single entry. */
 uint64_t unit_members(const unit_declaration *declaration, uint64_t size);
 
-/* How many entries the declaration declares. */
+/* Returns how many entries the declaration declares. */
 uint64_t unit_width(const unit_declaration *declaration, uint64_t size);
 
-/* How many entries the kind has at this size. */
+/* Returns how many entries the kind has at this size. */
 uint64_t unit_entries(const unit_kind *kind, uint64_t size);
 
 #endif

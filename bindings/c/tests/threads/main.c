@@ -1,5 +1,5 @@
 /* Tests of pobj_threads.h by threads: first each operation and each answer alone, then 64 threads at once for a number of
-   seconds (threads SECONDS, 2 where it isn't given). A watchdog ends a program that hangs. */
+   seconds (threads SECONDS; without it, 2). A watchdog ends a program that hangs. */
 #define _POSIX_C_SOURCE 200809L
 
 #include "threads.h"

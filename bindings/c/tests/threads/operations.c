@@ -8,7 +8,7 @@ static bool is_past(const struct timespec *time) {
     return now.tv_sec > time->tv_sec || (now.tv_sec == time->tv_sec && now.tv_nsec >= time->tv_nsec);
 }
 
-/* A gate, whose entries do all that a body can do. */
+/* A gate, whose entries do everything that a body can do. */
 
 enum {
     PASS,
@@ -58,7 +58,7 @@ static int fail(pobj_call *call) {
 }
 
 static int requeue(pobj_call *call) {
-    pobj_raise(call, 9); /* what a body does last is what holds */
+    pobj_raise(call, 9); /* the last thing that a body does counts */
     return pobj_requeue(call, HOLD);
 }
 
@@ -85,7 +85,7 @@ static int lose_elsewhere(pobj_call *call) {
     return pobj_requeue_elsewhere(call, gate->other, UINT64_MAX);
 }
 
-/* Answers what one requeue told, after another one. */
+/* Returns what the first of two requeues returned. */
 static int mix(pobj_call *call) {
     const struct gate *gate = pobj_data(call);
     int how = pobj_requeue(call, PASS);
@@ -140,7 +140,7 @@ static void let_go(pobj_protected *object, int barrier) {
     CHECK(pobj_procedure(object, set_holds, &barrier) == POBJ_CALL_COMPLETED);
 }
 
-/* A thread that makes one call: a timed one until a time that isn't 0, and a conditional one where it is less. */
+/* A thread that makes one call: a timed one if its time is greater than 0, a conditional one if it is less. */
 struct caller {
     pthread_t thread;
     pobj_protected *object;
@@ -178,7 +178,7 @@ static void await_count(pobj_protected *object, uint64_t entry, uint64_t count) 
         pause_for(100000);
 }
 
-/* Starts a call that comes to wait alone on this entry of this object. */
+/* Starts a call, and waits until it is queued alone on this entry of this object. */
 static void start_waiting(
     struct caller *caller, pobj_protected *object, uint64_t entry, int64_t patience, pobj_protected *where, uint64_t on) {
     start_call(caller, object, entry, patience);
@@ -194,7 +194,7 @@ static bool has_passed(struct caller *caller) {
     return outcome_of(caller) == POBJ_CALL_COMPLETED && caller->count == 1;
 }
 
-/* A call in this thread. */
+/* Makes a call in this thread. */
 static pobj_outcome try_call(pobj_protected *object, uint64_t entry, int64_t patience) {
     struct caller caller = {.object = object, .entry = entry, .patience = patience};
     return call(&caller);
@@ -251,7 +251,7 @@ static void misuse(void) {
     finish();
 }
 
-/* A call that has ended, but whose thread isn't woken yet: its record is still in use. The lock is kept by a body meanwhile. */
+/* A call that has ended, but whose thread isn't woken yet: its record is still in use. Meanwhile a body keeps the lock. */
 static pthread_mutex_t kept = PTHREAD_MUTEX_INITIALIZER;
 
 static int keep(pobj_call *call) {
@@ -353,7 +353,7 @@ static void abort_from_inside(void) {
     finish();
 }
 
-/* REQUEUE waits on HOLD, where it can't be cancelled, and goes on from there to PASS, where it can be. */
+/* REQUEUE waits on HOLD and then on PASS. It can't be cancelled on HOLD, but can be on PASS. */
 static void requeues(void) {
     struct caller caller;
     begin();
@@ -375,7 +375,7 @@ static void requeues(void) {
     finish();
 }
 
-/* The same to another object, and to the object itself as to another. */
+/* The same with a requeue to another object, and with one to the object itself as if it were another. */
 static void moves(void) {
     struct caller caller;
     begin();
@@ -442,7 +442,7 @@ static void memory(void) {
     finish();
 }
 
-/* A family of entries: one barrier and one body for all, which look whose they are (9.5.2). */
+/* A family of entries with one barrier and one body, which look at the member's number (9.5.2). */
 
 enum { FAMILY = 4 };
 

@@ -71,7 +71,7 @@ static void *abort_others(void *argument) {
 
 enum { KINDS = 8 };
 
-/* Lets 64 threads of eight kinds work for so many seconds, then stops them by the finalization of both objects. */
+/* Lets 64 threads of eight kinds work for this many seconds, then stops them by finalizing both objects. */
 static void work(void *(*const what[KINDS])(void *), double seconds) {
     __atomic_store_n(&stops, false, __ATOMIC_RELAXED);
     for (unsigned i = 0; i < THREADS; i++)
@@ -92,13 +92,13 @@ static uint64_t total_of(pobj_outcome outcome) {
     return total;
 }
 
-/* All that may happen has happened, and nothing else. */
+/* Checks that every outcome that may come has come, and no other. */
 static void has_seen_all(void) {
     CHECK(total_of(POBJ_CALL_COMPLETED) > 0 && total_of(POBJ_CALL_ABORTED) > 0 && total_of(POBJ_CALL_EXPIRED) > 0);
     CHECK(total_of(POBJ_CALL_ERROR) == 0 && total_of(POBJ_CALL_NO_MEMORY) == 0 && total_of(POBJ_CALL_MISUSE) == 0);
 }
 
-/* A buffer: what is got is what was put, of each producer in the order in which it was put. */
+/* A buffer: the values taken out are those put in, those of each producer in the order in which it put them. */
 
 enum { PUT, GET, BUFFER_ENTRIES, ROOM = 8 };
 
@@ -200,7 +200,7 @@ static void stress_buffer(double seconds) {
     finish();
 }
 
-/* Readers and writers, where a writer is requeued to wait for the readers to leave. */
+/* Readers and writers: a writer is requeued to wait for the readers to leave. */
 
 enum { READ, WRITE, AWAIT_READERS, DOOR_ENTRIES };
 
@@ -287,7 +287,7 @@ static void stress_door(double seconds) {
     finish();
 }
 
-/* Two objects that hand calls over to each other, and each call takes a token in one of them at last. */
+/* Two objects that hand calls over to each other. In the end each call takes a token in one of them. */
 
 enum { SEND, TAKE, RELAY_ENTRIES };
 

@@ -1,4 +1,4 @@
-/* What the tests of pobj_threads.h by threads have in common. */
+/* What the tests of pobj_threads.h by threads share. */
 #ifndef THREADS_H
 #define THREADS_H
 
@@ -14,7 +14,7 @@ void finish(void);
 /* Each operation and each answer alone. */
 void test_operations(void);
 
-/* Many threads at once, for so many seconds. */
+/* Many threads at once, for this many seconds. */
 void test_stress(double seconds);
 
 static inline void start(pthread_t *thread, void *(*what)(void *), void *argument) {

@@ -1,4 +1,5 @@
-//! What becomes of the calls of an object.
+// SPDX-License-Identifier: MIT
+//! How the calls of an object change.
 
 ghost use Rattle.std.specs.Prelude.{◌≡◌, ◌<◌, ◌+◌, ◌∷◌, ◌++◌, [], max, map, length, Some, None, true, OnSome, IfNone, find, All, drop};
 ghost use Rattle.std.specs.List.{slice_get};
@@ -15,8 +16,8 @@ use crate::ended::Ended;
 use po_calls::{Call, Deadline, End, Ticket};
 
 impl<V: Copy> Calls<V> {
-    /// A new call is taken in service. There is memory for it where those that the command has ended so far, and those that
-    /// wait, are fewer than may be uncollected: so it is when a command begins, as `recall_invariant` says.
+    /// Takes a new call into service. There is memory for it if the calls that the command has ended so far and those that wait
+    /// are together fewer than `most`. As `recall_invariant` says, that holds when a command begins.
     pub fn add(&mut self, call: Call<V>) -> Ticket
         requires serving { self.old.serving ≡ None }
         requires room { uncollected self.old.tickets < self.old.most }
@@ -41,7 +42,7 @@ impl<V: Copy> Calls<V> {
         ticket
     }
 
-    /// The call in service goes to the end of the queue of its entry, where it arrives at this place in the history.
+    /// Puts the call in service at the end of its entry's queue. It arrives there at `place` in the history.
     pub fn queue(&mut self, call: Call<V>, place: u128)
         requires in_service { self.old.serving ≡ Some call }
         requires entry { call.entry < self.old.total }
@@ -60,7 +61,7 @@ impl<V: Copy> Calls<V> {
         self.serving = None;
     }
 
-    /// The call in service gets another entry and value, and whether it may be cancelled.
+    /// Gives the call in service another entry and value, and sets whether it may be cancelled.
     pub fn requeue(&mut self, call: Call<V>, entry: u16, value: V, without_abort: bool) -> Call<V>
         requires in_service { self.old.serving ≡ Some call }
         ensures call { result ≡ record call { entry = entry; value = value; without_abort = without_abort } }
@@ -81,7 +82,7 @@ impl<V: Copy> Calls<V> {
         moved
     }
 
-    /// The call in service gets another deadline.
+    /// Gives the call in service another deadline.
     pub fn set_deadline(&mut self, call: Call<V>, deadline: Deadline) -> Call<V>
         requires in_service { self.old.serving ≡ Some call }
         ensures call { result ≡ record call { deadline = deadline } }
@@ -96,7 +97,7 @@ impl<V: Copy> Calls<V> {
         moved
     }
 
-    /// The call in service ends.
+    /// Ends the call in service.
     pub fn end(&mut self, call: Call<V>, end: End<V>)
         requires { self.old.serving ≡ Some call }
         ensures { self.new ≡ record self.old {
@@ -119,7 +120,7 @@ impl<V: Copy> Calls<V> {
         self.serving = None;
     }
 
-    /// The first call on the entry is taken in service.
+    /// Takes the first call on the entry into service.
     pub fn take_on(&mut self, entry: u16) -> Option<Call<V>>
         requires serving { self.old.serving ≡ None }
         requires entry { entry < self.old.total }
@@ -136,7 +137,7 @@ impl<V: Copy> Calls<V> {
         self.in_service()
     }
 
-    /// The waiting call of the ticket is taken in service.
+    /// Takes the waiting call of the ticket into service.
     pub fn take_ticket(&mut self, ticket: Ticket) -> Option<Call<V>>
         requires serving { self.old.serving ≡ None }
         requires live { is_live self.old.tickets ticket ≡ true }
@@ -154,7 +155,7 @@ impl<V: Copy> Calls<V> {
         Some(call)
     }
 
-    /// The call that arrived first is taken in service.
+    /// Takes the call that arrived first into service.
     pub fn take_oldest(&mut self) -> Option<Call<V>>
         requires serving { self.old.serving ≡ None }
         ensures found { result ≡ slice_get self.old.waiting 0 }
@@ -172,7 +173,7 @@ impl<V: Copy> Calls<V> {
         self.in_service()
     }
 
-    /// All waiting calls end by Program_Error, in order of arrival.
+    /// Ends all waiting calls by Program_Error, in order of arrival.
     pub fn end_all(&mut self)
         requires { self.old.serving ≡ None }
         ensures { self.new ≡ record self.old {
@@ -202,7 +203,7 @@ impl<V: Copy> Calls<V> {
         });
     }
 
-    /// The clock rises to this time, if it is lower.
+    /// Raises the clock to `time` if it is lower.
     pub fn rise(&mut self, time: u64)
         ensures { self.new ≡ record self.old { clock = max self.old.clock time } }
     {

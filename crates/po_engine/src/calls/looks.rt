@@ -1,4 +1,5 @@
-//! What the calls of an object tell.
+// SPDX-License-Identifier: MIT
+//! What can be read off the calls of an object.
 
 ghost use Rattle.std.specs.Prelude.{◌≡◌, ◌<◌, map, length, count_by, nat_lt, Some, None, true, IfOk, IfSome, find, option_map, drop};
 ghost use Rattle.po_engine.specs.WaitingCalls.{is_on, is_of, is_due, counts_of};
@@ -14,21 +15,21 @@ use po_queues::Queues;
 use std::alloc::AllocError;
 
 impl<V: Copy> Calls<V> {
-    /// Whether one more call may be uncollected.
+    /// Returns whether one more call may be uncollected.
     pub fn has_room(&self) -> bool
         ensures { result ≡ nat_lt (uncollected self.now.tickets) self.now.most }
     {
         self.table.len() < self.most
     }
 
-    /// Whether the memory is fixed.
+    /// Returns whether the memory is fixed.
     pub fn is_fixed(&self) -> bool
         ensures { result ≡ self.now.is_fixed }
     {
         self.is_fixed
     }
 
-    /// The ticket of the call in service.
+    /// Returns the ticket of the call in service.
     pub fn ticket_in_service(&self, call: Call<V>) -> Ticket
         requires { self.now.serving ≡ Some call }
         ensures number { result.number ≡ call.number }
@@ -41,14 +42,14 @@ impl<V: Copy> Calls<V> {
         Ticket { key, number }
     }
 
-    /// The call in service.
+    /// Returns the call in service, if there is one.
     pub fn in_service(&self) -> Option<Call<V>>
         ensures { result ≡ self.now.serving }
     {
         self.table.at(self.serving?).copied()
     }
 
-    /// The waiting call of the ticket, if there is one.
+    /// Returns the waiting call of the ticket, if there is one.
     pub fn waiting_call(&self, ticket: Ticket) -> Option<Call<V>>
         requires { self.now.serving ≡ None }
         ensures { result ≡ waiting_among self.now.waiting self.now.tickets ticket }
@@ -57,7 +58,7 @@ impl<V: Copy> Calls<V> {
         self.table.get(ticket).copied()
     }
 
-    /// The first call that is due, in order of arrival (9.7.2).
+    /// Returns the ticket of the first call that is due, in order of arrival (9.7.2).
     pub fn first_due(&mut self) -> Option<Ticket>
         ensures found { option_map (λ t. t.number) result ≡
             option_map (λ x. x.number) (find (is_due self.old.clock) self.old.waiting) }
@@ -69,7 +70,7 @@ impl<V: Copy> Calls<V> {
         Some(Ticket { key, number })
     }
 
-    /// Where the call of the ticket is.
+    /// Returns whether the call of the ticket waits, has ended or is unknown.
     pub fn status(&self, ticket: Ticket) -> CallStatus<V>
         requires { self.now.serving ≡ None }
         ensures { result ≡ status_among self.now.waiting self.now.ended self.now.tickets ticket }
@@ -77,8 +78,8 @@ impl<V: Copy> Calls<V> {
         self.table.status(ticket)
     }
 
-    /// The ticket of the owner's earliest waiting call.
-    pub fn waiting_of(&self, owner: u16) -> Option<Ticket>
+    /// Returns the ticket of the owner's earliest waiting call.
+    pub fn waiting_ticket_of(&self, owner: u16) -> Option<Ticket>
         ensures number { option_map (λ t. t.number) result ≡
             option_map (λ x. x.number) (find (is_of owner) self.now.waiting) }
         ensures live { IfSome result (λ t. is_live self.now.tickets t ≡ true) }
@@ -99,7 +100,7 @@ impl<V: Copy> Calls<V> {
         None
     }
 
-    /// The waiting calls with the places at which they arrived, in order of arrival.
+    /// Returns the waiting calls with the places at which they arrived, in order of arrival.
     pub fn arrivals(&self) -> Result<Vec<Arrival<V>>, AllocError>
         ensures calls { IfOk result (λ list. map (λ a. a.call) list.items ≡ self.now.waiting) }
         ensures places { IfOk result (λ list. map (λ a. a.place) list.items ≡ self.now.places) }
@@ -118,7 +119,7 @@ impl<V: Copy> Calls<V> {
         Ok(list)
     }
 
-    /// The queue of each entry, of keys in the order of the waiting calls.
+    /// Returns each entry's queue, of keys in the order of the waiting calls.
     pub fn by_entry(&self) -> &Queues
         ensures entries { map (λ i. i.entry) result.now.items ≡ map (λ x. x.entry) self.now.waiting }
         ensures total { result.now.total ≡ self.now.total }
@@ -126,7 +127,7 @@ impl<V: Copy> Calls<V> {
         self.queues.by_entry()
     }
 
-    /// How many calls wait on each entry, by entry (9.9).
+    /// Returns how many calls wait on each entry, in the order of entries (9.9).
     pub fn counts(&self) -> &[u64]
         ensures counts { result.now ≡ counts_of self.now.total self.now.waiting }
         ensures one_each { length result.now ≡ self.now.total }
@@ -134,7 +135,7 @@ impl<V: Copy> Calls<V> {
         self.queues.counts()
     }
 
-    /// How many calls wait on the entry (9.9).
+    /// Returns how many calls wait on the entry (9.9).
     pub fn count(&self, entry: u16) -> u64
         requires { entry < self.now.total }
         ensures { result ≡ count_by (is_on entry) self.now.waiting }
@@ -142,28 +143,28 @@ impl<V: Copy> Calls<V> {
         self.queues.count(entry)
     }
 
-    /// The calls that have ended, in that order: known to proofs alone.
+    /// Returns the calls that have ended, in the order in which they ended. Known to proofs alone.
     pub fn ended(&self) -> &Trace<Ended<V>>
         ensures { result.now.items ≡ self.now.ended }
     {
         &self.ended
     }
 
-    /// The calls that have ended since the command began, in that order.
+    /// Returns the calls that have ended since the command began, in the order in which they ended.
     pub fn ended_now(&self) -> &[Ended<V>]
         ensures { result.now ≡ drop self.now.ended_before self.now.ended }
     {
         &self.ended_now
     }
 
-    /// The number that the next call gets.
-    pub fn next(&self) -> u64
+    /// Returns the number that the next call gets.
+    pub fn next_number(&self) -> u64
         ensures { result ≡ self.now.next }
     {
         self.next
     }
 
-    /// The clock.
+    /// Returns the clock.
     pub fn clock(&self) -> u64
         ensures { result ≡ self.now.clock }
     {

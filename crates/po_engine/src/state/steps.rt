@@ -1,3 +1,4 @@
+// SPDX-License-Identifier: MIT
 //! What each event does to the state of an object.
 
 ghost use Rattle.std.specs.Prelude.{◌≡◌, ◌<◌, ◌≤◌, ◌+◌, ◌∷◌, ◌++◌, [], ℕ, true, false, All, length, drop, Option, None, Some, OnSome, IfNone, IsSome, find, option_map};
@@ -5,7 +6,7 @@ ghost use Rattle.std.specs.List.{slice_get};
 ghost use Rattle.po_engine.specs.WaitingCalls.{is_on, has_number, is_due};
 ghost use Rattle.po_engine.specs.ObjectState.{counts_in};
 ghost use Rattle.po_engine.specs.Pick.{owed, Fits};
-ghost use Rattle.po_engine.specs.Step.{enter, cancel, abort, advance, finalize, run_procedure, end_call, end_all, queue, conclude, run_body, take_out, step};
+ghost use Rattle.po_engine.specs.Step.{enter, cancel, attempt_cancel, advance, finalize, run_procedure, end_call, end_all, queue, conclude, run_body, take_out, step};
 ghost use Rattle.po_engine.specs.Driving.{admitted, in_service, counted, new_call, take_oldest};
 ghost use Rattle.po_engine.specs.Arrival.{AreAt, Increases, noted, call_of};
 ghost use Rattle.po_engine.specs.Tickets.{number_at, SetsTicket, status_among, end_at, is_live, uncollected};
@@ -21,7 +22,7 @@ use po_history::Event;
 use po_unit::{Outcome, Unit};
 
 impl<U: Unit> State<U> {
-    /// The call in service ends.
+    /// Ends the call in service.
     pub fn end_call(&mut self, call: Call<U::Value>, end: End<U::Value>)
         requires { self.old.serving ≡ Some call }
         ensures { self.new ≡ record self.old { state = end_call self.old.state call end; serving = None } }
@@ -29,7 +30,7 @@ impl<U: Unit> State<U> {
         self.calls.end(call, end);
     }
 
-    /// The call in service goes to the end of the queues.
+    /// Puts the call in service at the end of the queues.
     fn queue(&mut self, call: Call<U::Value>, place: u128)
         requires serving { self.old.serving ≡ Some call }
         requires entry { call.entry < U.meaning.entries self.old.state.unit }
@@ -45,7 +46,7 @@ impl<U: Unit> State<U> {
         self.calls.queue(call, place);
     }
 
-    /// The call in service goes to the end of the queues, but ends where the queue of its entry is full.
+    /// Puts the call in service at the end of the queues, or ends it if the queue of its entry is full.
     fn enter(&mut self, queueing: Queueing, call: Call<U::Value>)
         requires serving { self.old.serving ≡ Some call }
         requires entry { call.entry < U.meaning.entries self.old.state.unit }
@@ -67,8 +68,7 @@ impl<U: Unit> State<U> {
         }
     }
 
-    /// What comes of the call in service, whose body has ended: it completes, raises, is requeued or is cancelled (9.5.2,
-    /// 9.5.4).
+    /// Concludes the call in service, whose body has ended: it completes, raises, is requeued or is cancelled (9.5.2, 9.5.4).
     pub fn conclude(&mut self, queueing: Queueing, call: Call<U::Value>, outcome: Outcome<U::Value>)
         requires serving { self.old.serving ≡ Some call }
         requires entry { NamesEntry (U.meaning.entries self.old.state.unit) outcome }
@@ -101,7 +101,7 @@ impl<U: Unit> State<U> {
         }
     }
 
-    /// The first call on the entry is taken in service.
+    /// Takes the first call on the entry into service.
     pub fn take_on(&mut self, e: u16) -> Option<Call<U::Value>>
         requires serving { self.old.serving ≡ None }
         requires entry { e < U.meaning.entries self.old.state.unit }
@@ -117,7 +117,7 @@ impl<U: Unit> State<U> {
         Some(call)
     }
 
-    /// The call that was queued first of all is taken in service.
+    /// Takes the call that was queued first of all into service.
     pub fn take_oldest(&mut self) -> Option<Call<U::Value>>
         requires serving { self.old.serving ≡ None }
         ensures found { result ≡ slice_get self.old.state.waiting 0 }
@@ -132,7 +132,7 @@ impl<U: Unit> State<U> {
         Some(call)
     }
 
-    /// All queued calls end.
+    /// Ends all queued calls.
     fn end_all(&mut self)
         requires { self.old.serving ≡ None }
         ensures { self.new ≡ record self.old {
@@ -144,7 +144,7 @@ impl<U: Unit> State<U> {
         self.owed = u128::from(!self.finalized);
     }
 
-    /// The body of the call in service runs, and the call is concluded.
+    /// Runs the body of the call in service, and concludes the call.
     fn run_body(&mut self, queueing: Queueing, call: Call<U::Value>)
         requires serving { self.old.serving ≡ Some call }
         requires entry { call.entry < U.meaning.entries self.old.state.unit }
@@ -161,7 +161,7 @@ impl<U: Unit> State<U> {
         self.conclude(queueing, call, outcome);
     }
 
-    /// The first call on the entry is served.
+    /// Serves the first call on the entry.
     #[tactic(auto, using(crate::proofs::Lists::found_on))]
     fn serve(&mut self, queueing: Queueing, e: u16)
         requires serving { self.old.serving ≡ None }
@@ -181,7 +181,7 @@ impl<U: Unit> State<U> {
         }
     }
 
-    /// A queued call is cancelled.
+    /// Cancels the call of the ticket if it is queued.
     #[tactic(auto, using(crate::proofs::Lists::without_none))]
     pub fn cancel(&mut self, ticket: Ticket)
         requires serving { self.old.serving ≡ None }
@@ -201,7 +201,7 @@ impl<U: Unit> State<U> {
         }
     }
 
-    /// The first call that is due is cancelled.
+    /// Cancels the first call that is due.
     fn expire(&mut self)
         requires serving { self.old.serving ≡ None }
         ensures state { (n : ℕ) → option_map (λ x. x.number) (find (is_due self.old.state.clock) self.old.state.waiting) ≡ Some n
@@ -217,7 +217,7 @@ impl<U: Unit> State<U> {
         }
     }
 
-    /// The inner event that is picked happens; `queueing` is what a call meets that it requeues.
+    /// Carries out an inner event that was picked. `queueing` applies to a call that it requeues.
     pub fn perform(&mut self, queueing: Queueing, event: Event<U::Value>)
         requires serving { self.old.serving ≡ None }
         requires fits { Fits U.meaning self.old.state event }
@@ -238,7 +238,7 @@ impl<U: Unit> State<U> {
         }
     }
 
-    /// A call is issued: it is served, queued or ended; `queueing` is what it meets where it is queued.
+    /// Issues a call: it is served, queued or ended. `queueing` applies if it is queued.
     pub fn issue(
         &mut self,
         queueing: Queueing,
@@ -271,7 +271,7 @@ impl<U: Unit> State<U> {
             self.end_all();
         }
         let call = Call {
-            number: self.calls.next(),
+            number: self.calls.next_number(),
             owner,
             entry: e,
             value: v,
@@ -288,8 +288,8 @@ impl<U: Unit> State<U> {
         ticket
     }
 
-    /// A call is issued whose body its client runs, and who says whether its barrier is open: then the call is in service, and
-    /// else it is queued or ended; `queueing` is what it meets where it is queued.
+    /// Issues a call whose body the client runs. The client says by `served` whether the barrier is open: then the call is in
+    /// service, otherwise it is queued or ended. `queueing` applies if it is queued.
     pub fn admit(
         &mut self,
         queueing: Queueing,
@@ -317,7 +317,7 @@ impl<U: Unit> State<U> {
     {
         self.calls.recall_invariant();
         let call = Call {
-            number: self.calls.next(),
+            number: self.calls.next_number(),
             owner: 0,
             entry: arriving.entry,
             value: arriving.value,
@@ -332,7 +332,7 @@ impl<U: Unit> State<U> {
         ticket
     }
 
-    /// The call in service gets another deadline.
+    /// Gives the call in service another deadline.
     pub fn set_deadline(&mut self, call: Call<U::Value>, deadline: Deadline) -> Call<U::Value>
         requires { self.old.serving ≡ Some call }
         ensures call { result ≡ record call { deadline = deadline } }
@@ -341,8 +341,8 @@ impl<U: Unit> State<U> {
         self.calls.set_deadline(call, deadline)
     }
 
-    /// A procedure runs.
-    pub fn run(&mut self, op: u16, v: U::Value) -> Result<U::Value, u32>
+    /// Runs a procedure.
+    pub fn procedure(&mut self, op: u16, v: U::Value) -> Result<U::Value, u32>
         requires { op < U.meaning.procedures self.old.state.unit }
         ensures reply { result ≡ (U.meaning.procedure self.old.state.unit op v (counts_in U.meaning self.old.state)).1 }
         ensures state { self.new ≡ record self.old { state = run_procedure U.meaning self.old.state op v } }
@@ -350,12 +350,12 @@ impl<U: Unit> State<U> {
         self.unit.procedure(op, v, self.calls.counts())
     }
 
-    /// A queued call is cancelled, or marked as aborted.
-    pub fn abort(&mut self, ticket: Ticket)
+    /// Cancels the queued call of the ticket, or marks it as aborted.
+    pub fn attempt_cancel(&mut self, ticket: Ticket)
         requires serving { self.old.serving ≡ None }
         requires live { is_live self.old.tickets ticket ≡ true }
         ensures state { self.new ≡ record self.old {
-          state = abort self.old.state ticket.number (find (has_number ticket.number) self.old.state.waiting);
+          state = attempt_cancel self.old.state ticket.number (find (has_number ticket.number) self.old.state.waiting);
           places = self.new.places;
         } }
         ensures places { (f : ℕ → ℕ) → AreAt f self.old.state.waiting self.old.places
@@ -374,14 +374,14 @@ impl<U: Unit> State<U> {
         }
     }
 
-    /// The clock rises to t, if it is lower.
+    /// Raises the clock to `t` if it is lower.
     pub fn tick(&mut self, t: u64)
         ensures { self.new ≡ record self.old { state = advance self.old.state t } }
     {
         self.calls.rise(t);
     }
 
-    /// The object is finalized, and all queued calls end (9.4).
+    /// Finalizes the object, and ends all queued calls (9.4).
     pub fn finalize(&mut self)
         requires { self.old.serving ≡ None }
         ensures { self.new ≡ record self.old { state = finalize self.old.state; places = [] } }
@@ -391,7 +391,7 @@ impl<U: Unit> State<U> {
         self.owed = 0;
     }
 
-    /// The object counts as finalized; its queued calls are still queued (9.4).
+    /// Marks the object as finalized; its queued calls stay queued (9.4).
     pub fn set_finalized(&mut self)
         ensures { self.new ≡ record self.old { state = record self.old.state { finalized = true } } }
     {

@@ -1,3 +1,4 @@
+// SPDX-License-Identifier: MIT
 //! The allocator, operation by operation.
 
 use super::operations::Step::{Barrier, Body, Counts, Function, Procedure, Rank};
@@ -39,7 +40,7 @@ fn calls_ask_for_a_number(rt: HostRuntime) -> Result<(), Fail> {
     )
 }
 
-// A closed entry takes nothing. Only what is taken can be given back.
+// A closed entry takes nothing. Only pieces that were taken can be given back.
 #[test]
 fn grants_while_enough_are_free(rt: HostRuntime) -> Result<(), Fail> {
     let steps = [

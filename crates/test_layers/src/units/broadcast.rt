@@ -1,3 +1,4 @@
+// SPDX-License-Identifier: MIT
 //! The broadcast, operation by operation.
 
 use super::operations::Step::{Barrier, Body, Counts, Function, Procedure, Rank};
@@ -5,7 +6,7 @@ use super::operations::compare;
 use po_classic_units::Broadcast;
 use std::test::Fail;
 
-// All that wait receive the message, and later calls wait for the next one.
+// All waiting calls receive the message, and later calls wait for the next one.
 #[test]
 fn each_waiting_call_receives(rt: HostRuntime) -> Result<(), Fail> {
     let steps = [

@@ -1,3 +1,4 @@
+// SPDX-License-Identifier: MIT
 //! The buffer, operation by operation.
 
 use super::operations::Step::{Barrier, Body, Counts, Function, Rank};

@@ -1,3 +1,4 @@
+// SPDX-License-Identifier: MIT
 //! The meeting, operation by operation.
 
 use super::operations::Step::{Barrier, Body, Counts, Function, Rank};
@@ -5,7 +6,7 @@ use super::operations::compare;
 use po_classic_units::Meeting;
 use std::test::Fail;
 
-// It opens at three calls, and closes behind the last of them.
+// The barrier opens at three calls, and closes after the last of them.
 #[test]
 fn calls_go_together(rt: HostRuntime) -> Result<(), Fail> {
     let steps = [
@@ -39,7 +40,7 @@ fn calls_go_together(rt: HostRuntime) -> Result<(), Fail> {
     )
 }
 
-// Where the closed entry's body is run all the same, the others go.
+// If the body is run although the entry is closed, the others may go.
 #[test]
 fn the_smallest_and_the_greatest_meeting(rt: HostRuntime) -> Result<(), Fail> {
     let steps = [

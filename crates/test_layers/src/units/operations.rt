@@ -1,5 +1,6 @@
-//! What the operations of a unit answer, as text. A clause says it of each unit; here its meaning meets values worked out
-//! by hand, and a test's proof carries none of it.
+// SPDX-License-Identifier: MIT
+//! The answers of a unit's operations, as text. Clauses say what each unit does; here its meaning is compared with values
+//! worked out by hand, and a test's proof doesn't depend on it.
 
 use po_unit::{Outcome, Unit};
 use std::fmt::Write;
@@ -9,15 +10,15 @@ use std::test::Fail;
 /// An operation on a unit.
 #[derive(Clone, Copy)]
 pub(crate) enum Step {
-    /// The counts that the operations from here on are given.
+    /// Sets the counts that the following operations are given.
     Counts(&'static [u64]),
     Barrier(u16),
     Body(u16, u64),
-    /// The procedure with the number 0.
+    /// Runs procedure 0.
     Procedure(u64),
-    /// The function with the number 0.
+    /// Calls function 0.
     Function,
-    /// The rank of a call on this entry.
+    /// Asks for the rank of a call on this entry.
     Rank(u16),
 }
 
@@ -41,7 +42,7 @@ pub(crate) fn compare<R: Abort + AllocGlobal, U: Unit<Value = u64>>(
     Ok(())
 }
 
-/// Carries out an operation that the unit has, with a count for each entry.
+/// Carries out an operation of the unit, with a count for each entry.
 fn operate<U: Unit<Value = u64>>(
     unit: &mut U,
     step: Step,

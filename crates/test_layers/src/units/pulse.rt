@@ -1,3 +1,4 @@
+// SPDX-License-Identifier: MIT
 //! The pulse, operation by operation.
 
 use super::operations::Step::{Barrier, Body, Counts, Function, Rank};
@@ -5,7 +6,7 @@ use super::operations::compare;
 use po_classic_units::Pulse;
 use std::test::Fail;
 
-// A Signal goes behind all calls that wait, and with none waiting it is lost.
+// A Signal goes after all waiting calls, and if none waits it is lost.
 #[test]
 fn all_waiting_calls_go(rt: HostRuntime) -> Result<(), Fail> {
     let steps = [

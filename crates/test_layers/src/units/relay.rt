@@ -1,3 +1,4 @@
+// SPDX-License-Identifier: MIT
 //! The relay, operation by operation.
 
 use super::operations::Step::{Barrier, Body, Counts, Function, Procedure, Rank};

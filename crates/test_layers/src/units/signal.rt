@@ -1,3 +1,4 @@
+// SPDX-License-Identifier: MIT
 //! The signal, operation by operation.
 
 use super::operations::Step::{Barrier, Body, Counts, Function, Procedure, Rank};
@@ -5,7 +6,7 @@ use super::operations::compare;
 use po_classic_units::Signal;
 use std::test::Fail;
 
-// Two signals are one. The closed entry leaves none.
+// Two signals count as one. The closed entry leaves none.
 #[test]
 fn one_call_takes_the_signal(rt: HostRuntime) -> Result<(), Fail> {
     let steps = [

@@ -1,3 +1,4 @@
+// SPDX-License-Identifier: MIT
 //! The trap, operation by operation.
 
 use super::operations::Step::{Barrier, Body, Counts, Function, Procedure, Rank};
@@ -5,7 +6,7 @@ use super::operations::compare;
 use po_classic_units::Trap;
 use std::test::Fail;
 
-// The entries of Wait open one after the other with the level, and their barriers fault at 13.
+// The entries of Wait open one after another as the level rises, and their barriers fault at 13.
 #[test]
 fn waits_by_level(rt: HostRuntime) -> Result<(), Fail> {
     let steps = [

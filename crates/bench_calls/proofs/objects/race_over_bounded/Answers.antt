@@ -1,5 +1,5 @@
--- Threads may share the object: nothing says by itself that books and shares of ledgers may be shared, and so the object. That
--- is a lemma of po_object.
+-- Threads may share the object. The prover doesn't find this by itself, since the object has books and shares of ledgers; a
+-- lemma of po_object says it.
 use denote.Exit as Exit
 use denote.Param as Param
 use denote.Param.Send as Send

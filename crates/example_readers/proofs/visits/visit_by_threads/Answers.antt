@@ -1,4 +1,4 @@
--- The object that was closed is the one that was opened.
+-- The closed object is the one that was opened.
 use Rattle.std.proofs.Common.{◌≡◌, subst}
 use Rattle.example_readers.specs.Exclusion.{WritersAreAlone}
 use Rattle.example_readers.proofs.visits.visit_by_threads.Goals as goal

@@ -1,4 +1,4 @@
--- What is noted so far and what the command ended since are all that have ended.
+-- What is noted so far and what the command has ended since are all that has ended.
 use Rattle.std.proofs.Common.{◌≡◌, ◌≤◌, ◌-◌, ◌++◌, length, take, drop, vec_len, ap₂, ◌∙◌, sym, subst}
 use Rattle.std.specs.List.{All, count_by}
 use Rattle.po_engine.specs.Ending.{has_ended}

@@ -1,4 +1,4 @@
--- What is serviced next tells what its look says.
+-- What is serviced next meets what its selection says.
 use Rattle.po_queues.specs.declared.order.Order.TheVariants.{Oldest, Rotating}
 use Rattle.po_queues.proofs.TellLemmas.{tells, tells_textual}
 use Rattle.po_queues.proofs.examination.examine.Goals as goal

@@ -1,4 +1,4 @@
--- The older one of two, up to one entry more, and at the end of all.
+-- The older of two turns is the first up to one entry more, and in the end the first of all.
 use Rattle.std.proofs.Common.{◌≤◌, ◌<◌, refl, sym}
 use Rattle.po_queues.specs.Service.{turn_at}
 use Rattle.po_queues.proofs.TurnLemmas.{past_next, below_next}

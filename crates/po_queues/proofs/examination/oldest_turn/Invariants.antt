@@ -1,4 +1,4 @@
--- What is found is the first turn of the entries before the next one.
+-- The turn found so far is the first among the entries before the next one.
 use Rattle.std.proofs.Common.{◌≡◌, ◌-◌, ltb}
 use Rattle.po_queues.specs.Service.{turn_at}
 use Rattle.po_queues.specs.Stamps.{first_stamped}

@@ -1,4 +1,4 @@
--- The later entries first, and then the earlier ones.
+-- The later entries first, then the earlier ones.
 use Rattle.std.proofs.Common.{sym}
 use Rattle.po_queues.specs.Service.{turn_at}
 use Rattle.po_queues.proofs.RangeLemmas.{IsStart, round_found, round_on}

@@ -1,4 +1,4 @@
--- The turn, or none, with the first key's stamp.
+-- The turn with the first key's stamp, or none.
 use Rattle.std.proofs.Common.{sym, ◌∙◌}
 use Rattle.po_queues.specs.Service.{turn_at}
 use Rattle.po_queues.proofs.StampLemmas.{stamped_none, stamped_some}

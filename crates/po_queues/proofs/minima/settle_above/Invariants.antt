@@ -1,4 +1,4 @@
--- All nodes are settled but the next one above, and the leaves are as they were.
+-- All nodes are settled except the next one above, and the leaves are as they were.
 use Rattle.std.proofs.Common.{ℕ, ◌≡◌, ◌≢◌, ◌<◌, ◌+◌, ◌-◌, ◌*◌, ◌/◌, length, take}
 use Rattle.po_queues.specs.Least.{IsMinimum}
 use Rattle.po_queues.proofs.minima.settle_above.Given as goal

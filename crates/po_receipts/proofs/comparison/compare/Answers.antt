@@ -1,7 +1,7 @@
 use Rattle.std.proofs.Common.{◌≡◌, ◌<◌, length, refl, arith, rules, Some}
 use Rattle.std.proofs.lemmas.Bool.{false≢true}
 use Rattle.std.proofs.lemmas.Option.{slice_get_within}
-use Rattle.po_receipts.specs.declared.fault.ReconcileFault.TheVariants.{Gap, Mismatch}
+use Rattle.po_receipts.specs.declared.error.ReconcileError.TheVariants.{Gap, Mismatch}
 use Rattle.po_receipts.specs.Agreement.{IsFaultOf, gap, history_of}
 use Rattle.po_receipts.proofs.Rounds.{agree_all}
 use Rattle.po_receipts.proofs.Exactness.{runs_on, is_fault, is_none, no_fault}

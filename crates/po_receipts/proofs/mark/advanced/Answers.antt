@@ -7,11 +7,11 @@ use Rattle.po_receipts.specs.Marks.{IsMark}
 use Rattle.po_receipts.proofs.Marking.{follows_on, differs_here, differs_still}
 use Rattle.po_receipts.proofs.mark.advanced.Goals as goal
 
--- a mark by what it is
+-- what holds of a mark holds of an equal one
 at_mark : {X : Type 0} (filed due : List X) (mark other : Mark) → mark ≡ other → IsMark filed due mark → IsMark filed due other
 at_mark filed due mark other is holds = subst (IsMark filed due) is holds
 
--- one mark follows to one place
+-- a mark follows to only one place
 one_place : (mark : Mark) (a b : ℕ) → mark ≡ Follows a → mark ≡ Follows b → a ≡ b
 one_place mark a b is_a is_b = cc
 

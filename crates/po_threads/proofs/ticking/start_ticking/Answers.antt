@@ -1,5 +1,5 @@
--- The thread that `start_ticking` makes may own what it captures: the handle, the shared object and the shared watch. Nothing
--- says by itself that books and shares of ledgers may be shared, and so the object: that is a lemma of po_object.
+-- The thread that `start_ticking` makes may own what it captures: the handle, the shared object and the shared watch. That
+-- books and shares of ledgers may be shared, and so the object, isn't found automatically: it is a lemma of po_object.
 use Rattle.std.proofs.Common.{ℕ}
 use denote.Exit as Exit
 use denote.Param as Param
@@ -10,9 +10,9 @@ use denote.Struct.Tuple as Tuple
 use mathlib.Core.List.{List, [], ◌∷◌}
 use Rattle.po_object.proofs.Shared.{object_sync}
 use Rattle.po_object.proofs.object.Object.TheSendSync as object
-use Rattle.po_object.proofs.steps.Unasked.TheSendSync as unasked
+use Rattle.po_object.proofs.steps.NoHook.TheSendSync as unasked
 use Rattle.po_object.specs.contracts.object.Object as Object
-use Rattle.po_object.specs.contracts.steps.Unasked as Unasked
+use Rattle.po_object.specs.contracts.steps.NoHook as NoHook
 use Rattle.po_threads.proofs.ticking.start_ticking.Goals as goal
 use Rattle.po_threads.proofs.watch.Watch.TheSendSync as watch
 use Rattle.po_threads.specs.contracts.watch.Watch as Watch
@@ -28,8 +28,8 @@ spawn-requires-send-F g c κs within =
     let U = Param.param 0 g.row.U in let C = Param.param 1 g.row.C in let P = Param.param 2 g.row.P in let F = Param.param 3 g.row.F in
     let R = Param.param 4 g.row.R in let Q = Param.param 5 g.row.Q in let V = Param.copied 7 g.row.U-Value in
     let e = g.U.Value.PartialEq in let t = c.type_bounds in
-    let row = Object.the_row U C P F R Q Unasked.the_row V g.C.Ledger g.P.Ledger g.U.Unit e g.C.Story g.C.CallLedger g.F.Ledger g.R.Record g.Q.Receipts in
-    let o = object.the_send U C P F R Q Unasked.the_row V g.C.Ledger g.P.Ledger g.U.Unit e g.C.Story g.C.CallLedger g.F.Ledger g.R.Record g.Q.Receipts t.send-U t.send-R t.send-Q unasked.the_send t.send-U-Value in
+    let row = Object.the_row U C P F R Q NoHook.the_row V g.C.Ledger g.P.Ledger g.U.Unit e g.C.Story g.C.CallLedger g.F.Ledger g.R.Record g.Q.Receipts in
+    let o = object.the_send U C P F R Q NoHook.the_row V g.C.Ledger g.P.Ledger g.U.Unit e g.C.Story g.C.CallLedger g.F.Ledger g.R.Record g.Q.Receipts t.send-U t.send-R t.send-Q unasked.the_send t.send-U-Value in
     let y = object_sync U C P F R Q V g.C.Ledger g.P.Ledger g.U.Unit e g.C.Story g.C.CallLedger g.F.Ledger g.R.Record g.Q.Receipts t.send-U t.sync-U t.send-R t.sync-R t.send-Q t.sync-Q t.send-U-Value t.sync-U-Value in
     let a = arc.the_send row Global.the_row Heap.ghosts o global.the_send y global.the_sync frees.the_frees in
     let w = arc.the_send Watch.the_row Global.the_row Heap.ghosts watch.the_send global.the_send watch.the_sync global.the_sync frees.the_frees in

@@ -1,4 +1,4 @@
--- The write leaves the number.
+-- The write leaves the call's number as it is.
 use Rattle.std.proofs.Common.{refl}
 use Rattle.po_calls.proofs.Numbers.{numbers_stay}
 use Rattle.po_calls.proofs.table.Table.finish.Goals.{in-Some, in_default}

@@ -4,7 +4,7 @@ use Rattle.std.proofs.lemmas.Result.{err_from_is_err_and}
 use Rattle.po_script.specs.Cutter.{waiting}
 use Rattle.po_script.proofs.CutterLemmas.{few_reads}
 use Rattle.po_script.proofs.EndLemmas.{err_weaker}
-use Rattle.po_check.specs.declared.fault.CheckFault.{CheckFault}
+use Rattle.po_check.specs.declared.error.CheckError.{CheckError}
 use Rattle.po_check.proofs.CheckLemmas.{letter_stands, ok_weaker}
 use Rattle.po_check.proofs.EarlyEnds.{early_other}
 use Rattle.po_check.proofs.check.Check.read_on.Goals as goal
@@ -86,7 +86,7 @@ returns-in-End-clause-err g c =
     let k = rw c.in-End.is at c.in-Ok.ensures.step in
     let cuts = k.2 i.so_far.0 _ _ s.cuts in
     let read = c.in-Ok.ensures.fine ∙ i.read ∙ c.requires.reader.0 in
-    err_weaker _ _ c.finish.result (λ (fault : CheckFault) e. (i.so_far.0 ++ waiting c.next.new.self, cuts.source.consumed, early_other g.O.ScriptObject.units fault _ _ _ _ read e.0 (e.1 i.so_far.0 _ _ _ _ _ (record { cuts = cuts; tells = s.tells })))) c.finish.ensures.err
+    err_weaker _ _ c.finish.result (λ (fault : CheckError) e. (i.so_far.0 ++ waiting c.next.new.self, cuts.source.consumed, early_other g.O.ScriptObject.units fault _ _ _ _ read e.0 (e.1 i.so_far.0 _ _ _ _ _ (record { cuts = cuts; tells = s.tells })))) c.finish.ensures.err
 
 pub returns-in-Past-clause-reads : goal.returns-in-Past-clause-reads
 returns-in-Past-clause-reads g c =
@@ -113,4 +113,4 @@ returns-in-Past-clause-err g c =
     let k = rw c.in-Past.is at c.in-Ok.ensures.step in
     let cuts = k.3 i.so_far.0 _ _ s.cuts in
     let read = c.in-Ok.ensures.fine ∙ i.read ∙ c.requires.reader.0 in
-    err_weaker _ _ c.past_limit.result (λ (fault : CheckFault) e. (i.so_far.0 ++ waiting c.next.new.self, cuts.source.consumed, early_other g.O.ScriptObject.units fault _ _ _ _ read e.0 (e.1 i.so_far.0 _ _ _ _ _ (record { cuts = cuts; tells = s.tells })))) c.past_limit.ensures.err
+    err_weaker _ _ c.past_limit.result (λ (fault : CheckError) e. (i.so_far.0 ++ waiting c.next.new.self, cuts.source.consumed, early_other g.O.ScriptObject.units fault _ _ _ _ read e.0 (e.1 i.so_far.0 _ _ _ _ _ (record { cuts = cuts; tells = s.tells })))) c.past_limit.ensures.err

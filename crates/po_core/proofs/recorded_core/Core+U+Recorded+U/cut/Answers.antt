@@ -13,12 +13,12 @@ invariant_of-self-2 g c =
 
 pub returns-clause-leads : goal.returns-clause-leads
 returns-clause-leads g c =
-    rw (← c.self.view_is, c.in_ok-volume.ensures.volume, c.in_ok-volume.ensures.after) (leads_there g.U.Unit.meaning c.self.inside.tracked.object c.recall_invariant.ensures.replays)
+    rw (← c.self.view_is, c.in_ok-volume.ensures.volume, c.in_ok-volume.ensures.after) (leads_there g.U.Unit.meaning c.self.inside.in_action.object c.recall_invariant.ensures.replays)
 
 pub returns-clause-arrivals : goal.returns-clause-arrivals
 returns-clause-arrivals g c =
-    rw (← c.self.view_is, c.in_ok-volume.ensures.after) (keeps_arrivals g.U.Unit.meaning c.self.inside.tracked.object)
+    rw (← c.self.view_is, c.in_ok-volume.ensures.after) (keeps_arrivals g.U.Unit.meaning c.self.inside.in_action.object)
 
 pub returns-clause-joins : goal.returns-clause-joins
 returns-clause-joins g c =
-    rw (← c.self.view_is, c.in_ok-volume.ensures.volume, c.in_ok-volume.ensures.after) (joins g.U.Unit.meaning c.self.inside.tracked.object c.recall_invariant.ensures.replays)
+    rw (← c.self.view_is, c.in_ok-volume.ensures.volume, c.in_ok-volume.ensures.after) (joins g.U.Unit.meaning c.self.inside.in_action.object c.recall_invariant.ensures.replays)

@@ -1,4 +1,4 @@
--- The walk puts each waiting call to the list.
+-- The walk appends each waiting call to the list.
 use Rattle.std.proofs.Common.{◌≡◌, ◌∙◌, ◌∷◌, ◌++◌, [], map, ap}
 use Rattle.std.proofs.lemmas.List.{map-append}
 use Rattle.po_engine.specs.declared.arrival.Arrival.{Arrival}

@@ -1,4 +1,4 @@
--- What is queued on the entries are the waiting calls.
+-- The keys queued on the entries are those of the waiting calls.
 use Rattle.po_engine.specs.Calls.{call_at, key_of}
 use Rattle.po_engine.proofs.CallReads.{entries_same}
 use Rattle.po_engine.proofs.calls.Calls.by_entry.Goals as goal

@@ -1,4 +1,4 @@
--- The end that the table gives is the one that is seen, and nothing but the tickets and the room changes.
+-- The end that the table returns is the one that is seen, and only the tickets and the room change.
 use Rattle.std.proofs.Common.{◌∙◌, ap, sym, refl, subst, None}
 use Rattle.po_calls.specs.Calls.{kept}
 use Rattle.po_engine.specs.Tickets.{end_at}

@@ -1,4 +1,4 @@
--- What is queued says what all waiting calls keep.
+-- What holds of all waiting calls follows from what is queued.
 use Rattle.std.proofs.Common.{◌∙◌, sym, ap, arith, subst}
 use Rattle.std.proofs.lemmas.List.{length-map}
 use Rattle.po_queues.specs.Arrived.{arrived_keys}

@@ -1,4 +1,4 @@
--- What is kept stays, whatever was made room for; in the end there is room for one more.
+-- What is kept stays, whichever room was made; in the end there is room for one more.
 use Rattle.std.proofs.Common.{◌≡◌, ◌+◌, ◌≤◌, ℕ, List, Option, map, option_map, is_some, count_by, refl, sym, arith, false, nat_lt}
 use Rattle.std.proofs.lemmas.Bool.Decides.{nat_tests}
 use Rattle.slab.specs.Slab.{slab_len}

@@ -1,4 +1,4 @@
--- The place that the table gives is the one that is seen.
+-- The status that the table returns is the one that is seen.
 use Rattle.std.proofs.Common.{◌∙◌}
 use Rattle.po_engine.specs.Calls.{key_of}
 use Rattle.po_engine.proofs.CallPlaces.{place_is}

@@ -1,4 +1,4 @@
--- The event of what is serviced next is that of the turn that comes next.
+-- The event of what is serviced next is that of the next turn.
 use Rattle.std.proofs.Common.{◌≡◌, Some, None, ap, sym, subst, ◌∙◌}
 use Rattle.po_history.specs.declared.event.Event.TheVariants.{Serve, Break}
 use Rattle.po_engine.specs.StateView.{state_with_calls}

@@ -1,4 +1,4 @@
--- `follow` lets the log go on as a list has.
+-- `follow` extends the log as a list was extended.
 use Rattle.std.proofs.Common.{List, [], ◌∷◌, ◌++◌, refl}
 use mir.Syntax.{a_type, dcons, dnil, named}
 use mir.Val.{Val, vunit, vptr}

@@ -1,4 +1,4 @@
--- `reach` lets the log go on.
+-- `reach` extends the log.
 use Rattle.std.proofs.Common.{List, [], ◌∷◌, ◌++◌, refl}
 use mir.Syntax.{a_type, dcons, dnil, named}
 use mir.Val.{Val, vunit, vptr}

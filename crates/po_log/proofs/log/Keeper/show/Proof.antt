@@ -1,4 +1,4 @@
--- `show` keeps the log, and gives what was seen.
+-- `show` keeps the log, and returns what was seen.
 use Rattle.std.proofs.Common.{List, [], ◌∷◌, refl}
 use mir.Syntax.{a_type, dnil, named}
 use mir.Val.{Val, vptr}

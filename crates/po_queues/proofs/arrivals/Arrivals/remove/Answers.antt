@@ -1,4 +1,4 @@
--- The key is taken out from between its neighbours.
+-- The key is taken out, and its neighbours become neighbours.
 use Rattle.std.proofs.Common.{arith}
 use Rattle.std.proofs.lemmas.List.{get_or_read, length-set}
 use Rattle.po_queues.specs.InOrder.{alone}

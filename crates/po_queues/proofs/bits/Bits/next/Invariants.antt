@@ -1,4 +1,4 @@
--- What was found is the first bit from here on, and where none was, none before the word is set.
+-- If a bit was found, it is the first from here on; if none was, no bit before the word is set.
 use Rattle.std.proofs.Common.{◌≡◌, ℕ, ◌-◌, ◌*◌, ◌<◌, ◌≤◌, length, IfSome, IsNone}
 use Rattle.po_queues.specs.Busy.{bit_of, IsNextBit}
 use Rattle.po_queues.proofs.bits.Bits.next.Given as goal

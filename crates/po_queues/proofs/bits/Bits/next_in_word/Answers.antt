@@ -1,4 +1,4 @@
--- The lowest bit that the mask leaves in the word, where it leaves one.
+-- The lowest bit that the mask leaves in the word, if it leaves one.
 use Rattle.std.proofs.Common.{ℕ, ◌≡◌, ◌<◌, ◌∙◌, ◌-◌, ◌*◌, ◌/◌, ◌%◌, ◌^◌, arith, sym, ap, refl, get_or}
 use Rattle.std.proofs.Common.{true, ltb, List, length}
 use lib.Bits.{bit_and}
@@ -16,7 +16,7 @@ mask_from from =
     let rest : from % 64 ≡ from - 64 * (from / 64) = omega arith in
     ones_shl 64 (from % 64) (omega arith) ∙ ap (λ k. 2 ^ 64 - 2 ^ k) rest
 
--- the word of a bit, which was read
+-- the word of a bit, once read
 read_word : (words read : List ℕ) (from index word : ℕ) → read ≡ words → index ≡ from / 64
     → true ≡ ltb index (length read) → word ≡ get_or read index word → word ≡ get_or words (from / 64) 0
 read_word words read from index word same here low found =

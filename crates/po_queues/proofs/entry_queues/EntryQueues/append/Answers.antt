@@ -1,4 +1,4 @@
--- The key is queued at the end of all three, but for expirations where its call has no time.
+-- The key is queued at the end of all three, except among the expirations if its call has no time.
 use Rattle.std.proofs.Common.{Some, None, refl, ◌∙◌, ap}
 use Rattle.po_queues.specs.QueuedKeys.{QueuedKey, occurs}
 use Rattle.po_queues.proofs.EntryLemmas.{seen_free, seen_below, seen_arrived, push_seen}

@@ -1,4 +1,4 @@
--- Times change nothing that is queued.
+-- The queued keys are the same without times.
 use Rattle.po_queues.proofs.EntryLemmas.{seen_queued}
 use Rattle.po_queues.proofs.entry_queues.EntryQueues.by_entry.Goals as goal
 

@@ -1,4 +1,4 @@
--- Times change no key.
+-- The keys are the same without times.
 use Rattle.std.proofs.Common.{ap, ◌∙◌}
 use Rattle.po_queues.specs.QueuedKeys.{occurs}
 use Rattle.po_queues.proofs.EntryLemmas.{seen_keys}

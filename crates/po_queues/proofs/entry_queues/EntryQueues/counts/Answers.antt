@@ -1,4 +1,4 @@
--- Times change nothing that is queued on any entry.
+-- The keys queued on each entry are the same without times.
 use Rattle.std.proofs.Common.{List, length, ap, ◌∙◌}
 use Rattle.po_queues.specs.QueuedKeys.{QueuedKey, queue_of}
 use Rattle.po_queues.proofs.EntryLemmas.{seen_queued}

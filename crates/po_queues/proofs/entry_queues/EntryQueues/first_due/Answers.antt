@@ -1,4 +1,4 @@
--- The first key whose time has come, by stamps, is the first of all that is queued.
+-- Of the keys whose time has come, the one with the least stamp is the first in order of arrival.
 use Rattle.po_queues.proofs.EntryLemmas.{seen_due}
 use Rattle.po_queues.proofs.entry_queues.EntryQueues.first_due.Goals as goal
 

@@ -1,4 +1,4 @@
--- The next key of all arrivals is the next of all keys.
+-- The next key among the arrivals is the next of all keys.
 use Rattle.std.proofs.Common.{ap, ◌∙◌}
 use Rattle.po_queues.specs.QueuedKeys.{key_after}
 use Rattle.po_queues.proofs.EntryLemmas.{seen_arrived}

@@ -1,4 +1,4 @@
--- The first key of all arrivals is the first of all keys.
+-- The first key among the arrivals is the first of all keys.
 use Rattle.std.proofs.Common.{ap, ◌∙◌}
 use Rattle.po_queues.specs.QueuedKeys.{first_key}
 use Rattle.po_queues.proofs.EntryLemmas.{seen_arrived}

@@ -1,4 +1,4 @@
--- What the queues keep, and that each queued key is reserved.
+-- The queues keep their own invariant, and each queued key is reserved.
 use Rattle.std.proofs.Common.{subst}
 use Rattle.po_queues.specs.Arrived.{AreInOrder}
 use Rattle.po_queues.proofs.EntryLemmas.{in_order}

@@ -1,4 +1,4 @@
--- The key is taken out of all three, where it was queued.
+-- The key is taken out of all three, if it was queued.
 use Rattle.std.proofs.Common.{sym, ◌∙◌, ap}
 use Rattle.po_queues.specs.QueuedKeys.{occurs}
 use Rattle.po_queues.proofs.EntryLemmas.{seen_keys, left_keeps, left_view, without_keeps, without_view}

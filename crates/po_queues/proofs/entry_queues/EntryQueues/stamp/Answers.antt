@@ -1,4 +1,4 @@
--- Times change no stamp.
+-- The stamps are the same without times.
 use Rattle.std.proofs.Common.{ap, ◌∙◌}
 use Rattle.po_queues.specs.QueuedKeys.{stamp_of}
 use Rattle.po_queues.proofs.EntryLemmas.{seen_queued}

@@ -1,4 +1,4 @@
--- The key of the least stamp is that of the first call that is due.
+-- The key with the least stamp is that of the first call that is due.
 use Rattle.po_queues.proofs.ExpirationLemmas.{due_some, due_none}
 use Rattle.po_queues.proofs.expirations.Expirations.first_due.Goals as goal
 

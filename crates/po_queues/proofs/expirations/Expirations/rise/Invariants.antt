@@ -1,4 +1,4 @@
--- What is seen stays, and each call stands in one of the rows.
+-- The view stays the same, and each call is in one of the rows.
 use Rattle.std.proofs.Common.{◌≡◌}
 use Rattle.po_queues.specs.Expiring.{ExpirationsView}
 use Rattle.po_queues.specs.Timed.{HoldsExpirations}

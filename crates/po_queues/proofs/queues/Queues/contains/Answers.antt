@@ -1,4 +1,4 @@
--- A key is queued where it has a link.
+-- A key is queued exactly if it has a link.
 use Rattle.std.proofs.Common.{◌∙◌}
 use Rattle.po_queues.proofs.HoldLemmas.{linked_where_queued}
 use Rattle.po_queues.proofs.queues.Queues.contains.Goals as goal

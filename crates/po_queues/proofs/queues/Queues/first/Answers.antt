@@ -1,4 +1,4 @@
--- The first key has a link, which has its stamp.
+-- The first key has a link, and the link has its stamp.
 use Rattle.std.proofs.Common.{◌≡◌, ℕ, Option, Some, None, sym, ap, ◌∙◌, arith}
 use Rattle.std.proofs.lemmas.List.{get_or_read}
 use Rattle.po_queues.proofs.QueueLemmas.{first_link}

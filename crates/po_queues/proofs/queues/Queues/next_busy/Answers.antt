@@ -1,4 +1,4 @@
--- The next bit that is set is that of the next entry with a queued key.
+-- The next set bit is that of the next entry with a queued key.
 use Rattle.std.proofs.Common.{◌<◌, subst}
 use Rattle.std.specs.List.{All}
 use Rattle.std.proofs.lemmas.Option.{IfSome_then}

@@ -1,4 +1,4 @@
--- What the invariant says, of what is seen.
+-- What the invariant says about the view.
 use Rattle.std.proofs.Common.{subst}
 use Rattle.po_queues.specs.QueuedKeys.{IsSound}
 use Rattle.po_queues.proofs.QueueLemmas.{sound}

@@ -1,4 +1,4 @@
--- A key with a link is taken out, and one with none is queued nowhere.
+-- A key with a link is taken out; one without a link isn't queued.
 use Rattle.std.proofs.Common.{refl, sym, arith}
 use Rattle.std.proofs.lemmas.List.{get_or_read}
 use Rattle.po_queues.proofs.QueueLemmas.{remove_at, has_link}

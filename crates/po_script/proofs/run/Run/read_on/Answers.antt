@@ -4,7 +4,7 @@ use Rattle.std.proofs.lemmas.List.{append-nil}
 use Rattle.std.proofs.lemmas.Result.{err_from_is_err_and}
 use Rattle.po_script.specs.Cutter.{number_of, waiting}
 use Rattle.po_script.specs.Script.{cut}
-use Rattle.po_language.specs.declared.run_fault.RunFault.{RunFault}
+use Rattle.po_language.specs.declared.run_error.RunError.{RunError}
 use Rattle.po_script.proofs.CutterLemmas.{few_reads, kept_long}
 use Rattle.po_script.proofs.StandLemmas.{letter_stands}
 use Rattle.po_script.proofs.EndLemmas.{run_long_ends, run_past_ends, err_weaker, ok_weaker}
@@ -113,7 +113,7 @@ returns-in-End-clause-err g c =
     let k = rw c.in-End.is at c.in-Ok.ensures.step in
     let cuts = k.2 i.so_far.0 _ _ s.cuts in
     let read = c.in-Ok.ensures.fine ∙ i.read ∙ c.requires.reader.0 in
-    err_weaker _ _ c.finish.result (λ (fault : RunFault) ends. (i.so_far.0 ++ waiting c.next.new.self, cuts.source.consumed, rw (k.1, read) (ends k.0 i.so_far.0 _ _ _ _ _ (record { cuts = cuts; short = s.short; tells = s.tells }) (rw (i.wrote, i.took) c.requires.writer)))) c.finish.ensures.err
+    err_weaker _ _ c.finish.result (λ (fault : RunError) ends. (i.so_far.0 ++ waiting c.next.new.self, cuts.source.consumed, rw (k.1, read) (ends k.0 i.so_far.0 _ _ _ _ _ (record { cuts = cuts; short = s.short; tells = s.tells }) (rw (i.wrote, i.took) c.requires.writer)))) c.finish.ensures.err
 
 pub returns-in-Past-clause-reads : goal.returns-in-Past-clause-reads
 returns-in-Past-clause-reads g c =

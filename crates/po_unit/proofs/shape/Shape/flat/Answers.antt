@@ -18,7 +18,7 @@ returns-in_default-clause-bijection c =
 pub returns-in_err-distance-clause-exact : goal.returns-in_err-distance-clause-exact
 returns-in_err-distance-clause-exact c =
     let ds = c.args.self.now in
-    let declared : slice_get ds c.args.reference.entry ≡ Some c.in-Some.decl = cc in
+    let declared : slice_get ds c.args.reference.declaration ≡ Some c.in-Some.decl = cc in
     let far : distance c.in-Some.decl c.args.reference.index ≡ Err c.in_err-distance.field-0.0 = cc (c.in_err-distance.was) in
     let returned = err_from_is_err_and c.from_residual.result c.from_residual.ensures.1 in
     rw (returned.1, returned.2) (sym (flat_number-at_fault ds c.args.reference c.in-Some.decl _ declared far))
@@ -30,14 +30,14 @@ returns-in_err-distance-clause-bijection c =
 pub bounds-as_slice-from : goal.bounds-as_slice-from
 bounds-as_slice-from c =
     let ds = c.args.self.now in
-    let declared : slice_get ds c.args.reference.entry ≡ Some c.in-Some.decl = cc in
-    let inside = slice_get_within ds c.args.reference.entry c.in-Some.decl declared in
+    let declared : slice_get ds c.args.reference.declaration ≡ Some c.in-Some.decl = cc in
+    let inside = slice_get_within ds c.args.reference.declaration c.in-Some.decl declared in
     let long = length-firsts ds c.as_slice.result.now cc in
     omega arith
 
 pub returns-clause-exact : goal.returns-clause-exact
 returns-clause-exact c =
-    let declared : slice_get c.args.self.now c.args.reference.entry ≡ Some c.in-Some.decl = cc in
+    let declared : slice_get c.args.self.now c.args.reference.declaration ≡ Some c.in-Some.decl = cc in
     let far : distance c.in-Some.decl c.args.reference.index ≡ Ok c.in_ok-distance.distance =
     cc (c.in_ok-distance.was) in
     sym (flat_number-at_first c.args.self.now c.args.reference c.in-Some.decl _ c.as_slice.result.now c.from.result declared far (cc) c.from.ensures)

@@ -36,7 +36,7 @@ entry_at-requires c =
     let decls : c.as_slice-2.result.now ≡ ds = cc in
     rw decls (omega arith)
 
--- the entry is numbered as the number that was asked for
+-- the entry has the number that was asked for
 numbered : (c : goal.After-entry_at) → IsNumbered c.args.self.now c.entry_at.result c.args.number
 numbered c =
     let ds = c.args.self.now in

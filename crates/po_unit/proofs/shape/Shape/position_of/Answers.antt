@@ -5,7 +5,7 @@ use Rattle.po_unit.specs.FirstNumbers.{first_numbers, IsPositionOf}
 use Rattle.po_unit.proofs.FirstNumbersLemmas.{length-first_numbers, first_numbers-rise, position_from_search}
 use Rattle.po_unit.proofs.shape.Shape.position_of.Goals as goal
 
--- what the search says of the position
+-- what the search says about the position
 found : (c : goal.After-partition_point) → (1 ≤ c.partition_point.result) × IsPositionOf c.args.self.now c.args.number (c.partition_point.result - 1)
 found c =
     let ds = c.args.self.now in

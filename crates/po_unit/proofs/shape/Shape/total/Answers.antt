@@ -1,4 +1,4 @@
--- The list of all entries is as long as they are counted.
+-- The list of all entries is as long as their count.
 use Rattle.po_unit.proofs.NumberingLemmas.{length-entry_references}
 use Rattle.po_unit.proofs.shape.Shape.total.Goals as goal
 

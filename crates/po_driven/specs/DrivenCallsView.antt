@@ -1,0 +1,69 @@
+-- SPDX-License-Identifier: MIT
+-- What contracts see of the calls of a driven object with their history, and what always holds of them (this project's own).
+use Rattle.std.specs.Prelude.{ℕ, ◌≡◌, ◌<◌, List, [], length, Bool, true, None, All}
+use Rattle.po_engine.specs.Tickets.{uncollected}
+use Rattle.po_engine.specs.Arrival.{Increases}
+use Rattle.po_engine.specs.ObjectState.{opening_state}
+use Rattle.po_engine.specs.StateView.{StateView}
+use Rattle.po_driven.specs.Happening.{Driving, opening, replay}
+use Rattle.po_driven.specs.OnePlace.{HasTickets, IsInOnePlace, IsLedTo}
+use Rattle.po_driven.specs.declared.happening.Happening.{Happening}
+
+pub record DrivenCallsView : Type 0 where
+  -- the calls, their tickets, and the call in service, whose body the client runs
+  pub object : StateView ℕ ℕ
+  -- how many arrivals there have been, requeues included
+  pub place : ℕ
+  -- what has happened: known to proofs alone
+  pub happened : List Happening
+
+-- The calls of a newly made object: for this number of entries, with memory for this number of calls, and whether that number
+-- is fixed.
+abbrev pub opening_calls : ℕ → ℕ → Bool → DrivenCallsView
+opening_calls entries most is_fixed = record {
+  object = record {
+    state = opening_state entries 1;
+    places = [];
+    serving = None;
+    tickets = [];
+    keys = [];
+    first = 1;
+    most = most;
+    is_fixed = is_fixed;
+    before = 0;
+  };
+  place = 0;
+  happened = [];
+}
+
+-- the calls that all that has happened leads to
+abbrev pub led_by : DrivenCallsView → Driving
+led_by t = replay (opening t.object.state.unit) t.happened
+
+-- What always holds of the calls of a driven object.
+pub record IsTraced (t : DrivenCallsView) : Type 0 where
+  -- what has happened leads to them
+  pub leads : IsLedTo (led_by t) t.object
+  -- each accepted call is in one place: queued, in service, ended, or requeued elsewhere
+  pub placed : IsInOnePlace (led_by t)
+  -- those that are queued or in service have a ticket, and no other has one
+  pub tickets : HasTickets t.object
+  -- The places kept for the queued calls rise, and are below the present one, as the engine requires. It isn't these two that
+  -- say that the queues are in order of arrival (9.5.3, D.4), but `leads`: a call that is queued goes after the others.
+  pub rises : Increases t.object.places
+  pub later : All (λ k. k < t.place) t.object.places
+
+-- One more call on this entry may be accepted: no body runs, there is memory for it, its command has begun, the entry exists,
+-- and a number and a place are left.
+pub record IsReady (t : DrivenCallsView) (e : ℕ) : Type 0 where
+  pub idle : t.object.serving ≡ None
+  pub room : uncollected t.object.tickets < t.object.most
+  pub begun : t.object.before ≡ length t.object.state.ended
+  pub entry : e < t.object.state.unit
+  pub number : t.object.state.next < 18_446_744_073_709_551_615
+  pub place : t.place < 340_282_366_920_938_463_463_374_607_431_768_211_455
+
+-- Whether the memory is fixed never changes, and if it is, neither does the number of calls that it is for.
+pub record KeepsRoom (old new : StateView ℕ ℕ) : Type 0 where
+  pub fixed : new.is_fixed ≡ old.is_fixed
+  pub most : old.is_fixed ≡ true → new.most ≡ old.most

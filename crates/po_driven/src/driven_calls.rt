@@ -1,0 +1,390 @@
+// SPDX-License-Identifier: MIT
+//! The calls of a driven object with what has happened to them.
+
+ghost use Rattle.std.specs.Prelude.{◌≡◌, ◌<◌, ◌+◌, ◌++◌, ◌∷◌, [], ℕ, None, Some, IsSome, IfSome, IfNone, IfOk, IsOk, OnOk, OnErr, true, false, find, length, List, nat_lt, count_by, if◌then◌else◌};
+ghost use Rattle.std.specs.List.{slice_get};
+ghost use Rattle.po_engine.specs.Calls.{places_without};
+ghost use Rattle.po_engine.specs.Tickets.{is_live, uncollected};
+ghost use Rattle.po_engine.specs.WaitingCalls.{is_on, is_due, has_number};
+ghost use Rattle.po_engine.specs.Driving.{admitted, counted, new_call};
+ghost use Rattle.po_engine.specs.StateView.{NamesEntry};
+ghost use Rattle.po_engine.specs.Step.{end_call, take_out, conclude, cancel, attempt_cancel, is_full};
+ghost use Rattle.po_unit.specs.declared.outcome.Outcome.TheVariants.{Requeue as RequeueTo};
+ghost use Rattle.po_calls.specs.declared.end.End.TheVariants.{Completed};
+ghost use Rattle.po_driven.specs.AtRest.{IsAtRest};
+ghost use Rattle.po_driven.specs.Happening.{cancellation_of, end_oldest, make_due as due};
+ghost use Rattle.po_driven.specs.DrivenCallsView.{IsReady, IsTraced, KeepsRoom, opening_calls};
+ghost use Rattle.po_driven.specs.declared.happening.Happening.TheVariants.{Served, Arrived, Selected, Ended, RequeuedElsewhere, Due, Requeued, Broken, Cancelled, Marked, Finalized};
+
+use crate::client_unit::ClientUnit;
+use crate::happening::Happening;
+use crate::steps::{admit, break_oldest, conclude, finish, forget, make_due, mark, take, withdraw};
+use crate::words::Requeue;
+use po_calls::{Call, End, Ticket};
+use po_engine::{Arriving, Queueing, State};
+use po_history::Trace;
+use po_unit::Outcome;
+use std::alloc::{AllocError, Global};
+use std::marker::Model;
+
+/// The calls of a driven object. Only proofs know what has happened to them, which leads to their present state. Each accepted
+/// call is in one place, and the queues are in order of arrival.
+#[derive(Drop)]
+pub struct DrivenCalls {
+    state: State<ClientUnit>,
+    /// How many arrivals there have been, requeues included.
+    place: u128,
+    happened: Trace<Happening>,
+}
+
+impl Model for DrivenCalls {
+    ghost use Rattle.po_driven.specs.DrivenCallsView.{DrivenCallsView, IsTraced as IsKept};
+
+    ghost Value = { DrivenCallsView };
+
+    ghost view = { λ t. record { object = t.state; place = t.place; happened = t.happened.items } };
+
+    ghost invariant = { λ t. IsKept (record { object = t.state; place = t.place; happened = t.happened.items }) };
+}
+
+impl DrivenCalls {
+    /// Makes the calls of an object with this number of entries. There are none yet, and they take memory as they come.
+    pub fn new(alloc: Global, entries: u16) -> Result<DrivenCalls, AllocError>
+        ensures { IfOk result (λ t. t ≡ opening_calls entries 0 false) }
+    {
+        Ok(DrivenCalls {
+            state: State::new(alloc, ClientUnit::new(entries), 1)?,
+            place: 0,
+            happened: Trace::new(),
+        })
+    }
+
+    /// Like `new`, but takes all memory at once, for up to `calls` calls that are queued or in service.
+    pub fn with_capacity(
+        alloc: Global,
+        entries: u16,
+        calls: usize,
+    ) -> Result<DrivenCalls, AllocError>
+        ensures { IfOk result (λ t. t ≡ opening_calls entries calls true) }
+    {
+        Ok(DrivenCalls {
+            state: State::with_capacity(alloc, ClientUnit::new(entries), 1, calls)?,
+            place: 0,
+            happened: Trace::new(),
+        })
+    }
+
+    /// Recalls for proofs what holds of all such calls.
+    pub fn recall_invariant(&self)
+        ensures { IsTraced self.now }
+    {
+        // Only for the prover: brings the invariant into the proof.
+        let _ = &self.state;
+    }
+
+    /// Returns the engine of the calls, to look at.
+    #[inline(always)]
+    pub fn state(&self) -> &State<ClientUnit>
+        ensures { result.now ≡ self.now.object }
+    {
+        &self.state
+    }
+
+    /// Returns whether there is a number and a place for one more call.
+    pub fn has_numbers(&self) -> bool
+        ensures yes { result ≡ true → (self.now.object.state.next < u64.MAX) × (self.now.place < u128.MAX) }
+        ensures no { self.now.object.state.next < u64.MAX → self.now.place < u128.MAX → result ≡ true }
+    {
+        self.state.next_number() < u64::MAX && self.place < u128::MAX
+    }
+
+    /// Returns whether there is a place for one more arrival.
+    pub fn has_place(&self) -> bool
+        ensures { result ≡ nat_lt self.now.place u128.MAX }
+    {
+        self.place < u128::MAX
+    }
+
+    /// Makes room for one more call, and begins its command.
+    #[inline(always)]
+    pub fn make_room(&mut self) -> Result<(), AllocError>
+        ensures same { self.new ≡ record self.old {
+          object = record self.old.object {
+            most = self.new.object.most;
+            before = self.new.object.before;
+          };
+        } }
+        ensures room { OnOk result (uncollected self.new.object.tickets < self.new.object.most) }
+        ensures begun { OnOk result (self.new.object.before ≡ length self.new.object.state.ended) }
+        ensures err { OnErr result (self.new ≡ self.old) }
+        ensures had_room { uncollected self.old.object.tickets < self.old.object.most → IsOk result }
+        ensures room_kept { KeepsRoom self.old.object self.new.object }
+    {
+        if !self.state.has_room() {
+            if self.state.is_fixed() {
+                return Err(AllocError);
+            }
+            self.state.reserve()?;
+        }
+        self.state.begin();
+        Ok(())
+    }
+
+    /// Accepts a call with an open barrier: it is in service, and its body runs (9.5.3).
+    #[inline(always)]
+    pub fn accept_open(&mut self, arriving: Arriving<u64>)
+        requires { IsReady self.old arriving.entry }
+        ensures state { self.new.object.state ≡ counted self.old.object.state }
+        ensures unit { self.new.object.state.unit ≡ self.old.object.state.unit }
+        ensures serving { self.new.object.serving ≡ Some (new_call self.old.object.state.next arriving) }
+        ensures happened { self.new.happened ≡ self.old.happened ++ Served arriving ∷ [] }
+        ensures room_kept { KeepsRoom self.old.object self.new.object }
+    {
+        let queueing = Queueing {
+            max_length: None,
+            place: self.place,
+        };
+        admit(&mut self.state, queueing, arriving, true);
+        self.place += 1;
+        self.happened = self.happened.then(&Happening::Served(arriving));
+    }
+
+    /// Accepts a call with a closed barrier. It is queued, and its ticket is returned; or it ends, if the queue of its entry
+    /// already has this length (9.5.3, D.7).
+    #[inline(always)]
+    pub fn accept_closed(&mut self, arriving: Arriving<u64>, longest: Option<u64>) -> Option<Ticket>
+        requires { IsReady self.old arriving.entry }
+        ensures state { self.new.object.state ≡ admitted longest (counted self.old.object.state) (new_call self.old.object.state.next arriving) false }
+        ensures unit { self.new.object.state.unit ≡ self.old.object.state.unit }
+        ensures serving { self.new.object.serving ≡ None }
+        ensures happened { self.new.happened ≡ self.old.happened ++ Arrived arriving longest ∷ [] }
+        ensures queued { IfSome result (λ _. IsSome (find (is_on arriving.entry) self.new.object.state.waiting)) }
+        ensures found { IfSome result (λ ticket. IsSome (find (has_number ticket.number) self.new.object.state.waiting)) }
+        ensures number { IfSome result (λ ticket. ticket.number ≡ self.old.object.state.next) }
+        ensures live { IfSome result (λ ticket. is_live self.new.object.tickets ticket ≡ true) }
+        ensures full { IfNone result (is_full longest (count_by (is_on arriving.entry) self.old.object.state.waiting) ≡ true) }
+        ensures room_kept { KeepsRoom self.old.object self.new.object }
+    {
+        let queueing = Queueing {
+            max_length: longest,
+            place: self.place,
+        };
+        let is_full = longest == Some(self.state.count(arriving.entry));
+        let ticket = admit(&mut self.state, queueing, arriving, false);
+        self.place += 1;
+        self.happened = self.happened.then(&Happening::Arrived(arriving, longest));
+        if is_full {
+            forget(&mut self.state, ticket);
+            return None;
+        }
+        Some(ticket)
+    }
+
+    /// Selects the first call on the entry: it is in service, and its body runs (9.5.3).
+    pub fn select(&mut self, e: u16) -> Option<Call<u64>>
+        requires serving { self.old.object.serving ≡ None }
+        requires entry { e < self.old.object.state.unit }
+        ensures found { result ≡ find (is_on e) self.old.object.state.waiting }
+        ensures state { self.new.object.state ≡ take_out self.old.object.state (is_on e) }
+        ensures unit { self.new.object.state.unit ≡ self.old.object.state.unit }
+        ensures serving { self.new.object.serving ≡ result }
+        ensures happened { self.new.happened ≡ self.old.happened ++ Selected e ∷ [] }
+        ensures room_kept { KeepsRoom self.old.object self.new.object }
+    {
+        let call = take(&mut self.state, e);
+        self.happened = self.happened.then(&Happening::Selected(e));
+        call
+    }
+
+    /// Ends the call in service in this way, and gives up its ticket.
+    #[inline(always)]
+    pub fn end(&mut self, call: Call<u64>, end: End<u64>)
+        requires { self.old.object.serving ≡ Some call }
+        ensures state { self.new.object.state ≡ end_call self.old.object.state call end }
+        ensures unit { self.new.object.state.unit ≡ self.old.object.state.unit }
+        ensures serving { self.new.object.serving ≡ None }
+        ensures happened { self.new.happened ≡ self.old.happened ++ Ended end ∷ [] }
+        ensures room_kept { KeepsRoom self.old.object self.new.object }
+    {
+        finish(&mut self.state, call, end);
+        self.happened = self.happened.then(&Happening::Ended(end));
+    }
+
+    /// Removes the call in service, which its body requeued to another object or a task, and gives up its ticket (9.5.4).
+    #[inline(always)]
+    pub fn requeue_elsewhere(&mut self, call: Call<u64>)
+        requires { self.old.object.serving ≡ Some call }
+        ensures state { self.new.object.state ≡ end_call self.old.object.state call (Completed call.value) }
+        ensures unit { self.new.object.state.unit ≡ self.old.object.state.unit }
+        ensures serving { self.new.object.serving ≡ None }
+        ensures happened { self.new.happened ≡ self.old.happened ++ RequeuedElsewhere ∷ [] }
+        ensures room_kept { KeepsRoom self.old.object self.new.object }
+    {
+        finish(&mut self.state, call, End::Completed(call.value));
+        self.happened = self.happened.then(&Happening::RequeuedElsewhere);
+    }
+
+    /// Makes the call in service due from now on.
+    fn make_due(&mut self, call: Call<u64>) -> Call<u64>
+        requires { self.old.object.serving ≡ Some call }
+        ensures call { result ≡ due call }
+        ensures same { self.new ≡ record self.old {
+          object = record self.old.object { serving = Some result };
+          happened = self.old.happened ++ Due ∷ [];
+        } }
+    {
+        let moved = make_due(&mut self.state, call);
+        self.happened = self.happened.then(&Happening::Due);
+        moved
+    }
+
+    /// Moves the call in service, which its body requeued, to the end of the queue of its new entry, and returns its ticket. If
+    /// that queue already has this length, the call ends instead (9.5.4, D.7).
+    fn move_to(
+        &mut self,
+        call: Call<u64>,
+        target: u16,
+        with_abort: bool,
+        longest: Option<u64>,
+    ) -> Option<Ticket>
+        requires serving { self.old.object.serving ≡ Some call }
+        requires entry { target < self.old.object.state.unit }
+        requires place { self.old.place < u128.MAX }
+        requires kept { (with_abort ≡ true) → (call.aborted ≡ false) }
+        ensures state { self.new.object.state ≡ conclude longest self.old.object.state call (RequeueTo target with_abort call.value) }
+        ensures unit { self.new.object.state.unit ≡ self.old.object.state.unit }
+        ensures serving { self.new.object.serving ≡ None }
+        ensures happened { self.new.happened ≡ self.old.happened ++ Requeued (RequeueTo target with_abort call.value) longest ∷ [] }
+        ensures queued { IfSome result (λ _. IsSome (find (is_on target) self.new.object.state.waiting)) }
+        ensures found { IfSome result (λ ticket. IsSome (find (has_number ticket.number) self.new.object.state.waiting)) }
+        ensures number { IfSome result (λ ticket. ticket.number ≡ call.number) }
+        ensures live { IfSome result (λ ticket. is_live self.new.object.tickets ticket ≡ true) }
+        ensures full { IfNone result (is_full longest (count_by (is_on target) self.old.object.state.waiting) ≡ true) }
+        ensures room_kept { KeepsRoom self.old.object self.new.object }
+    {
+        let queueing = Queueing {
+            max_length: longest,
+            place: self.place,
+        };
+        let is_full = longest == Some(self.state.count(target));
+        let ticket = self.state.ticket_in_service(call);
+        let outcome = Outcome::Requeue {
+            target,
+            with_abort,
+            value: call.value,
+        };
+        conclude(&mut self.state, queueing, call, outcome);
+        self.place += 1;
+        self.happened = self.happened.then(&Happening::Requeued(outcome, longest));
+        if is_full {
+            forget(&mut self.state, ticket);
+            return None;
+        }
+        Some(ticket)
+    }
+
+    /// Like `move_to`, but the call may be due from now on.
+    pub fn requeue(
+        &mut self,
+        call: Call<u64>,
+        requeue: Requeue,
+        longest: Option<u64>,
+    ) -> Option<Ticket>
+        requires serving { self.old.object.serving ≡ Some call }
+        requires entry { requeue.target < self.old.object.state.unit }
+        requires place { self.old.place < u128.MAX }
+        requires kept { (requeue.with_abort ≡ true) → (call.aborted ≡ false) }
+        ensures serving { self.new.object.serving ≡ None }
+        ensures unit { self.new.object.state.unit ≡ self.old.object.state.unit }
+        ensures queued { IfSome result (λ _. IsSome (find (is_on requeue.target) self.new.object.state.waiting)) }
+        ensures found { IfSome result (λ ticket. IsSome (find (has_number ticket.number) self.new.object.state.waiting)) }
+        ensures number { IfSome result (λ ticket. ticket.number ≡ call.number) }
+        ensures happened { self.new.happened ≡ self.old.happened ++ (if requeue.due then Due ∷ [] else []) ++ Requeued (RequeueTo requeue.target requeue.with_abort call.value) longest ∷ [] }
+        ensures live { IfSome result (λ ticket. is_live self.new.object.tickets ticket ≡ true) }
+        ensures full { IfNone result (is_full longest (count_by (is_on requeue.target) self.old.object.state.waiting) ≡ true) }
+        ensures room_kept { KeepsRoom self.old.object self.new.object }
+    {
+        let moved = if requeue.due {
+            self.make_due(call)
+        } else {
+            call
+        };
+        self.move_to(moved, requeue.target, requeue.with_abort, longest)
+    }
+
+    /// Cancels the first call that is due, and gives up its ticket (9.7.2, 9.7.3).
+    pub fn cancel_due(&mut self) -> Option<Call<u64>>
+        requires { self.old.object.serving ≡ None }
+        ensures found { result ≡ find (is_due self.old.object.state.clock) self.old.object.state.waiting }
+        ensures serving { self.new.object.serving ≡ None }
+        ensures unit { self.new.object.state.unit ≡ self.old.object.state.unit }
+        ensures none { IfNone result (self.new ≡ self.old) }
+        ensures happened { self.new.happened ≡ self.old.happened ++ cancellation_of result }
+        ensures room_kept { KeepsRoom self.old.object self.new.object }
+    {
+        let ticket = self.state.first_due()?;
+        let call = self.state.waiting_call(ticket)?;
+        self.cancel(ticket);
+        Some(call)
+    }
+
+    /// Ends the call that was queued first of all by Program_Error (9.4, 9.5.3).
+    pub fn break_oldest(&mut self) -> Option<Call<u64>>
+        requires { self.old.object.serving ≡ None }
+        ensures found { result ≡ slice_get self.old.object.state.waiting 0 }
+        ensures state { self.new.object.state ≡ end_oldest self.old.object.state result }
+        ensures unit { self.new.object.state.unit ≡ self.old.object.state.unit }
+        ensures serving { self.new.object.serving ≡ None }
+        ensures none { IfNone result (self.new.object.state.waiting ≡ []) }
+        ensures happened { IfSome result (λ _. self.new.happened ≡ self.old.happened ++ Broken ∷ []) }
+        ensures same { IfNone result (self.new.happened ≡ self.old.happened) }
+        ensures room_kept { KeepsRoom self.old.object self.new.object }
+    {
+        let call = break_oldest(&mut self.state)?;
+        self.happened = self.happened.then(&Happening::Broken);
+        Some(call)
+    }
+
+    /// Cancels the queued call of the ticket, and gives up its ticket (9.5.3, 9.7.2).
+    pub fn cancel(&mut self, ticket: Ticket)
+        requires serving { self.old.object.serving ≡ None }
+        requires live { is_live self.old.object.tickets ticket ≡ true }
+        requires found { IsSome (find (has_number ticket.number) self.old.object.state.waiting) }
+        ensures state { self.new.object.state ≡ cancel self.old.object.state ticket.number (find (has_number ticket.number) self.old.object.state.waiting) }
+        ensures unit { self.new.object.state.unit ≡ self.old.object.state.unit }
+        ensures serving { self.new.object.serving ≡ None }
+        ensures happened { self.new.happened ≡ self.old.happened ++ Cancelled ticket.number ∷ [] }
+        ensures room_kept { KeepsRoom self.old.object self.new.object }
+    {
+        withdraw(&mut self.state, ticket);
+        self.happened = self.happened.then(&Happening::Cancelled(ticket.number));
+    }
+
+    /// Remembers an attempt to abort a queued call that can't be cancelled (9.5.4).
+    pub fn mark(&mut self, ticket: Ticket, call: Call<u64>)
+        requires serving { self.old.object.serving ≡ None }
+        requires live { is_live self.old.object.tickets ticket ≡ true }
+        requires found { find (has_number ticket.number) self.old.object.state.waiting ≡ Some call }
+        requires without_abort { call.without_abort ≡ true }
+        ensures state { self.new.object.state ≡ attempt_cancel self.old.object.state ticket.number (Some call) }
+        ensures unit { self.new.object.state.unit ≡ self.old.object.state.unit }
+        ensures serving { self.new.object.serving ≡ None }
+        ensures happened { self.new.happened ≡ self.old.happened ++ Marked ticket.number ∷ [] }
+        ensures rests { (closed : List ℕ) → IsAtRest self.old.object closed → IsAtRest self.new.object closed }
+        ensures room_kept { KeepsRoom self.old.object self.new.object }
+    {
+        mark(&mut self.state, ticket, call);
+        self.happened = self.happened.then(&Happening::Marked(ticket.number));
+    }
+
+    /// Marks the object as finalized: no further call is accepted (9.4).
+    pub fn finalize(&mut self)
+        ensures same { self.new ≡ record self.old {
+          object = record self.old.object { state = record self.old.object.state { finalized = true } };
+          happened = self.old.happened ++ Finalized ∷ [];
+        } }
+    {
+        self.state.set_finalized();
+        self.happened = self.happened.then(&Happening::Finalized);
+    }
+}

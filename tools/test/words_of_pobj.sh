@@ -1,0 +1,246 @@
+# SPDX-License-Identifier: MIT
+# shellcheck shell=bash
+# What `pobj` answers by itself, and what `pobj dist` packs, over the mock of the toolchain; and whether the version and the kit are
+# named the same everywhere. Read by `test`, after builds.sh.
+
+# Calls `pobj` there, which has to end with the status, and to write the text on standard output (out) or standard error (err).
+answers_there() {
+  local status=$1 where=$2 text=$3
+  shift 3
+  call_there "$status" "$@"
+  wrote_there "$where" "$text"
+}
+
+# Puts there a program that is built, and does what the text says.
+put_program() {
+  local program=$scratch/build/crates/$1/out/$1
+  mkdir -p "${program%/*}"
+  printf '#!/bin/sh\n%s\n' "$2" >"$program"
+  chmod +x "$program"
+}
+
+# Carries out a command on a terminal, and keeps what is shown there.
+on_terminal() {
+  python3 -c 'import os, pty, sys; sys.exit(os.waitstatus_to_exitcode(pty.spawn(sys.argv[1:])))' "$@" </dev/null 2>&1 | tr -d '\r' >"$scratch/out"
+}
+
+# Help and the version, with no toolchain.
+helps_there() {
+  local word
+  call_there 0 --help
+  for word in run check picture stress ada c trace build dist; do
+    wrote_there out "  $word "
+  done
+  answers_there 0 out "Usage: pobj COMMAND" help
+  answers_there 0 out "Usage: pobj COMMAND" help help
+  answers_there 2 err "Usage: pobj COMMAND"
+  answers_there 0 out "Usage: pobj ada DEST" help ada
+  answers_there 0 out "Usage: pobj dist" dist --help
+  answers_there 0 out "pobj $(cat VERSION)" --version
+}
+
+# Words that are no command, with no toolchain: one that is near to a command, one that is near to two, and others.
+mistyped_there() {
+  answers_there 2 err "pobj: no command 'tarce'; did you mean 'trace'?" tarce
+  answers_there 2 err "did you mean '--help'?" --hlep
+  answers_there 2 err "pobj: no command 'hest'; there are run, check, " hest
+  answers_there 2 err "pobj: no command 'walk'; there are run, check, " walk
+  answers_there 2 err "pobj: no command 'a??[1m'; there are " $'a\n\e\e[1m'
+  answers_there 2 err "run takes one FILE" run one two
+  answers_there 2 err "check takes one FILE" check --what
+  answers_there 2 err "dist takes no words" dist now
+}
+
+# Files that can't be read, with no toolchain.
+missing_there() {
+  local word
+  mkdir -p "$scratch/build/bindings/ada"
+  cp bindings/ada/trace.sh "$scratch/build/bindings/ada/"
+  ln -s "$(command -v dirname)" "$scratch/build/bin/dirname"
+  for word in run check picture; do
+    answers_there 4 err "pobj: $scratch/none can't be opened: No such file or directory" "$word" "$scratch/none"
+  done
+  answers_there 4 err "$scratch/none" trace "$scratch/none"
+  answers_there 4 err "can't be opened: Is a directory" run -- "$scratch"
+}
+
+# A script that is named is what the program reads, by the built one and by a trial.
+named_there() {
+  local script=$scratch/script
+  printf '# A buffer.\nunit\tbufer 2\n' >"$script"
+  put_program pobj_run cat
+  answers_there 0 out "unit" run "$script"
+  answers_there 0 out "unit" run -- "$script"
+  touch -d @0 "$scratch/build/crates/pobj_run/out/pobj_run"
+  act_as "cat; echo 'run=ended status=0 proved=no' >&2; exit"
+  answers_there 0 out "unit" run "$script"
+}
+
+# On a terminal a fault is shown with its line, by the built program and by a trial. If nobody reads along, standard error
+# has the program's own text alone.
+faults_there() {
+  local fault="cat >/dev/null; echo 'pobj: line 2: bad unit' >&2" pobj=$scratch/build/pobj
+  put_program pobj_run "$fault; exit 1"
+  call_there 1 run "$scratch/script"
+  same "$(cat "$scratch/err")" "pobj: line 2: bad unit" "standard error of a fault"
+  PATH=$scratch/build/bin on_terminal "$pobj" run "$scratch/script"
+  wrote_there out "pobj: line 2: bad unit"
+  wrote_there out "pobj: line 2 is: unit?bufer 2"
+  wrote_there out "pobj: '$pobj check $scratch/script' explains each fault"
+  PATH=$scratch/build/bin on_terminal bash -c '"$0" run <(cat "$1")' "$pobj" "$scratch/script"
+  same "$(cat "$scratch/out")" "pobj: line 2: bad unit" "a fault of a script that can't be read again"
+  touch -d @0 "$scratch/build/crates/pobj_run/out/pobj_run"
+  act_as "$fault; echo 'run=ended status=1 proved=no' >&2; exit"
+  PATH=$scratch/build/bin on_terminal "$pobj" run "$scratch/script"
+  wrote_there out "pobj: line 2 is: unit?bufer 2"
+  call_there 1 run "$scratch/script"
+  if grep -q "line 2 is" "$scratch/err"; then fail "a fault is explained though nobody reads along"; else pass; fi
+}
+
+# The kit is found in its folder, and another one than the named is warned of.
+kits_there() {
+  act_as "cat >/dev/null; echo 'run=ended status=0 proved=no' >&2; exit"
+  mkdir "$scratch/build/kit"
+  mv "$scratch/build/bin/rt" "$scratch/build/kit/rt"
+  call_there 0 run
+  if grep -q warning "$scratch/err"; then fail "the named kit is warned of"; else pass; fi
+  sed -i 's/rattle-kit-[a-z0-9]*/rattle-kit-0 logic 1/' "$scratch/build/kit/rt"
+  answers_there 0 err "pobj: warning: rt belongs to rattle-kit-0 logic 1, and README.md names rattle-kit-" run
+  mv "$scratch/build/kit/rt" "$scratch/build/bin/rt"
+}
+
+# A picture in a file is written if it is whole. If not, the file stays as it was, and nothing lies beside it.
+picture_in_file() {
+  local to=$scratch/pictures answers='printf "value 0\nWait 0\nclock 0\nnext 1\n"'
+  mkdir "$to"
+  echo 'unit signal' >"$scratch/script"
+  echo before >"$to/old.svg"
+  act_as "echo 'run=ended status=4 proved=no' >&2; exit"
+  call_there 4 picture "$scratch/script" -o "$to/new.svg"
+  call_there 4 picture "$scratch/script" -o "$to/old.svg"
+  same "$(ls "$to")" old.svg "files after pictures that can't be drawn"
+  same "$(cat "$to/old.svg")" before "a picture that can't be drawn again"
+  answers_there 4 err "no/it.svg can't be written" picture "$scratch/script" -o "$to/no/it.svg"
+  answers_there 4 err "$to isn't a file" picture "$scratch/script" -o "$to"
+  call_there 2 picture "$scratch/script" -o
+  act_as "$answers; echo 'run=ended status=0 proved=no' >&2; exit"
+  call_there 0 picture -o "$to/old.svg" "$scratch/script"
+  call_there 0 picture "$scratch/script"
+  if cmp -s "$scratch/out" "$to/old.svg"; then pass; else fail "a picture in a file differs from the one on standard output"; fi
+  same "$(ls "$to")" old.svg "files after a picture"
+}
+
+# Makes the repository that `pobj dist` packs, with a mock of the toolchain that builds programs and a library which do nothing.
+make_packed() {
+  local work=$scratch/build program
+  cp -r LICENSE README.md bindings docs examples include "$work/"
+  printf '%s\n' pobj_run: pobj_check: pobj_stress: po_c: >"$work/crates.txt"
+  for program in pobj_run pobj_check pobj_stress; do
+    mkdir -p "$work/crates/$program/src"
+    echo >"$work/crates/$program/src/main.rt"
+  done
+  mkdir -p "$work/crates/po_c/src" "$scratch/doc/c" "$scratch/object"
+  (cd "$scratch/object" && echo >nothing.o && ar rc "$scratch/doc/c/liblibc_c.a" nothing.o)
+  cat >"$work/bin/rt" <<RT
+#!/bin/sh
+case \$1 in
+  version) echo rattle-kit-13f; exit ;;
+  doc) echo "$scratch/doc/README.md"; exit ;;
+esac
+mkdir -p out/rlib
+echo >out/rlib/stamp
+name=\${PWD##*/}
+cp "$scratch/doc/c/liblibc_c.a" "out/lib\$name.a"
+printf '#!/bin/sh\necho "%s \$*"; cat\n' "\$name" >"out/\$name"
+chmod +x "out/\$name"
+RT
+}
+
+# Calls `pobj` there with all tools of this machine. It has to end with this status.
+call_with_tools() {
+  local want=$1 got
+  shift
+  PATH=$scratch/build/bin:$PATH timeout 60 "$scratch/build/pobj" "$@" </dev/null >"$scratch/out" 2>"$scratch/err"
+  got=$?
+  if [ "$got" -eq "$want" ]; then pass; else fail "pobj $* there: status $got, wanted $want: $(cat "$scratch/err")"; fi
+}
+
+# What the archive has, and what its `pobj` answers.
+packs_there() {
+  local name path to
+  name=pobj-$(cat VERSION)-x86_64-linux
+  call_with_tools 0 dist
+  tar -C "$scratch" -xzf "$scratch/build/$name.tar.gz" || fail "there is no archive $name.tar.gz"
+  to=$scratch/$name
+  for path in LICENSE VERSION KIT share/pobj/ada/hangs.adb $(grep -oE '\b(bin|docs|examples|include|lib|share)/[A-Za-z0-9_./-]*[A-Za-z0-9]' "$to/README.md"); do
+    if [ -e "$to/$path" ]; then pass; else fail "the archive has no $path"; fi
+  done
+  if (cd "$to" && sha256sum --quiet -c SHA256SUMS); then pass; else fail "the sums of the archive differ"; fi
+  same "$("$to/bin/pobj" --version)" "pobj $(cat VERSION)" "the packed version"
+  same "$(sed -n 's/^Version: //p' "$to/lib/pkgconfig/pobj.pc")" "$(cat VERSION)" "the version for pkg-config"
+  same "$("$to/bin/pobj" --help | awk '/^Commands/ { on = 1 } /^Options/ { on = 0 } on && NF > 1 { print $1 }' | uniq | tr '\n' ' ')" \
+    "run check picture stress ada trace help " "the packed commands"
+  same "$("$to/bin/pobj" tarce 2>&1)" "pobj: no command 'tarce'; did you mean 'trace'?" "the packed answer to a mistyped word"
+  same "$("$to/bin/pobj" run "$to/VERSION")" "pobj_run run"$'\n'"$(cat VERSION)" "the packed program's input"
+  same "$("$to/bin/pobj" run "$to/none" 2>&1)" "pobj: $to/none can't be opened: No such file or directory" "a file that isn't there"
+  if git check-ignore -q "$name.tar.gz"; then pass; else fail "git doesn't ignore $name.tar.gz"; fi
+}
+
+# `pobj c` fills an empty folder and its own again, and no other one.
+folders_there() {
+  local to=$scratch/folders
+  mkdir -p "$to/foreign" "$to/empty"
+  echo >"$to/foreign/mine"
+  call_with_tools 4 c "$to/foreign"
+  wrote_there err "$to/foreign is there, and isn't a folder that pobj c made"
+  same "$(ls "$to/foreign")" mine "a foreign folder"
+  call_with_tools 4 c "$to/foreign/mine"
+  call_with_tools 0 c "$to/empty"
+  call_with_tools 0 c "$to/empty"
+  call_with_tools 0 c "$to/new"
+}
+
+# While another call builds, `pobj ada` and `pobj c` don't wait if the library is built.
+beside_a_build() {
+  printf '#!/bin/sh\n' >"$scratch/build/bindings/ada/make.sh"
+  exec 7<"$scratch/build/pobj"
+  flock 7
+  call_with_tools 0 c "$scratch/beside"
+  mkdir -p "$scratch/runtime"
+  call_with_tools 0 ada "$scratch/runtime"
+  exec 7<&-
+}
+
+words_of_pobj() {
+  local scratch=$scratch/words
+  mkdir "$scratch"
+  make_repository
+  helps_there
+  mistyped_there
+  ln -s "$(python3 -c 'import sys; print(sys.executable)')" "$scratch/build/bin/python3"
+  missing_there
+  named_there
+  faults_there
+  kits_there
+  picture_in_file
+  make_packed
+  packs_there
+  folders_there
+  beside_a_build
+}
+
+# VERSION, the programs and the C header name one version.
+version_is_one() {
+  local version
+  version=$(cat VERSION)
+  same "$(sed -nE 's/^const VERSION: &str = "(.*)";$/\1/p' crates/po_command_line/src/commands.rt)" "$version" "the version of the programs"
+  same "$(sed -nE 's/^#define POBJ_VERSION "(.*)"$/\1/p' include/pobj.h)" "$version" "the version in include/pobj.h"
+}
+
+# README.md and CONTRIBUTING.md name the kit that `pobj` and `test` look for, and no other one.
+kit_is_one() {
+  local page
+  for page in README.md CONTRIBUTING.md; do
+    same "$(grep -oE 'rattle-kit-[0-9a-z]+' "$page" | sort -u)" "$kit" "the kit in $page"
+  done
+}

@@ -1,0 +1,178 @@
+# SPDX-License-Identifier: MIT
+# shellcheck shell=sh
+# The command line of `pobj`: its help, and its answers to wrong words and to files that can't be read. Read by `pobj` and by the
+# archive's bin/pobj. Both set `commands`, the commands that they have, and `parts`, the folder of nearest.awk, and define
+# `version`.
+
+say() { printf 'pobj: %s\n' "$*" >&2; }
+
+# Prints what each command takes, and after two spaces or more what it does.
+rows() {
+  cat <<'ROWS'
+  run [FILE]                    Carries out a script
+  check [FILE]                  Explains each fault of a script, and carries out nothing
+  picture [FILE] [-o PICTURE]   Draws what a script does as a time line, in SVG
+  stress --unit NAME ..         Has threads share an object, and compares each answer with its history
+  ada DEST                      Makes a runtime folder for Ada programs of GNAT 12.2
+  ada --check [DEST]            Compiles and runs a program on such a folder, or on a new one
+  ada --linked PROGRAM          Says whether a linked Ada program runs over pobj or on GNAT's own runtime
+  c DEST                        Makes a folder with the library for C, its headers and examples
+  trace FILE                    Shows what the objects of an Ada program did
+  build [run|check|stress|all]  Proves and builds programs; until then an answer is a trial of a minute
+  dist                          Makes an archive of all, for machines without the toolchain
+ROWS
+}
+
+# Prints the help.
+say_help() {
+  cat <<'HEAD'
+A proved runtime for Ada 2022 protected objects
+
+Usage: pobj COMMAND [WORDS]
+
+Commands:
+HEAD
+  rows | awk -v there=" $commands " 'index(there, " " $1 " ")'
+  cat <<'REST'
+  help [COMMAND]                Prints this help, or the command's
+
+Options:
+  -h, --help                    Prints this help
+  -V, --version                 Prints the version
+
+If no FILE is named, a script is read from standard input. 'pobj help run' has the commands of scripts.
+
+The statuses:
+  0  a good end
+  1  the script is faulty, or `check` finds something
+  2  the words of the command line are refused
+  3  `stress` finds answers that differ from the history
+  4  memory runs out, or a file, a read, a write or GNAT fails
+  5  a build fails, or a trial gives no answer
+  6  the toolchain or Python isn't there
+
+docs/SCRIPTS.md describes scripts, docs/ADA.md and docs/C.md what is for programs in Ada and C.
+REST
+}
+
+# Prints the help of a command that has none of its own.
+say_help_of() {
+  rows | awk -F '   *' -v command="$1" '
+    { split($2, word, " ") }
+    word[1] == command { print (shown++ ? "       pobj " : "Usage: pobj ") $2; does = does "\n" $3 }
+    END { print does }'
+}
+
+# Copies at most 80 bytes of its input, with a ? for each that isn't a printable character of ASCII.
+shown() { tr -d '\n' | head -c 80 | LC_ALL=C tr -c ' -~' '?'; }
+
+# Says that the word is no command, and ends.
+refuse_word() {
+  # shellcheck disable=SC2086
+  near=$(awk -f "$parts/nearest.awk" -- "$1" $commands help --help --version)
+  word=$(printf '%s' "$1" | shown)
+  if [ -n "$near" ]; then
+    say "no command '$word'; did you mean '$near'?"
+  else
+    say "no command '$word'; there are $(printf '%s' "$commands" | awk '{ gsub(/ /, ", "); print }'): --help says what each does"
+  fi
+  exit 2
+}
+
+# Whether the word is one of `commands`.
+is_command() {
+  for known in $commands; do
+    [ "$1" != "$known" ] || return 0
+  done
+  return 1
+}
+
+# Answers words that need no program, and ends: a request for help or the version, and a first word that is no command.
+answer_words() {
+  case ${1-} in
+    "")
+      say_help >&2
+      exit 2
+      ;;
+    help | -h | --help)
+      say_help
+      exit
+      ;;
+    -V | --version)
+      echo "pobj $(version)"
+      exit
+      ;;
+  esac
+  is_command "$1" || refuse_word "$1"
+  case "$1 ${2-}" in
+    "run "* | "check "* | "picture "* | "stress "*) ;;
+    *" -h" | *" --help")
+      say_help_of "$1"
+      exit
+      ;;
+  esac
+}
+
+# Ends if the file can't be read.
+need_file() {
+  if [ ! -e "$1" ]; then
+    why="No such file or directory"
+  elif [ -d "$1" ]; then
+    why="Is a directory"
+  elif [ ! -r "$1" ]; then
+    why="Permission denied"
+  else
+    return 0
+  fi
+  say "$1 can't be opened: $why"
+  exit 4
+}
+
+# Sets `file` to the script that the words after `run` or `check` name, or to nothing if they name none. Ends if it can't be read,
+# or if the words are others.
+take_script() {
+  command=$1 file=
+  shift
+  case "$# ${1-}" in
+    "0 " | "1 -h" | "1 --help") return ;;
+    "2 --") file=$2 ;;
+    "1 "[!-]*) file=$1 ;;
+    *)
+      say "$command takes one FILE, or a script on standard input"
+      exit 2
+      ;;
+  esac
+  need_file "$file"
+}
+
+# Shows the faulty line of a script, and what explains it: explain_fault ERRORS SCRIPT NAME. ERRORS is what the program wrote on
+# standard error, and NAME is what the user calls the script.
+explain_fault() {
+  number=$(printf '%s\n' "$1" | awk '/^pobj: line [0-9]+: / { print $3 + 0; exit }')
+  [ -n "$number" ] || return 0
+  say "line $number is: $(head -n "$number" "$2" | tail -n 1 | shown)"
+  say "'$0 check $3' explains each fault"
+}
+
+# Carries out the script by a built program, and ends: run_file PROGRAM SCRIPT. On a terminal a faulty line is shown too, if the
+# script can be read again. Elsewhere standard error has the program's own text alone, which users may compare.
+run_file() {
+  if [ ! -t 2 ] || [ ! -f "$2" ]; then exec "$1" run <"$2"; fi
+  status=0
+  exec 3>&1
+  errors=$("$1" run <"$2" 2>&1 >&3 3>&-) || status=$?
+  [ -z "$errors" ] || printf '%s\n' "$errors" >&2
+  explain_fault "$errors" "$2" "$2"
+  exit "$status"
+}
+
+# Draws a script: draw PROGRAM WORDS... PROGRAM carries it out.
+draw() {
+  program=$1
+  shift
+  if ! command -v python3 >/dev/null; then
+    say "a picture is drawn by Python 3, and the command python3 isn't found"
+    exit 6
+  fi
+  exec python3 "$parts/picture/picture.py" "$program" "$@"
+}
