@@ -14,6 +14,7 @@ ghost use Rattle.std.specs.Prelude.{◌≡◌, ◌<◌, None, Some, MatchBool, c
 ghost use Rattle.po_c.specs.Told.{FromTo, KeepsObject, Cancelling, is_not_zero, Answers, entry_named, arriving_named, barrier_named, body_end_named, number_of_action, number_of_cancellation};
 ghost use Rattle.po_driven.specs.declared.action.Action.TheVariants.{Refused};
 ghost use Rattle.po_driven.specs.declared.words.Cancellation.TheVariants.{Refused as IsRefused};
+ghost use Rattle.po_driven.specs.Passing.{MakesReady, Serves, TurnsAway, Waits};
 ghost use Rattle.po_driven.specs.Steps.{Attempts, EndsBody, Evaluates, Finalizes, GoesOn, Issues};
 ghost use Rattle.po_engine.specs.WaitingCalls.{is_on};
 ghost use Rattle.po_driven.specs.DrivenView.{DrivenView, at_opening};
@@ -220,6 +221,91 @@ pub extern "C" fn pobj_finalize(alloc: Global, handle: &mut Handle, step: &mut N
     let action = object.finalize(step);
     *handle = Handle::of(object);
     answer_of(action)
+}
+
+/// Makes room for one more call, so that `pobj_served` accepts it.
+#[unsafe(no_mangle)]
+pub extern "C" fn pobj_ready(alloc: Global, handle: &mut Handle) -> u64
+    ensures made { KeepsObject handle.old.object handle.new.object }
+    ensures no_object { handle.old.object ≡ None → result ≡ number_of_action Refused }
+    ensures answer { FromTo handle.old.object handle.new.object (λ old new. Answers result (MakesReady old new)) }
+{
+    let Some(mut object) = handle.take(alloc) else {
+        return refused();
+    };
+    let action = object.ready();
+    *handle = Handle::of(object);
+    answer_of(action)
+}
+
+/// Takes a call of this caller whose barrier was open and whose body has run, and returns what is next.
+#[unsafe(no_mangle)]
+pub extern "C" fn pobj_served(
+    alloc: Global,
+    handle: &mut Handle,
+    caller: u64,
+    entry: u64,
+    marks: u64,
+    how: u64,
+    target: u64,
+    target_marks: u64,
+    step: &mut NamedCall,
+) -> u64
+    ensures made { KeepsObject handle.old.object handle.new.object }
+    ensures no_object { handle.old.object ≡ None → (result ≡ number_of_action Refused) × (step.new ≡ step.old) }
+    ensures answer { FromTo handle.old.object handle.new.object (λ old new.
+        Answers result (Serves (arriving_named caller entry marks) (body_end_named how target target_marks) step.new old new)) }
+{
+    let Some(mut object) = handle.take(alloc) else {
+        return refused();
+    };
+    let arriving = arriving_of(caller, entry, marks);
+    let action = object.served(arriving, body_end_of(how, target, target_marks), step);
+    *handle = Handle::of(object);
+    answer_of(action)
+}
+
+/// Queues a call of this caller that arrives alone and isn't due, and whose barrier is closed however many calls are queued.
+#[unsafe(no_mangle)]
+pub extern "C" fn pobj_wait(
+    alloc: Global,
+    handle: &mut Handle,
+    caller: u64,
+    entry: u64,
+    marks: u64,
+    step: &mut NamedCall,
+) -> bool
+    ensures made { KeepsObject handle.old.object handle.new.object }
+    ensures no_object { handle.old.object ≡ None → (result ≡ false) × (step.new ≡ step.old) }
+    ensures answer { FromTo handle.old.object handle.new.object (λ old new. Waits (arriving_named caller entry marks) step.new old new result) }
+{
+    let Some(mut object) = handle.take(alloc) else {
+        return false;
+    };
+    let is_queued = object.wait(arriving_of(caller, entry, marks), step);
+    *handle = Handle::of(object);
+    is_queued
+}
+
+/// Cancels a call of this caller that arrives alone and is due, and whose barrier is closed however many calls are queued.
+#[unsafe(no_mangle)]
+pub extern "C" fn pobj_turn_away(
+    alloc: Global,
+    handle: &mut Handle,
+    caller: u64,
+    entry: u64,
+    marks: u64,
+) -> bool
+    ensures made { KeepsObject handle.old.object handle.new.object }
+    ensures no_object { handle.old.object ≡ None → result ≡ false }
+    ensures answer { FromTo handle.old.object handle.new.object (λ old new. TurnsAway (arriving_named caller entry marks) old new result) }
+{
+    let Some(mut object) = handle.take(alloc) else {
+        return false;
+    };
+    let is_away = object.turn_away(arriving_of(caller, entry, marks));
+    *handle = Handle::of(object);
+    is_away
 }
 
 /// Returns how many calls are queued on the entry, or 0 if there is no such entry.

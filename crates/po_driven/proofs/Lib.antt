@@ -1,8 +1,11 @@
+mod Alone
+mod Between
 mod Held
 mod Leads
 mod Left
 mod Lengths
 mod Numbers
+mod Passing
 mod Rests
 mod Spots
 mod Traces

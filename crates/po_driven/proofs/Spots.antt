@@ -9,9 +9,11 @@ use Rattle.po_engine.specs.StateView.{StateView}
 use Rattle.po_engine.specs.WaitingCalls.{has_number, mark}
 use Rattle.po_engine.specs.Ending.{ended_as, has_ended}
 use Rattle.po_engine.proofs.Lists.{without_none}
-use Rattle.po_engine.specs.Step.{end_call, take_out, cancel, attempt_cancel}
+use Rattle.po_engine.specs.Step.{end_call, queue, take_out, cancel, attempt_cancel}
 use Rattle.po_engine.proofs.Sums.{sum_by-push, sum_by-without, sum_by-mapped}
 use Rattle.po_driven.specs.OnePlace.{times_in_service, times_in, IsThereOnce}
+use Rattle.po_engine.specs.Driving.{counted}
+use Rattle.std.proofs.lemmas.Bool.Decides.{nat_tests}
 
 abbrev one_if : ℕ → Call ℕ → ℕ
 one_if n x = cond (has_number n x) 1 0
@@ -73,6 +75,31 @@ moved a b s serving st ha nx k p =
     let next : b.state.next ≡ a.state.next = ap (λ t. t.next) st ∙ nx in record {
       low = subst (λ j. 1 ≤ j) (sym next) p.low;
       each = λ n. subst (λ j. times_in n b.state b.serving ≡ (if nat_le 1 n && nat_lt n j then 1 else 0)) (sym next) (ap₂ (times_in n) st ha ∙ (k n ∙ p.each n));
+    }
+
+-- a call that is in service ends
+pub over : (a b : StateView ℕ ℕ) (x : Call ℕ) (end : End ℕ) → a.serving ≡ Some x → b.state ≡ end_call a.state x end → b.serving ≡ None → IsThereOnce a → IsThereOnce b
+over a b x end h st ha p = moved a b (end_call a.state x end) None st ha refl (λ n. omega (arith, places-end_call n a.state x end, ap (times_in_service n) h)) p
+
+in_range : (n k : ℕ) (x : Call ℕ) → x.number ≡ k → 1 ≤ k → (if nat_le 1 n && nat_lt n k then 1 else 0) + one_if n x ≡ (if nat_le 1 n && nat_lt n (k + 1) then 1 else 0)
+in_range n k x is low = grind (arith, nat_tests)
+
+-- a call with the next number is in service
+pub begun : (a b : StateView ℕ ℕ) (x : Call ℕ) → a.serving ≡ None → x.number ≡ a.state.next → b.state ≡ counted a.state → b.serving ≡ Some x → IsThereOnce a → IsThereOnce b
+begun a b x h number st ha p =
+    let next : b.state.next ≡ a.state.next + 1 = ap (λ t. t.next) st in record {
+      low = omega (arith, next);
+      each = λ n. subst (λ j. times_in n b.state b.serving ≡ (if nat_le 1 n && nat_lt n j then 1 else 0)) (sym next)
+          (ap₂ (times_in n) st ha ∙ omega (arith, p.each n, ap (times_in_service n) h, in_range n a.state.next x number p.low));
+    }
+
+-- a call with the next number is queued
+pub joined : (a b : StateView ℕ ℕ) (x : Call ℕ) → a.serving ≡ None → x.number ≡ a.state.next → b.state ≡ queue (counted a.state) x → b.serving ≡ None → IsThereOnce a → IsThereOnce b
+joined a b x h number st ha p =
+    let next : b.state.next ≡ a.state.next + 1 = ap (λ t. t.next) st in record {
+      low = omega (arith, next);
+      each = λ n. subst (λ j. times_in n b.state b.serving ≡ (if nat_le 1 n && nat_lt n j then 1 else 0)) (sym next)
+          (ap₂ (times_in n) st ha ∙ omega (arith, p.each n, ap (times_in_service n) h, in_range n a.state.next x number p.low, sum_by-push (λ y. cond (has_number n y) 1 0) a.state.waiting x));
     }
 
 pub took : (a b : StateView ℕ ℕ) (test : Call ℕ → Bool) (o : Option (Call ℕ)) → a.serving ≡ None → find test a.state.waiting ≡ o → b.state ≡ take_out a.state test → b.serving ≡ o → IsThereOnce a → IsThereOnce b

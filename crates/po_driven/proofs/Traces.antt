@@ -14,7 +14,8 @@ use Rattle.po_engine.specs.Arrival.{Increases}
 use Rattle.po_engine.specs.ObjectState.{ObjectState}
 use Rattle.po_engine.specs.StateView.{StateView}
 use Rattle.po_engine.specs.Step.{enter, end_call, is_full, conclude}
-use Rattle.po_driven.specs.Happening.{Driving, happen, opening, replay}
+use Rattle.po_engine.proofs.Sums.{sum_by-push}
+use Rattle.po_driven.specs.Happening.{Driving, arrives, happen, opening, replay}
 use Rattle.po_driven.specs.OnePlace.{HasTickets, IsInOnePlace, IsLedTo, IsThereOnce, times_in_service, places_with, times_in}
 use Rattle.po_driven.specs.DrivenCallsView.{DrivenCallsView, IsTraced, led_by}
 use Rattle.po_driven.specs.declared.happening.Happening.{Happening}
@@ -44,16 +45,17 @@ leads_on : (old new : DrivenCallsView) (h : Happening) → new.object.state.unit
 leads_on old new h unit noted = ap₂ (λ n hs. replay (opening n) hs) unit noted ∙ replay_on (opening old.object.state.unit) old.happened h
 
 -- what holds after one more thing has happened
-pub traced_on : (old new : DrivenCallsView) (h : Happening) → IsTraced old → new.object.state.unit ≡ old.object.state.unit → new.happened ≡ old.happened ++ h ∷ []
+pub traced_on : (old new : DrivenCallsView) (h : Happening) → IsTraced old → new.object.state.unit ≡ old.object.state.unit → new.happened ≡ old.happened ++ h ∷ [] → new.place ≡ old.place + (if arrives h then 1 else 0)
     → ((d : Driving) → IsLedTo d old.object → IsLedTo (happen h d) new.object) → (IsThereOnce old.object → IsThereOnce new.object)
     → HasTickets new.object → (Increases old.object.places → Increases new.object.places) → All (λ k. k < new.place) new.object.places → IsTraced new
-traced_on old new h t unit noted goes once tickets rises later =
+traced_on old new h t unit noted at goes once tickets rises later =
     let leads = subst (λ d. IsLedTo d new.object) (sym (leads_on old new h unit noted)) (goes (led_by old) t.leads) in record {
       leads = leads;
       placed = in_place (led_by new) new.object leads (once (there (led_by old) old.object t.leads t.placed));
       tickets = tickets;
       rises = rises t.rises;
       later = later;
+      place = at ∙ omega (arith, t.place, sum_by-push (λ g. if arrives g then 1 else 0) old.happened h) ∙ ap (count_by arrives) (sym noted);
     }
 
 -- places that are at most this one are below the next one
@@ -67,7 +69,7 @@ full_is : (limit : Option ℕ) (n : ℕ) → option_eq nat_eq limit (Some n) ≡
 full_is None n = refl
 full_is (Some most) n = same_test most n
 
-found_last : (p : Call ℕ → Bool) (xs : List (Call ℕ)) (x : Call ℕ) → p x ≡ true → IsSome (find p (xs ++ x ∷ []))
+pub found_last : (p : Call ℕ → Bool) (xs : List (Call ℕ)) (x : Call ℕ) → p x ≡ true → IsSome (find p (xs ++ x ∷ []))
 found_last p [] x is = rw is refl
 found_last p (y ∷ xs) x is = elim (cases_Bool (p y)) [ inl here ↦ rw here refl | inr there ↦ rw there (found_last p xs x is) ]
 

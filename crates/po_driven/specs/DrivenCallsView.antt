@@ -1,11 +1,15 @@
 -- SPDX-License-Identifier: MIT
 -- What contracts see of the calls of a driven object with their history, and what always holds of them (this project's own).
-use Rattle.std.specs.Prelude.{ℕ, ◌≡◌, ◌<◌, List, [], length, Bool, true, None, All}
+use Rattle.std.specs.Prelude.{ℕ, ◌≡◌, ◌<◌, ◌+◌, List, [], ◌∷◌, ◌++◌, length, Bool, true, None, All, count_by}
+use Rattle.po_calls.specs.declared.end.End.{End}
+use Rattle.po_engine.specs.declared.arriving.Arriving.{Arriving}
+use Rattle.po_engine.specs.Driving.{counted, new_call}
+use Rattle.po_engine.specs.Step.{end_call}
 use Rattle.po_engine.specs.Tickets.{uncollected}
 use Rattle.po_engine.specs.Arrival.{Increases}
 use Rattle.po_engine.specs.ObjectState.{opening_state}
 use Rattle.po_engine.specs.StateView.{StateView}
-use Rattle.po_driven.specs.Happening.{Driving, opening, replay}
+use Rattle.po_driven.specs.Happening.{Driving, arrives, opening, replay}
 use Rattle.po_driven.specs.OnePlace.{HasTickets, IsInOnePlace, IsLedTo}
 use Rattle.po_driven.specs.declared.happening.Happening.{Happening}
 
@@ -52,6 +56,8 @@ pub record IsTraced (t : DrivenCallsView) : Type 0 where
   -- say that the queues are in order of arrival (9.5.3, D.4), but `leads`: a call that is queued goes after the others.
   pub rises : Increases t.object.places
   pub later : All (λ k. k < t.place) t.object.places
+  -- the present place is the number of arrivals so far
+  pub place : t.place ≡ count_by arrives t.happened
 
 -- One more call on this entry may be accepted: no body runs, there is memory for it, its command has begun, the entry exists,
 -- and a number and a place are left.
@@ -62,6 +68,24 @@ pub record IsReady (t : DrivenCallsView) (e : ℕ) : Type 0 where
   pub entry : e < t.object.state.unit
   pub number : t.object.state.next < 18_446_744_073_709_551_615
   pub place : t.place < 340_282_366_920_938_463_463_374_607_431_768_211_455
+
+-- A call may be accepted that ends at once: no body runs, and a number and a place are left.
+pub record MayPass (t : DrivenCallsView) : Type 0 where
+  pub idle : t.object.serving ≡ None
+  pub number : t.object.state.next < 18_446_744_073_709_551_615
+  pub place : t.place < 340_282_366_920_938_463_463_374_607_431_768_211_455
+
+-- The calls after one more was accepted and has ended in this way, and this has happened. It took no room, and no ticket is left.
+abbrev pub passed : DrivenCallsView → Arriving ℕ → End ℕ → List Happening → DrivenCallsView
+passed t a end hs = record {
+  object = record t.object {
+    state = end_call (counted t.object.state) (new_call t.object.state.next a) end;
+    before = length t.object.state.ended + 1;
+    keys = t.object.keys ++ 0 ∷ [];
+  };
+  place = t.place + 1;
+  happened = t.happened ++ hs;
+}
 
 -- Whether the memory is fixed never changes, and if it is, neither does the number of calls that it is for.
 pub record KeepsRoom (old new : StateView ℕ ℕ) : Type 0 where

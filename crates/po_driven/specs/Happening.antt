@@ -1,6 +1,6 @@
 -- SPDX-License-Identifier: MIT
 -- What happens to the calls of a driven object, in the terms of a step (9.5.2 to 9.5.4).
-use Rattle.std.specs.Prelude.{ℕ, List, [], ◌∷◌, ◌++◌, true, false, Option, Some, None, find, option_map}
+use Rattle.std.specs.Prelude.{ℕ, List, [], ◌∷◌, ◌++◌, Bool, true, false, Option, Some, None, find, option_map}
 use Rattle.std.specs.List.{slice_get}
 use Rattle.po_unit.specs.declared.outcome.Outcome.{Outcome}
 use Rattle.po_calls.specs.declared.call.Call.{Call}
@@ -62,6 +62,13 @@ happen Broken d = record d { state = end_oldest d.state (slice_get d.state.waiti
 happen (Cancelled n) d = record d { state = cancel d.state n (find (has_number n) d.state.waiting); serving = None }
 happen (Marked n) d = record d { state = attempt_cancel d.state n (find (has_number n) d.state.waiting); serving = None }
 happen Finalized d = record d { state = record d.state { finalized = true } }
+
+-- whether a call arrives, requeues included
+abbrev pub arrives : Happening → Bool
+arrives (Served a) = true
+arrives (Arrived a limit) = true
+arrives (Requeued o limit) = true
+arrives other = false
 
 -- the calls after these things have happened, one after the other
 abbrev pub replay : Driving → List Happening → Driving

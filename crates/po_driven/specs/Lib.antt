@@ -5,6 +5,7 @@ pub mod DrivenView
 pub mod Happening
 pub mod Noted
 pub mod OnePlace
+pub mod Passing
 pub mod Steps
 pub mod DrivenCallsView
 pub mod Unknown

@@ -10,10 +10,10 @@ ghost use Rattle.po_engine.specs.Driving.{admitted, counted, new_call};
 ghost use Rattle.po_engine.specs.StateView.{NamesEntry};
 ghost use Rattle.po_engine.specs.Step.{end_call, take_out, conclude, cancel, attempt_cancel, is_full};
 ghost use Rattle.po_unit.specs.declared.outcome.Outcome.TheVariants.{Requeue as RequeueTo};
-ghost use Rattle.po_calls.specs.declared.end.End.TheVariants.{Completed};
+ghost use Rattle.po_calls.specs.declared.end.End.TheVariants.{Cancelled as IsCancelled, Completed};
 ghost use Rattle.po_driven.specs.AtRest.{IsAtRest};
 ghost use Rattle.po_driven.specs.Happening.{cancellation_of, end_oldest, make_due as due};
-ghost use Rattle.po_driven.specs.DrivenCallsView.{IsReady, IsTraced, KeepsRoom, opening_calls};
+ghost use Rattle.po_driven.specs.DrivenCallsView.{IsReady, IsTraced, KeepsRoom, MayPass, opening_calls, passed};
 ghost use Rattle.po_driven.specs.declared.happening.Happening.TheVariants.{Served, Arrived, Selected, Ended, RequeuedElsewhere, Due, Requeued, Broken, Cancelled, Marked, Finalized};
 
 use crate::client_unit::ClientUnit;
@@ -105,6 +105,13 @@ impl DrivenCalls {
         self.place < u128::MAX
     }
 
+    /// Returns whether there are places for two more arrivals.
+    pub fn has_places(&self) -> bool
+        ensures { result ≡ nat_lt (self.now.place + 1) u128.MAX }
+    {
+        self.place < u128::MAX - 1
+    }
+
     /// Makes room for one more call, and begins its command.
     #[inline(always)]
     pub fn make_room(&mut self) -> Result<(), AllocError>
@@ -178,6 +185,55 @@ impl DrivenCalls {
             return None;
         }
         Some(ticket)
+    }
+
+    /// Accepts a call with an open barrier, whose body has run and ended in this way: what `accept_open` and `end` do, one after the
+    /// other. The call takes no room.
+    #[inline(always)]
+    pub fn accept_served(&mut self, arriving: Arriving<u64>, end: End<u64>)
+        requires { MayPass self.old }
+        ensures { self.new ≡ passed self.old arriving end (Served arriving ∷ Ended end ∷ []) }
+    {
+        self.state.end_at_once(arriving, end);
+        self.place += 1;
+        self.happened = self
+            .happened
+            .then(&Happening::Served(arriving))
+            .then(&Happening::Ended(end));
+    }
+
+    /// Accepts a call with an open barrier, whose body has run and has requeued it to another object or a task: what `accept_open`
+    /// and `requeue_elsewhere` do, one after the other. The call takes no room.
+    #[inline(always)]
+    pub fn accept_requeued_elsewhere(&mut self, arriving: Arriving<u64>)
+        requires { MayPass self.old }
+        ensures { self.new ≡ passed self.old arriving (Completed arriving.value) (Served arriving ∷ RequeuedElsewhere ∷ []) }
+    {
+        self.state
+            .end_at_once(arriving, End::Completed(arriving.value));
+        self.place += 1;
+        self.happened = self
+            .happened
+            .then(&Happening::Served(arriving))
+            .then(&Happening::RequeuedElsewhere);
+    }
+
+    /// Accepts a call with a closed barrier while none is queued, and cancels it: what `accept_closed` and `cancel` do, one after
+    /// the other. The call takes no room.
+    #[inline(always)]
+    pub fn accept_cancelled(&mut self, arriving: Arriving<u64>, longest: Option<u64>)
+        requires may { MayPass self.old }
+        requires alone { self.old.object.state.waiting ≡ [] }
+        requires open { is_full longest 0 ≡ false }
+        ensures { self.new ≡ passed self.old arriving IsCancelled (Arrived arriving longest ∷ Cancelled self.old.object.state.next ∷ []) }
+    {
+        let number = self.state.next_number();
+        self.state.end_at_once(arriving, End::Cancelled);
+        self.place += 1;
+        self.happened = self
+            .happened
+            .then(&Happening::Arrived(arriving, longest))
+            .then(&Happening::Cancelled(number));
     }
 
     /// Selects the first call on the entry: it is in service, and its body runs (9.5.3).

@@ -23,6 +23,8 @@ ghost use Rattle.po_driven.specs.declared.words.Requeue.{Requeue};
 ghost use Rattle.po_driven.specs.declared.words.NamedCall.{NamedCall};
 ghost use Rattle.po_driven.specs.declared.words.Cancellation.TheVariants.{Made, Refused as IsRefused};
 
+mod passing;
+
 use crate::action::Action;
 use crate::driven_calls::DrivenCalls;
 use crate::phase::Phase;

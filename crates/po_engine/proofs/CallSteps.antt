@@ -24,6 +24,11 @@ left_between : (fixed : Bool) (most len key reserved left : ℕ) → len + 1 ≤
 left_between true most len key reserved left few is = (omega (arith, few, is), omega (arith, is))
 left_between false most len key reserved left few is = (is.0, omega (arith, few, is.1))
 
+-- A number that is above the last one stays so if it grows.
+pub above_next : (last : Option ℕ) (n : ℕ) → IsAbove last n → IsAbove last (n + 1)
+above_next None n h = h
+above_next (Some k) n h = omega (arith, h)
+
 module _ {V : Type 0} where
   -- The key of a call that there is room for can be queued.
   pub key_reserved : (fixed : Bool) (calls : Slab (Kept V)) (reserved most key : ℕ) → key ≡ calls.vacant_key → key < calls.capacity

@@ -147,6 +147,17 @@ module _ {V : Type 0} where
       some_same : (j k : ℕ) → Some j ≡ Some k → j ≡ k
       some_same j k e = cc
 
+  -- A call that isn't in the table is numbered and has ended: what is kept of the others stays.
+  pub kept_beside : (calls : Slab (Kept V)) (index later : ℕ → Option ℕ) (ended : List (Ended V)) (x : Ended V)
+      → ((n j : ℕ) → index n ≡ Some j → later n ≡ Some j) → ((n j : ℕ) → index n ≡ Some j → n < x.number) → IsKeptWell calls index ended
+      → IsKeptWell calls later (ended ++ x ∷ [])
+  kept_beside calls index later ended x more below is = record {
+    indexed = λ j w found. more w.call.number j (is.indexed j w found);
+    ends = λ j w found.
+        let lt = below w.call.number j (is.indexed j w found) in
+        is.ends j w found ∙ ap (option_map (λ e. e.end)) (sym (find_other w.call.number ended x (λ e. omega (arith, e, lt))));
+  }
+
   number_in_slot : (slots : List (Option (Kept V))) (k : ℕ) → slice_index_or (map (option_map (λ x. x.call.number)) slots) k None ≡ option_map (λ x. x.call.number) (slice_index_or slots k None)
   number_in_slot [] k = refl
   number_in_slot (o ∷ os) zero = refl

@@ -120,6 +120,31 @@ impl<V: Copy> Calls<V> {
         self.serving = None;
     }
 
+    /// Gives a new call its number and ends it, in a command of its own. The call was never in service or queued, so it takes no
+    /// room and gets no ticket.
+    pub fn end_at_once(&mut self, call: Call<V>, end: End<V>)
+        requires serving { self.old.serving ≡ None }
+        requires number { call.number ≡ self.old.next }
+        requires few { self.old.next < u64.MAX }
+        ensures { self.new ≡ record self.old {
+          next = self.old.next + 1;
+          ended = self.old.ended ++ ended_as end call ∷ [];
+          ended_before = length self.old.ended + 1;
+          keys = self.old.keys ++ 0 ∷ [];
+        } }
+    {
+        let over = Ended {
+            number: call.number,
+            owner: call.owner,
+            end,
+        };
+        self.keys = self.keys.then(&0);
+        self.next += 1;
+        self.ended = self.ended.then(&over);
+        self.before = self.ended.copy();
+        self.ended_now.clear();
+    }
+
     /// Takes the first call on the entry into service.
     pub fn take_on(&mut self, entry: u16) -> Option<Call<V>>
         requires serving { self.old.serving ≡ None }

@@ -21,6 +21,21 @@ use po_calls::{Call, Deadline, End, Ticket};
 use po_history::Event;
 use po_unit::{Outcome, Unit};
 
+/// Returns a call that arrives, with its number.
+fn numbered<V: Copy>(number: u64, arriving: Arriving<V>) -> Call<V>
+    ensures { result ≡ new_call number arriving }
+{
+    Call {
+        number,
+        owner: 0,
+        entry: arriving.entry,
+        value: arriving.value,
+        without_abort: arriving.without_abort,
+        aborted: arriving.aborted,
+        deadline: arriving.deadline,
+    }
+}
+
 impl<U: Unit> State<U> {
     /// Ends the call in service.
     pub fn end_call(&mut self, call: Call<U::Value>, end: End<U::Value>)
@@ -316,20 +331,28 @@ impl<U: Unit> State<U> {
         ensures ticket { SetsTicket self.old.tickets self.new.tickets result.key (Some result.number) }
     {
         self.calls.recall_invariant();
-        let call = Call {
-            number: self.calls.next_number(),
-            owner: 0,
-            entry: arriving.entry,
-            value: arriving.value,
-            without_abort: arriving.without_abort,
-            aborted: arriving.aborted,
-            deadline: arriving.deadline,
-        };
+        let call = numbered(self.calls.next_number(), arriving);
         let ticket = self.calls.add(call);
         if !served {
             self.enter(queueing, call);
         }
         ticket
+    }
+
+    /// Gives a call that the client has served or turned away its number, and ends it, in a command of its own. It takes no room
+    /// and gets no ticket.
+    #[inline(always)]
+    pub fn end_at_once(&mut self, arriving: Arriving<U::Value>, end: End<U::Value>)
+        requires serving { self.old.serving ≡ None }
+        requires number { self.old.state.next < u64.MAX }
+        ensures { self.new ≡ record self.old {
+          state = end_call (counted self.old.state) (new_call self.old.state.next arriving) end;
+          before = length self.old.state.ended + 1;
+          keys = self.old.keys ++ 0 ∷ [];
+        } }
+    {
+        let call = numbered(self.calls.next_number(), arriving);
+        self.calls.end_at_once(call, end);
     }
 
     /// Gives the call in service another deadline.

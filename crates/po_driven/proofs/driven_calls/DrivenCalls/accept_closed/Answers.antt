@@ -29,7 +29,7 @@ invariant_of-self c =
     let full = full_when c.args.longest c.count.result (count_by (is_on e) s.waiting) c.eq-is_full.result c.eq-is_full.ensures counted_is c.if-is_full.true in
     let new : DrivenCallsView = record { object = c.forget.new.state; place = i.place + 1; happened = c.then-self-inside.result.items } in
     let goes = arrived i.state c.forget.new.state c.args.arriving c.args.longest (ap (λ v. v.state) f.state ∙ ap (λ v. v.state) a.state) (ap (λ v. v.serving) f.state ∙ ap (λ v. v.serving) a.state) in
-    traced_on old new (Arrived c.args.arriving c.args.longest) c.self.invariant (ap (λ v. v.state.unit) f.state ∙ a.unit) c.then-self-inside.ensures goes (λ p. f.placed (a.placed p))
+    traced_on old new (Arrived c.args.arriving c.args.longest) c.self.invariant (ap (λ v. v.state.unit) f.state ∙ a.unit) c.then-self-inside.ensures (omega arith) goes (λ p. f.placed (a.placed p))
     (omega (arith, c.self.invariant.tickets, a.count, f.count, idle, ap (λ v. length v.state.waiting) f.state, ap (λ v. length v.state.waiting) a.state, full_len c.args.longest (counted s) x full, ap (λ v. calls_in_service v.serving) f.state, ap (λ v. calls_in_service v.serving) a.state)) (λ r. subst (λ v. Increases v.places) (sym f.state) (a.rises r)) (subst (λ v. All (λ k. k < i.place + 1) v.places) (sym f.state) (below_next i.place c.admit-ticket.new.state.places a.within))
 
 pub invariant_of-self-else-is_full : goal.invariant_of-self-else-is_full
@@ -44,7 +44,7 @@ invariant_of-self-else-is_full c =
     let room = room_when c.args.longest c.count.result (count_by (is_on e) s.waiting) c.eq-is_full.result c.eq-is_full.ensures counted_is c.if-is_full.false in
     let new : DrivenCallsView = record { object = c.admit-ticket.new.state; place = i.place + 1; happened = c.then-self-inside.result.items } in
     let goes = arrived i.state c.admit-ticket.new.state c.args.arriving c.args.longest (ap (λ v. v.state) a.state) (ap (λ v. v.serving) a.state) in
-    traced_on old new (Arrived c.args.arriving c.args.longest) c.self.invariant a.unit c.then-self-inside.ensures goes a.placed
+    traced_on old new (Arrived c.args.arriving c.args.longest) c.self.invariant a.unit c.then-self-inside.ensures (omega arith) goes a.placed
     (omega (arith, c.self.invariant.tickets, a.count, idle, ap (λ v. length v.state.waiting) a.state, entered_len c.args.longest (counted s) x room, ap (λ v. calls_in_service v.serving) a.state)) a.rises (below_next i.place c.admit-ticket.new.state.places a.within)
 
 pub returns-clause-queued : goal.returns-clause-queued

@@ -1,4 +1,4 @@
-use Rattle.std.proofs.Common.{◌≡◌, ◌∙◌, None, ap, sym, subst}
+use Rattle.std.proofs.Common.{◌≡◌, ◌∙◌, None, ap, sym, subst, arith}
 use Rattle.po_driven.proofs.Leads.{cancelled}
 use Rattle.po_driven.proofs.Traces.{traced_on}
 use Rattle.po_driven.specs.declared.happening.Happening.TheVariants.{Cancelled}
@@ -14,4 +14,4 @@ invariant_of-self c =
     let n = c.args.ticket.number in
     let new : DrivenCallsView = record { object = c.withdraw.new.state; place = i.place; happened = c.then-self-inside.result.items } in
     let goes = cancelled i.state c.withdraw.new.state n (ap (λ v. v.state) a.state) (ap (λ v. v.serving) a.state ∙ serving) in
-    traced_on old new (Cancelled n) c.self.invariant a.unit c.then-self-inside.ensures goes a.placed (a.tickets c.self.invariant.tickets) a.rises (a.kept i.place c.self.invariant.later)
+    traced_on old new (Cancelled n) c.self.invariant a.unit c.then-self-inside.ensures (omega arith) goes a.placed (a.tickets c.self.invariant.tickets) a.rises (a.kept i.place c.self.invariant.later)

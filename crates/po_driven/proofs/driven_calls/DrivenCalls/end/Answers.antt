@@ -1,4 +1,4 @@
-use Rattle.std.proofs.Common.{◌≡◌, ◌<◌, Some, ap, sym, subst}
+use Rattle.std.proofs.Common.{◌≡◌, ◌<◌, Some, ap, sym, subst, arith}
 use Rattle.std.specs.List.{All}
 use Rattle.po_engine.specs.Arrival.{Increases}
 use Rattle.po_driven.proofs.Leads.{ended}
@@ -15,4 +15,4 @@ invariant_of-self c =
     let serving = subst (λ v. v.object.serving ≡ Some c.args.call) (sym c.self.view_is) c.requires in
     let new : DrivenCallsView = record { object = c.finish.new.state; place = i.place; happened = c.then-self-inside.result.items } in
     let goes = ended i.state c.finish.new.state c.args.call c.args.end serving (ap (λ v. v.state) a.state) (ap (λ v. v.serving) a.state) in
-    traced_on old new (Ended c.args.end) c.self.invariant (ap (λ v. v.state.unit) a.state) c.then-self-inside.ensures goes a.placed (a.tickets c.self.invariant.tickets) (λ r. subst (λ v. Increases v.places) (sym a.state) r) (subst (λ v. All (λ k. k < i.place) v.places) (sym a.state) c.self.invariant.later)
+    traced_on old new (Ended c.args.end) c.self.invariant (ap (λ v. v.state.unit) a.state) c.then-self-inside.ensures (omega arith) goes a.placed (a.tickets c.self.invariant.tickets) (λ r. subst (λ v. Increases v.places) (sym a.state) r) (subst (λ v. All (λ k. k < i.place) v.places) (sym a.state) c.self.invariant.later)

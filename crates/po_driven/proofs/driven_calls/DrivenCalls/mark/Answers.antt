@@ -1,4 +1,4 @@
-use Rattle.std.proofs.Common.{◌≡◌, ◌∙◌, None, ap, sym, subst}
+use Rattle.std.proofs.Common.{◌≡◌, ◌∙◌, None, ap, sym, subst, arith}
 use Rattle.po_driven.specs.AtRest.{IsAtRest}
 use Rattle.po_driven.proofs.Leads.{marked}
 use Rattle.po_driven.proofs.Traces.{traced_on}
@@ -15,7 +15,7 @@ invariant_of-self c =
     let n = c.args.ticket.number in
     let new : DrivenCallsView = record { object = c.mark.new.state; place = i.place; happened = c.then-self-inside.result.items } in
     let goes = marked i.state c.mark.new.state n (ap (λ v. v.state) a.state) (ap (λ v. v.serving) a.state ∙ serving) in
-    traced_on old new (Marked n) c.self.invariant a.unit c.then-self-inside.ensures goes a.placed (a.tickets c.self.invariant.tickets) a.rises (a.kept i.place c.self.invariant.later)
+    traced_on old new (Marked n) c.self.invariant a.unit c.then-self-inside.ensures (omega arith) goes a.placed (a.tickets c.self.invariant.tickets) a.rises (a.kept i.place c.self.invariant.later)
 
 pub returns-clause-rests : goal.returns-clause-rests
 returns-clause-rests c = λ closed rest. c.mark.ensures.rests closed (subst (λ v. IsAtRest v.object closed) (sym c.self.view_is) rest)

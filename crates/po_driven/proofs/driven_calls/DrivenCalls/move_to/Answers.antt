@@ -34,7 +34,7 @@ invariant_of-self c =
     let new : DrivenCallsView = record { object = c.forget.new.state; place = i.place + 1; happened = c.then-self-inside.result.items } in
     let o = Requeue c.args.target c.args.with_abort c.args.call.value in
     let goes = requeued i.state c.forget.new.state c.args.call o c.args.longest serving (ap (λ v. v.state) f.state ∙ ap (λ v. v.state) a.state) (ap (λ v. v.serving) f.state ∙ ap (λ v. v.serving) a.state) in
-    traced_on old new (Requeued o c.args.longest) c.self.invariant (ap (λ v. v.state.unit) f.state ∙ a.unit) c.then-self-inside.ensures goes (λ p. f.placed (a.placed p))
+    traced_on old new (Requeued o c.args.longest) c.self.invariant (ap (λ v. v.state.unit) f.state ∙ a.unit) c.then-self-inside.ensures (omega arith) goes (λ p. f.placed (a.placed p))
     (omega (arith, c.self.invariant.tickets, f.count, ap (λ v. uncollected v.tickets) a.state, ap calls_in_service serving, ap (λ v. length v.state.waiting) f.state, ap (λ v. length v.state.waiting) a.state, ap (λ (p : ObjectState ℕ ℕ). length p.waiting) moved, full_len c.args.longest s y full, ap (λ v. calls_in_service v.serving) f.state, ap (λ v. calls_in_service v.serving) a.state)) (λ r. subst (λ v. Increases v.places) (sym f.state) (a.rises r)) (subst (λ v. All (λ k. k < i.place + 1) v.places) (sym f.state) (below_next i.place c.conclude.new.state.places a.within))
 
 pub invariant_of-self-else-is_full : goal.invariant_of-self-else-is_full
@@ -52,7 +52,7 @@ invariant_of-self-else-is_full c =
     let new : DrivenCallsView = record { object = c.conclude.new.state; place = i.place + 1; happened = c.then-self-inside.result.items } in
     let o = Requeue c.args.target c.args.with_abort c.args.call.value in
     let goes = requeued i.state c.conclude.new.state c.args.call o c.args.longest serving (ap (λ v. v.state) a.state) (ap (λ v. v.serving) a.state) in
-    traced_on old new (Requeued o c.args.longest) c.self.invariant a.unit c.then-self-inside.ensures goes a.placed
+    traced_on old new (Requeued o c.args.longest) c.self.invariant a.unit c.then-self-inside.ensures (omega arith) goes a.placed
     (omega (arith, c.self.invariant.tickets, ap (λ v. uncollected v.tickets) a.state, ap calls_in_service serving, ap (λ v. length v.state.waiting) a.state, ap (λ (p : ObjectState ℕ ℕ). length p.waiting) moved, entered_len c.args.longest s y room, ap (λ v. calls_in_service v.serving) a.state)) a.rises (below_next i.place c.conclude.new.state.places a.within)
 
 pub returns-clause-queued : goal.returns-clause-queued

@@ -1,0 +1,214 @@
+// SPDX-License-Identifier: MIT
+//! Steps in one, for calls that nothing keeps waiting.
+
+ghost use Rattle.std.specs.Prelude.{◌≡◌, ◌≢◌, ◌<◌, true};
+ghost use Rattle.po_engine.specs.Tickets.{uncollected};
+ghost use Rattle.po_driven.specs.DrivenView.{KeepsAll, KeepsSetup};
+ghost use Rattle.po_driven.specs.Passing.{ArrivesAlone, HasTarget, IsTaken, MakesReady, MayServe, Serves, ServesBetween, TurnsAway, Waits, WasServed, is_due_in};
+ghost use Rattle.po_driven.specs.Answering.{is_withdrawn as withdrawn};
+ghost use Rattle.po_driven.specs.declared.action.Action.TheVariants.{NoMemory, Refused};
+ghost use Rattle.po_driven.specs.declared.words.BodyEnd.TheVariants.{Completed, Failed, RequeuedElsewhere};
+
+use crate::action::Action;
+use crate::driven_object::DrivenObject;
+use crate::phase::Phase;
+use crate::words::{Barrier, BodyEnd, NamedCall};
+use po_calls::{Deadline, End};
+use po_engine::Arriving;
+use po_history::Trace;
+
+/// Returns whether the call is cancelled before its barrier is looked at: its caller was aborted.
+#[inline(always)]
+fn is_withdrawn(arriving: Arriving<u64>) -> bool
+    ensures { result ≡ withdrawn arriving }
+{
+    arriving.aborted && !arriving.without_abort
+}
+
+impl DrivenObject {
+    /// Returns whether a call is accepted even if its body has run already.
+    #[inline(always)]
+    fn may_serve(&self) -> bool
+        ensures yes { result ≡ true → MayServe self.now }
+        ensures no { MayServe self.now → result ≡ true }
+    {
+        self.phase == Phase::Resting
+            && !self.calls.state().is_finalized()
+            && self.calls.has_numbers()
+            && self.calls.has_places()
+    }
+
+    /// Makes room for one more call. If the answer is `Rest`, `served` accepts a call of any entry now, whatever its body does, and
+    /// needs no more memory.
+    #[inline(always)]
+    pub fn ready(&mut self) -> Action
+        ensures { MakesReady self.old self.new result }
+    {
+        if !self.may_serve() {
+            return Action::Refused;
+        }
+        match self.calls.make_room() {
+            Ok(_) => Action::Rest,
+            Err(_) => Action::NoMemory,
+        }
+    }
+
+    /// Returns whether the entry to which a body requeued its call within the object exists.
+    #[inline(always)]
+    fn has_target(&self, end: BodyEnd) -> bool
+        ensures yes { result ≡ true → HasTarget self.now end }
+        ensures no { HasTarget self.now end → result ≡ true }
+    {
+        match end {
+            BodyEnd::Requeued(requeue) => requeue.target < self.entries(),
+            _ => true,
+        }
+    }
+
+    /// Takes a call whose barrier was open and whose body has run, and returns what is next: `issue` with an open barrier and
+    /// `body_ended` in one. Only a requeue within the object takes room (9.5.2, 9.5.3).
+    #[inline(always)]
+    pub fn served(&mut self, arriving: Arriving<u64>, end: BodyEnd, step: &mut NamedCall) -> Action
+        ensures { Serves arriving end step.new self.old self.new result }
+    {
+        if !self.may_serve()
+            || arriving.entry >= self.entries()
+            || is_withdrawn(arriving)
+            || !self.has_target(end)
+        {
+            return Action::Refused;
+        }
+        match end {
+            BodyEnd::Completed => self.completed(arriving, step),
+            BodyEnd::Failed => self.failed(arriving, step),
+            BodyEnd::RequeuedElsewhere => self.requeued_elsewhere(arriving, step),
+            BodyEnd::Requeued(_) => self.issued_and_ended(arriving, end, step),
+        }
+    }
+
+    /// Takes a call whose body has completed.
+    #[inline(always)]
+    fn completed(&mut self, arriving: Arriving<u64>, step: &mut NamedCall) -> Action
+        requires { WasServed arriving Completed self.old }
+        ensures taken { IsTaken result }
+        ensures setup { KeepsSetup self.old self.new }
+        ensures through { ServesBetween arriving Completed step.new self.old self.new result }
+    {
+        self.recall_invariant();
+        self.calls
+            .accept_served(arriving, End::Completed(arriving.value));
+        self.phase = Phase::Settling;
+        self.closed = Trace::new();
+        self.ask(0, step)
+    }
+
+    /// Takes a call whose body has failed: all queued calls end by Program_Error.
+    fn failed(&mut self, arriving: Arriving<u64>, step: &mut NamedCall) -> Action
+        requires { WasServed arriving Failed self.old }
+        ensures taken { IsTaken result }
+        ensures setup { KeepsSetup self.old self.new }
+        ensures through { ServesBetween arriving Failed step.new self.old self.new result }
+    {
+        self.recall_invariant();
+        self.calls.accept_served(arriving, End::Raised(0));
+        self.phase = Phase::Settling;
+        self.closed = Trace::new();
+        self.break_one(step)
+    }
+
+    /// Takes a call whose body has requeued it to another object or a task (9.5.4).
+    fn requeued_elsewhere(&mut self, arriving: Arriving<u64>, step: &mut NamedCall) -> Action
+        requires { WasServed arriving RequeuedElsewhere self.old }
+        ensures taken { IsTaken result }
+        ensures setup { KeepsSetup self.old self.new }
+        ensures through { ServesBetween arriving RequeuedElsewhere step.new self.old self.new result }
+    {
+        self.recall_invariant();
+        self.calls.accept_requeued_elsewhere(arriving);
+        self.phase = Phase::Settling;
+        self.closed = Trace::new();
+        self.ask(0, step)
+    }
+
+    /// Issues a call with an open barrier, and takes how its body has ended, if there is memory for the call.
+    fn issued_and_ended(
+        &mut self,
+        arriving: Arriving<u64>,
+        end: BodyEnd,
+        step: &mut NamedCall,
+    ) -> Action
+        requires { WasServed arriving end self.old }
+        ensures kept { KeepsAll result self.old self.new }
+        ensures accepted { result ≢ Refused }
+        ensures room { uncollected self.old.calls.object.tickets < self.old.calls.object.most → result ≢ NoMemory }
+        ensures setup { KeepsSetup self.old self.new }
+        ensures through { IsTaken result → ServesBetween arriving end step.new self.old self.new result }
+    {
+        self.recall_invariant();
+        let Action::Run(_) = self.issue(arriving, Barrier::Open, step) else {
+            return Action::NoMemory;
+        };
+        self.recall_invariant();
+        self.body_ended(end, step)
+    }
+
+    /// Returns whether the call arrives alone.
+    fn arrives_alone(&self, arriving: Arriving<u64>) -> bool
+        ensures yes { result ≡ true → ArrivesAlone arriving self.now }
+        ensures no { ArrivesAlone arriving self.now → result ≡ true }
+    {
+        self.may_issue(arriving.entry) && self.calls.state().is_idle() && !is_withdrawn(arriving)
+    }
+
+    /// Returns whether the call would be due once it is queued (9.7.2).
+    fn is_due(&self, arriving: Arriving<u64>) -> bool
+        ensures { result ≡ is_due_in self.now arriving }
+    {
+        match arriving.deadline {
+            Deadline::At(time) if !arriving.without_abort => time <= self.calls.state().clock(),
+            _ => false,
+        }
+    }
+
+    /// Queues a call that arrives alone and isn't due, and whose barrier is closed however many calls are queued: `issue` and
+    /// `answer` in one. Then the object is at rest. Returns false, and changes nothing, if that isn't so or there is no memory
+    /// (9.5.3).
+    #[inline(always)]
+    pub fn wait(&mut self, arriving: Arriving<u64>, step: &mut NamedCall) -> bool
+        ensures { Waits arriving step.new self.old self.new result }
+    {
+        self.recall_invariant();
+        if !self.arrives_alone(arriving) || self.is_due(arriving) {
+            return false;
+        }
+        let longest = self.longest(arriving.entry);
+        if self.calls.make_room().is_err() {
+            return false;
+        }
+        let Some(ticket) = self.calls.accept_closed(arriving, longest) else {
+            return false;
+        };
+        self.calls.recall_invariant();
+        self.closed = Trace::new().then(&arriving.entry);
+        step.caller = arriving.value;
+        step.key = ticket.key;
+        step.number = ticket.number;
+        true
+    }
+
+    /// Cancels a call that arrives alone and is due, and whose barrier is closed however many calls are queued: `issue`, `answer`
+    /// and `next` in one. Then the object is at rest. Returns false, and changes nothing, if that isn't so (9.7.2, 9.7.3).
+    #[inline(always)]
+    pub fn turn_away(&mut self, arriving: Arriving<u64>) -> bool
+        ensures { TurnsAway arriving self.old self.new result }
+    {
+        self.recall_invariant();
+        if !self.arrives_alone(arriving) || !self.is_due(arriving) {
+            return false;
+        }
+        let longest = self.longest(arriving.entry);
+        self.calls.accept_cancelled(arriving, longest);
+        self.closed = Trace::new();
+        true
+    }
+}
