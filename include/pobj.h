@@ -25,8 +25,11 @@
 #include <stddef.h>
 #include <stdint.h>
 
-/* The version of the library. */
+/* The version of the library: as text, and its three numbers. */
 #define POBJ_VERSION "0.1.0"
+#define POBJ_VERSION_MAJOR 0
+#define POBJ_VERSION_MINOR 1
+#define POBJ_VERSION_PATCH 0
 
 #ifdef __cplusplus
 extern "C" {
@@ -45,8 +48,12 @@ typedef struct {
     uint64_t number; /* 1 or more */
 } pobj_step;
 
+/* Each enumeration is a type of its own, so that two swapped arguments are diagnosed: C++ refuses them. In C, gcc from version
+   10 and clang warn under -Wextra (-Wenum-conversion), but not of a plain number in the wrong place. The attribute mode(DI)
+   makes a type 64 bits wide, as the library's arguments are. */
+
 /* What the client is to do next. */
-enum {
+typedef enum pobj_action {
     POBJ_REST,          /* nothing: the protected action is over */
     POBJ_EVALUATE,      /* evaluate the barrier of the entry, then pobj_answer (9.5.2) */
     POBJ_RUN,           /* run the body of the entry for step->caller, then pobj_body_ended (9.5.2) */
@@ -56,41 +63,46 @@ enum {
     POBJ_PROGRAM_ERROR, /* raise Program_Error in step->caller: wake it, then pobj_next (9.4, 9.5.3, D.7) */
     POBJ_NO_MEMORY,     /* from pobj_issue only: there is no memory for one more call, and nothing has changed */
     POBJ_REFUSED        /* the object doesn't wait for this step, and nothing has changed */
-};
+} pobj_action;
 
 /* The value of a barrier (9.5.2, 9.5.3). Every number above 1 counts as POBJ_RAISED. */
-enum {
+typedef enum __attribute__((mode(DI))) pobj_barrier {
     POBJ_CLOSED,
     POBJ_OPEN,
     POBJ_RAISED /* its evaluation propagated an exception: the call being issued and all queued ones end by Program_Error */
-};
+} pobj_barrier;
 
 /* How a body ended (9.5.2, 9.5.4). Any other number is refused. */
-enum {
+typedef enum __attribute__((mode(DI))) pobj_body_end {
     POBJ_COMPLETED,           /* its call is complete, by an exception or not: the client wakes the caller */
     POBJ_FAILED,              /* the same, and all queued calls end by Program_Error: the data can't be trusted any more */
     POBJ_REQUEUED,            /* its call is requeued without abort to the entry */
     POBJ_REQUEUED_WITH_ABORT, /* its call is requeued with abort to the entry */
     POBJ_REQUEUED_ELSEWHERE   /* its call is requeued to another object or a task: the client issues it there */
-};
+} pobj_body_end;
 
 /* Marks of a call that is issued or requeued. Add them up. A call that is due stays due. */
-enum {
+typedef enum __attribute__((mode(DI))) pobj_marks {
+    POBJ_NO_MARKS = 0,
     POBJ_DUE = 1,           /* it is conditional, or its time has come: cancelled once no barrier is open (9.7.2, 9.7.3) */
     POBJ_WITHOUT_ABORT = 2, /* for pobj_issue only: a requeue without abort sends the call, so it isn't cancelled (9.5.4) */
     POBJ_ABORTED = 4        /* its caller was aborted: cancelled, unless it is requeued without abort (9.5.3, 9.5.4, 9.8) */
-};
+} pobj_marks;
 
 /* What pobj_cancel answers. */
-enum {
+typedef enum __attribute__((mode(DI))) pobj_cancellation {
     POBJ_CANCEL_MADE,    /* the call is cancelled: wake its caller, then pobj_next; no POBJ_CANCELLED follows for it */
     POBJ_CANCEL_KEPT,    /* a requeue without abort queued the call, so it stays; an abort is remembered (9.5.4) */
     POBJ_CANCEL_UNKNOWN, /* no call is queued with this ticket */
     POBJ_CANCEL_REFUSED  /* the object doesn't wait for a command; nothing has changed */
-};
+} pobj_cancellation;
+
+/* Doesn't compile if a compiler gives these types another width. */
+typedef char pobj_types_are_wide[sizeof(pobj_barrier) == sizeof(uint64_t) && sizeof(pobj_body_end) == sizeof(uint64_t) &&
+    sizeof(pobj_marks) == sizeof(uint64_t) && sizeof(pobj_cancellation) == sizeof(uint64_t) ? 1 : -1];
 
 /* The action of an answer, and its entry. */
-static inline unsigned pobj_action_of(uint64_t answer) { return (unsigned)(answer & 0xff); }
+static inline pobj_action pobj_action_of(uint64_t answer) { return (pobj_action)(answer & 0xff); }
 static inline uint64_t pobj_entry_of(uint64_t answer) { return answer >> 8; }
 
 /* Makes an object with `entries` entries, which takes memory as its calls need it. Returns whether it is made: false if there
@@ -112,31 +124,38 @@ bool pobj_limit(pobj_object *object, uint64_t entry, uint64_t longest);
    barrier is open, POBJ_QUEUED if it is closed, and POBJ_PROGRAM_ERROR if it is closed and the queue is full. If the barrier
    raised, answers POBJ_PROGRAM_ERROR for each queued call, and for this one last. Two answers don't depend on the barrier:
    POBJ_CANCELLED if the call is marked as aborted and may be cancelled, and POBJ_NO_MEMORY if there is no memory for it. */
-uint64_t pobj_issue(pobj_object *object, uint64_t caller, uint64_t entry, uint64_t marks, uint64_t barrier, pobj_step *step);
+uint64_t pobj_issue(
+    pobj_object *object, uint64_t caller, uint64_t entry, pobj_marks marks, pobj_barrier barrier, pobj_step *step);
 
 /* Takes the value of the barrier that the last answer asked for. Answers the next action. */
-uint64_t pobj_answer(pobj_object *object, uint64_t barrier, pobj_step *step);
+uint64_t pobj_answer(pobj_object *object, pobj_barrier barrier, pobj_step *step);
 
 /* Takes how the body ended; `entry` and `marks` are for a requeue within the object. For a requeued call it answers
    POBJ_QUEUED; POBJ_CANCELLED if the requeue is with abort, and the call is marked as aborted here or was by pobj_issue or
    pobj_cancel; or POBJ_PROGRAM_ERROR if the queue is full. Otherwise it answers the next action. */
-uint64_t pobj_body_ended(pobj_object *object, uint64_t how, uint64_t entry, uint64_t marks, pobj_step *step);
+uint64_t pobj_body_ended(pobj_object *object, pobj_body_end how, uint64_t entry, pobj_marks marks, pobj_step *step);
 
 /* Answers the next action, after the body of a procedure and after POBJ_CANCELLED, POBJ_PROGRAM_ERROR or POBJ_CANCEL_MADE. */
 uint64_t pobj_next(pobj_object *object, pobj_step *step);
 
 /* A command: an attempt to cancel the queued call with this ticket, because its time has come (`expired` isn't 0) or because
    its caller was aborted (9.5.3, 9.7.2, 9.8). */
-uint64_t pobj_cancel(pobj_object *object, size_t key, uint64_t number, uint64_t expired);
+pobj_cancellation pobj_cancel(pobj_object *object, size_t key, uint64_t number, uint64_t expired);
 
 /* A command: finalizes the object. Answers POBJ_PROGRAM_ERROR for each queued call, then POBJ_REST. Each later pobj_issue is
    answered POBJ_REFUSED (9.4). */
 uint64_t pobj_finalize(pobj_object *object, pobj_step *step);
 
-/* Returns how many calls are queued on the entry (9.9), or 0 if there is no such entry. Takes constant time. */
+/* Returns how many calls are queued on the entry (9.9), or 0 if there is no such entry. Takes constant time. The object is
+   afterwards as it was, but in between its `at` is NULL. So it isn't const, and two threads mustn't count at one time. */
 uint64_t pobj_count(pobj_object *object, uint64_t entry);
 
 #ifdef __cplusplus
+}
+
+/* Adds up marks, which in C++ a plain | doesn't. */
+constexpr pobj_marks operator|(pobj_marks some, pobj_marks more) {
+    return static_cast<pobj_marks>(static_cast<uint64_t>(some) | static_cast<uint64_t>(more));
 }
 #endif
 

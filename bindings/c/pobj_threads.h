@@ -24,7 +24,7 @@
 
    All code is in this header; it needs pobj.h and the library. It is C11 or C++17 with the atomics of GCC and Clang, for
    POSIX.1-2008. Under -std=c11, define _POSIX_C_SOURCE as 200809L before the first header. Names that begin with
-   pobj_threads_ aren't for programs. */
+   pobj_threads_ or POBJ_THREADS_ aren't for programs. */
 #ifndef POBJ_THREADS_H
 #define POBJ_THREADS_H
 
@@ -44,6 +44,9 @@
 typedef struct pobj_protected pobj_protected;
 typedef struct pobj_call pobj_call;
 
+/* Of a function whose answer a program mustn't drop. */
+#define POBJ_THREADS_HEED __attribute__((warn_unused_result))
+
 /* How a call ended. */
 typedef enum {
     POBJ_CALL_COMPLETED,     /* a body completed it (9.5.2) */
@@ -55,18 +58,18 @@ typedef enum {
                                 POBJ_FAILED, or the queue was full (D.7) */
     POBJ_CALL_NO_MEMORY,     /* there was no memory to accept or to queue it; unless it was requeued, nothing has changed */
     POBJ_CALL_MISUSE         /* no such entry or time; the record is in use; the calling thread, or one that carries out a
-                                requeue to the object, is already inside it; or the body returned none of its numbers, or
-                                that of a requeue before its last */
+                                requeue to the object, is already inside it; or the body called pobj_raise with 0, or
+                                returned what it mustn't (see pobj_entry) */
 } pobj_outcome;
 
 /* An entry (9.5.2). */
 typedef struct {
     const char *name;                        /* for the reader */
     bool (*barrier)(pobj_protected *object); /* whether it is open, or what pobj_raise_barrier returns; NULL: always open */
-    int (*body)(pobj_call *call);            /* POBJ_COMPLETED, or what pobj_raise or a requeue returns; or POBJ_FAILED, if the
-                                                data can't be relied upon: its own call is completed, with the error if
-                                                pobj_raise was called before, all queued calls end by
-                                                POBJ_CALL_PROGRAM_ERROR, and later ones are taken as before */
+    int (*body)(pobj_call *call);            /* what its last pobj_raise or requeue returned, or POBJ_COMPLETED without one; or,
+                                                without a requeue, POBJ_FAILED, if the data can't be relied upon: its own call
+                                                is completed, with the error if pobj_raise was called before, all queued calls
+                                                end by POBJ_CALL_PROGRAM_ERROR, and later ones are taken as before */
 } pobj_entry;
 
 /* A protected object (9.4). Barriers, procedures and functions read the first two parts; the rest isn't for programs. */
@@ -96,6 +99,7 @@ struct pobj_call {
     bool can_wait;            /* whether mutex and wake are made */
     bool woken;               /* the call has ended; the call's own mutex guards this */
     pobj_outcome outcome;
+    int said;                 /* what the body's last pobj_raise or requeue returned, or POBJ_COMPLETED if there is none */
     pobj_protected *target;   /* of a requeue */
     uint64_t target_entry;
     size_t key;               /* with the number, the ticket of the queued call */
@@ -119,13 +123,15 @@ static inline void *pobj_data(const pobj_call *call) {
     return call->object->data;
 }
 
-/* Completes the call with an error of this number, which isn't 0: its caller gets POBJ_CALL_ERROR (9.5.2). */
+/* Completes the call with an error of this number: its caller gets POBJ_CALL_ERROR (9.5.2). 0 is misuse. */
 static inline int pobj_raise(pobj_call *call, int error) {
     call->error = error;
-    return POBJ_COMPLETED;
+    call->said = error == 0 ? -1 : (int)POBJ_COMPLETED;
+    return call->said;
 }
 
 static inline int pobj_threads_target(pobj_call *call, pobj_protected *object, uint64_t entry, int how, bool without_abort) {
+    call->said = how;
     call->target = object;
     call->target_entry = entry;
     call->without_abort = without_abort;
@@ -134,12 +140,12 @@ static inline int pobj_threads_target(pobj_call *call, pobj_protected *object, u
 
 /* Requeues the call to an entry of this object, without abort: from now on neither pobj_abort nor its time can cancel it,
    until it is requeued with abort (9.5.4). The entry takes the same parameters, or none. */
-static inline int pobj_requeue(pobj_call *call, uint64_t entry) {
+POBJ_THREADS_HEED static inline int pobj_requeue(pobj_call *call, uint64_t entry) {
     return pobj_threads_target(call, call->object, entry, POBJ_REQUEUED, true);
 }
 
 /* The same with abort: the call can be cancelled there, and is if it is aborted, or is due and would wait (9.5.4). */
-static inline int pobj_requeue_with_abort(pobj_call *call, uint64_t entry) {
+POBJ_THREADS_HEED static inline int pobj_requeue_with_abort(pobj_call *call, uint64_t entry) {
     return pobj_threads_target(call, call->object, entry, POBJ_REQUEUED_WITH_ABORT, false);
 }
 
@@ -147,12 +153,12 @@ static inline int pobj_requeue_with_abort(pobj_call *call, uint64_t entry) {
    protected action is over and this object's lock is left (9.5.4); its caller sleeps on. If that thread is inside the other
    object, as in a procedure of it, the call ends by POBJ_CALL_MISUSE. Join all threads that may issue calls there in this way
    before you destroy the other object. */
-static inline int pobj_requeue_elsewhere(pobj_call *call, pobj_protected *object, uint64_t entry) {
+POBJ_THREADS_HEED static inline int pobj_requeue_elsewhere(pobj_call *call, pobj_protected *object, uint64_t entry) {
     return pobj_threads_target(call, object, entry, POBJ_REQUEUED_ELSEWHERE, true);
 }
 
 /* The same with abort. */
-static inline int pobj_requeue_elsewhere_with_abort(pobj_call *call, pobj_protected *object, uint64_t entry) {
+POBJ_THREADS_HEED static inline int pobj_requeue_elsewhere_with_abort(pobj_call *call, pobj_protected *object, uint64_t entry) {
     return pobj_threads_target(call, object, entry, POBJ_REQUEUED_ELSEWHERE, false);
 }
 
@@ -249,12 +255,12 @@ static inline void pobj_threads_wake(pobj_call *call) {
 }
 
 /* Returns the marks of the call when it is issued or requeued. */
-static inline uint64_t pobj_threads_marks(const pobj_call *call) {
-    uint64_t due = call->due ? (uint64_t)POBJ_DUE : 0;
-    return pobj_threads_is_aborted(call) ? due | POBJ_ABORTED : due;
+static inline pobj_marks pobj_threads_marks(const pobj_call *call) {
+    pobj_marks due = call->due ? POBJ_DUE : POBJ_NO_MARKS;
+    return pobj_threads_is_aborted(call) ? (pobj_marks)(due | POBJ_ABORTED) : due;
 }
 
-static inline uint64_t pobj_threads_barrier(pobj_protected *object, uint64_t entry) {
+static inline pobj_barrier pobj_threads_barrier(pobj_protected *object, uint64_t entry) {
     bool (*barrier)(pobj_protected *) = object->entries[entry].barrier;
     if (barrier == NULL)
         return POBJ_OPEN;
@@ -284,48 +290,50 @@ static inline uint64_t pobj_threads_queued(pobj_threads_action *action, uint64_t
 }
 
 /* Tells the engine that the body has completed its call, and ends the call. */
-static inline uint64_t pobj_threads_complete(pobj_threads_action *action, pobj_call *call, int how, pobj_outcome outcome) {
-    uint64_t answer = pobj_body_ended(&action->object->calls, (uint64_t)how, 0, 0, &action->step);
+static inline uint64_t pobj_threads_complete(
+    pobj_threads_action *action, pobj_call *call, pobj_body_end how, pobj_outcome outcome) {
+    uint64_t answer = pobj_body_ended(&action->object->calls, how, 0, POBJ_NO_MARKS, &action->step);
     pobj_threads_end(action, call, outcome);
     return answer;
 }
 
 /* Tells the engine that the body has requeued its call to another object, and keeps the call for that one. */
 static inline uint64_t pobj_threads_move(pobj_threads_action *action, pobj_call *call) {
-    uint64_t answer = pobj_body_ended(&action->object->calls, POBJ_REQUEUED_ELSEWHERE, 0, 0, &action->step);
+    uint64_t answer = pobj_body_ended(&action->object->calls, POBJ_REQUEUED_ELSEWHERE, 0, POBJ_NO_MARKS, &action->step);
     pobj_threads_append(&action->moved, call);
     pobj_threads_place(call, call->target);
     return answer;
 }
 
 /* Carries out the requeue of a call by its body. */
-static inline uint64_t pobj_threads_requeue(pobj_threads_action *action, pobj_call *call, int how) {
-    if (call->target_entry >= call->target->number || (how != POBJ_REQUEUED_ELSEWHERE && call->target != action->object))
+static inline uint64_t pobj_threads_requeue(pobj_threads_action *action, pobj_call *call, pobj_body_end how) {
+    if (call->target_entry >= call->target->number)
         return pobj_threads_complete(action, call, POBJ_COMPLETED, POBJ_CALL_MISUSE);
     if (!pobj_threads_can_wait(call))
         return pobj_threads_complete(action, call, POBJ_COMPLETED, POBJ_CALL_NO_MEMORY);
     if (how == POBJ_REQUEUED_ELSEWHERE)
         return pobj_threads_move(action, call);
-    return pobj_body_ended(&action->object->calls, (uint64_t)how, call->target_entry, pobj_threads_marks(call), &action->step);
+    return pobj_body_ended(&action->object->calls, how, call->target_entry, pobj_threads_marks(call), &action->step);
 }
 
 static inline int pobj_threads_body(pobj_protected *object, uint64_t entry, pobj_call *call) {
     call->entry = entry;
     call->error = 0;
     call->number = 0;
-    pobj_threads_target(call, object, UINT64_MAX, 0, false);
+    call->said = POBJ_COMPLETED;
     return object->entries[entry].body(call);
 }
 
-/* Runs the body of the entry for the call of the step. */
+/* Runs the body of the entry for the call of the step. POBJ_FAILED ends the queued calls even if it is misuse. */
 static inline uint64_t pobj_threads_run(pobj_threads_action *action, uint64_t entry) {
     pobj_call *call = pobj_threads_caller(action);
     int how = pobj_threads_body(action->object, entry, call);
-    if (how == POBJ_COMPLETED || how == POBJ_FAILED)
-        return pobj_threads_complete(action, call, how, call->error == 0 ? POBJ_CALL_COMPLETED : POBJ_CALL_ERROR);
-    if (how == POBJ_REQUEUED || how == POBJ_REQUEUED_WITH_ABORT || how == POBJ_REQUEUED_ELSEWHERE)
-        return pobj_threads_requeue(action, call, how);
-    return pobj_threads_complete(action, call, POBJ_COMPLETED, POBJ_CALL_MISUSE);
+    pobj_body_end end = how == POBJ_FAILED ? POBJ_FAILED : POBJ_COMPLETED;
+    if (how == (int)end && call->said == POBJ_COMPLETED)
+        return pobj_threads_complete(action, call, end, call->error == 0 ? POBJ_CALL_COMPLETED : POBJ_CALL_ERROR);
+    if (how == call->said && (how == POBJ_REQUEUED || how == POBJ_REQUEUED_WITH_ABORT || how == POBJ_REQUEUED_ELSEWHERE))
+        return pobj_threads_requeue(action, call, (pobj_body_end)how);
+    return pobj_threads_complete(action, call, end, POBJ_CALL_MISUSE);
 }
 
 /* Ends the step's call, which no body completed. */
@@ -360,6 +368,8 @@ static inline void pobj_threads_drive(pobj_threads_action *action, uint64_t answ
         case POBJ_PROGRAM_ERROR:
             answer = pobj_threads_unserved(action, POBJ_CALL_PROGRAM_ERROR);
             break;
+        case POBJ_NO_MEMORY:
+        case POBJ_REFUSED:
         default: /* a step of this header is refused only if something has written into the object */
             abort();
         }
@@ -381,10 +391,12 @@ static inline void pobj_threads_unlock(pobj_threads_action *action) {
 /* Issues the call on the object of the action. If the call may have to wait, first makes what its caller sleeps on. */
 static inline uint64_t pobj_threads_accept(pobj_threads_action *action, pobj_call *call, uint64_t entry) {
     pobj_protected *object = action->object;
-    uint64_t barrier = pobj_threads_barrier(object, entry);
+    pobj_barrier barrier = pobj_threads_barrier(object, entry);
     if (barrier == POBJ_CLOSED && !call->due && !pobj_threads_can_wait(call))
         return POBJ_NO_MEMORY;
-    uint64_t marks = pobj_threads_marks(call) | (call->without_abort ? (uint64_t)POBJ_WITHOUT_ABORT : 0);
+    pobj_marks marks = pobj_threads_marks(call);
+    if (call->without_abort)
+        marks = (pobj_marks)(marks | POBJ_WITHOUT_ABORT);
     return pobj_issue(&object->calls, (uint64_t)(uintptr_t)call, entry, marks, barrier, &action->step);
 }
 
@@ -421,9 +433,9 @@ static inline void pobj_threads_leave(pobj_threads_action *action) {
 }
 
 /* Cancels the call, which is on the object of the action, if it is queued and may be cancelled. */
-static inline unsigned pobj_threads_withdraw(pobj_threads_action *action, pobj_call *call, bool expired) {
+static inline pobj_cancellation pobj_threads_withdraw(pobj_threads_action *action, pobj_call *call, bool expired) {
     pobj_object *calls = &action->object->calls;
-    uint64_t made = POBJ_CANCEL_UNKNOWN;
+    pobj_cancellation made = POBJ_CANCEL_UNKNOWN;
     if (call->number != 0)
         made = pobj_cancel(calls, call->key, call->number, expired);
     if (made == POBJ_CANCEL_MADE) {
@@ -432,17 +444,17 @@ static inline unsigned pobj_threads_withdraw(pobj_threads_action *action, pobj_c
     } else if (expired) {
         call->due = true;
     }
-    return (unsigned)made;
+    return made;
 }
 
 /* Attempts to cancel the call, wherever it is (9.5.3). */
-static inline unsigned pobj_threads_cancel(pobj_call *call, pobj_call *own, bool expired) {
+static inline pobj_cancellation pobj_threads_cancel(pobj_call *call, pobj_call *own, bool expired) {
     pobj_threads_action action = pobj_threads_action_of(own);
     for (pobj_protected *object; (object = pobj_threads_where(call)) != NULL; pobj_threads_unlock(&action)) {
         if (!pobj_threads_enter(&action, object))
             return POBJ_CANCEL_REFUSED;
         if (pobj_threads_where(call) == object) {
-            unsigned made = pobj_threads_withdraw(&action, call, expired);
+            pobj_cancellation made = pobj_threads_withdraw(&action, call, expired);
             pobj_threads_leave(&action);
             return made;
         }
@@ -533,6 +545,13 @@ static inline bool pobj_threads_make_mutex(pthread_mutex_t *mutex) {
     return made;
 }
 
+static inline bool pobj_threads_have_bodies(const pobj_entry *entries, uint64_t number) {
+    for (uint64_t i = 0; i < number; i++)
+        if (entries == NULL || entries[i].body == NULL)
+            return false;
+    return true;
+}
+
 /* Makes all of an object except the calls, which are already made. Frees these if that fails. */
 static inline bool pobj_threads_set_up(pobj_protected *object, void *data, const pobj_entry *entries, uint64_t number) {
     object->data = data;
@@ -541,7 +560,7 @@ static inline bool pobj_threads_set_up(pobj_protected *object, void *data, const
     object->number = number;
     object->raised = false;
     object->finalized = false;
-    if (pobj_threads_make_mutex(&object->mutex))
+    if (pobj_threads_have_bodies(entries, number) && pobj_threads_make_mutex(&object->mutex))
         return true;
     pobj_free(&object->calls);
     return false;
@@ -551,15 +570,16 @@ static inline bool pobj_threads_set_up(pobj_protected *object, void *data, const
 
 /* Makes a protected object with these data and an array of `number` entries (9.4). It takes memory as its calls need it. The
    array and the data have to stay where they are as long as the object is used. Returns whether the object is made: false if
-   there is no memory, or if `number` is more than 65,535. */
-static inline bool pobj_protected_make(pobj_protected *object, void *data, const pobj_entry *entries, uint64_t number) {
+   there is no memory, if `number` is more than 65,535, or if an entry has no body. */
+POBJ_THREADS_HEED static inline bool pobj_protected_make(
+    pobj_protected *object, void *data, const pobj_entry *entries, uint64_t number) {
     object->calls.at = NULL;
     return pobj_make(&object->calls, number) && pobj_threads_set_up(object, data, entries, number);
 }
 
 /* The same, but takes all memory now, for `calls` calls that are queued or being served at once. Any more end by
    POBJ_CALL_NO_MEMORY. */
-static inline bool pobj_protected_make_fixed(
+POBJ_THREADS_HEED static inline bool pobj_protected_make_fixed(
     pobj_protected *object, void *data, const pobj_entry *entries, uint64_t number, size_t calls) {
     object->calls.at = NULL;
     return pobj_make_fixed(&object->calls, number, calls) && pobj_threads_set_up(object, data, entries, number);
@@ -567,7 +587,7 @@ static inline bool pobj_protected_make_fixed(
 
 /* Limits the entry's queue to `longest` calls from now on (Max_Entry_Queue_Length, D.7); 0 means no limit. Any more end by
    POBJ_CALL_PROGRAM_ERROR. Returns false if there is no such entry, or this thread is inside the object. */
-static inline bool pobj_protected_limit(pobj_protected *object, uint64_t entry, uint64_t longest) {
+POBJ_THREADS_HEED static inline bool pobj_protected_limit(pobj_protected *object, uint64_t entry, uint64_t longest) {
     if (pthread_mutex_lock(&object->mutex) != 0)
         return false;
     bool is_set = pobj_limit(&object->calls, entry, longest);
@@ -577,7 +597,7 @@ static inline bool pobj_protected_limit(pobj_protected *object, uint64_t entry, 
 
 /* Finalizes the object: each queued call ends by POBJ_CALL_PROGRAM_ERROR, and so does each later call, procedure and
    function (9.4). Returns false if this thread is inside the object. */
-static inline bool pobj_protected_finalize(pobj_protected *object) {
+POBJ_THREADS_HEED static inline bool pobj_protected_finalize(pobj_protected *object) {
     pobj_threads_action action = pobj_threads_action_of(NULL);
     if (!pobj_threads_enter(&action, object))
         return false;
@@ -611,19 +631,21 @@ static inline uint64_t pobj_entry_count(pobj_protected *object, uint64_t entry) 
 
 /* Makes an entry call: it waits until a body has completed it, or it has ended otherwise (9.5.3). The record may be NULL, as
    with the other kinds of calls. */
-static inline pobj_outcome pobj_entry_call(pobj_protected *object, uint64_t entry, void *parameters, pobj_call *record) {
+POBJ_THREADS_HEED static inline pobj_outcome pobj_entry_call(
+    pobj_protected *object, uint64_t entry, void *parameters, pobj_call *record) {
     return pobj_threads_call(object, entry, parameters, false, NULL, record);
 }
 
 /* Makes a conditional entry call: it ends by POBJ_CALL_EXPIRED if it would wait (9.7.3), unless the queue is full (D.7). It
    waits only if a body requeued it without abort (9.5.4). */
-static inline pobj_outcome pobj_conditional_call(pobj_protected *object, uint64_t entry, void *parameters, pobj_call *record) {
+POBJ_THREADS_HEED static inline pobj_outcome pobj_conditional_call(
+    pobj_protected *object, uint64_t entry, void *parameters, pobj_call *record) {
     return pobj_threads_call(object, entry, parameters, true, NULL, record);
 }
 
 /* Makes a timed entry call: it ends by POBJ_CALL_EXPIRED if it still waits at this time of CLOCK_MONOTONIC (9.7.2), which
    pobj_time_from_now gives. If a body requeued it without abort, it waits on (9.5.4). */
-static inline pobj_outcome pobj_timed_call(
+POBJ_THREADS_HEED static inline pobj_outcome pobj_timed_call(
     pobj_protected *object, uint64_t entry, void *parameters, const struct timespec *until, pobj_call *record) {
     if (until == NULL || until->tv_sec < 0 || until->tv_nsec < 0 || until->tv_nsec > 999999999)
         return POBJ_CALL_MISUSE;
@@ -645,7 +667,7 @@ static inline struct timespec pobj_time_from_now(uint64_t nanoseconds) {
    POBJ_CANCEL_UNKNOWN: no call is queued, and the next one that would be is aborted. POBJ_CANCEL_REFUSED: this thread is inside
    the object that the call is on, and has to repeat this from outside. An abort is for good: set the record to {0} to use it
    again. Until this has returned, the record has to stay where it is, and mustn't be set to {0}. */
-static inline unsigned pobj_abort(pobj_call *record) {
+static inline pobj_cancellation pobj_abort(pobj_call *record) {
     __atomic_store_n(&record->aborted, true, __ATOMIC_SEQ_CST);
     return pobj_threads_cancel(record, NULL, false);
 }
@@ -656,7 +678,7 @@ static inline unsigned pobj_abort(pobj_call *record) {
 
    It finds the data in object->data, and gets the pointer passed here as its parameters. Returns POBJ_CALL_COMPLETED. If the
    object is finalized returns POBJ_CALL_PROGRAM_ERROR, and if this thread is inside it POBJ_CALL_MISUSE: then it didn't run. */
-static inline pobj_outcome pobj_procedure(
+POBJ_THREADS_HEED static inline pobj_outcome pobj_procedure(
     pobj_protected *object, void (*procedure)(pobj_protected *object, void *parameters), void *parameters) {
     pobj_threads_action action = pobj_threads_action_of(NULL);
     if (!pobj_threads_enter(&action, object))
@@ -672,7 +694,7 @@ static inline pobj_outcome pobj_procedure(
 
 /* Runs a protected function (9.5.1) under the lock. It changes nothing that a barrier reads, so no queue is looked at. Its
    signature and the values returned are those of a procedure. */
-static inline pobj_outcome pobj_function(
+POBJ_THREADS_HEED static inline pobj_outcome pobj_function(
     pobj_protected *object, void (*function)(pobj_protected *object, void *parameters), void *parameters) {
     if (pthread_mutex_lock(&object->mutex) != 0)
         return POBJ_CALL_MISUSE;

@@ -83,31 +83,36 @@ static void count_up(pobj_protected *of, void *none) {
     data->counter++;
 }
 
+static void ends(pobj_outcome outcome, pobj_outcome wanted) {
+    if (outcome != wanted)
+        abort();
+}
+
 static void call_open_entry(void) {
     for (int i = 0; i < CALLS; i++)
-        pobj_entry_call(&object, COUNT, NULL, NULL);
+        ends(pobj_entry_call(&object, COUNT, NULL, NULL), POBJ_CALL_COMPLETED);
 }
 
 static void call_closed_entry(void) {
     for (int i = 0; i < CALLS; i++)
-        pobj_conditional_call(&object, CLOSED, NULL, NULL);
+        ends(pobj_conditional_call(&object, CLOSED, NULL, NULL), POBJ_CALL_EXPIRED);
 }
 
 static void call_procedure(void) {
     for (int i = 0; i < CALLS; i++)
-        pobj_procedure(&object, count_up, NULL);
+        ends(pobj_procedure(&object, count_up, NULL), POBJ_CALL_COMPLETED);
 }
 
 static void *put_all(void *none) {
     for (int i = 0; i < ITEMS; i++)
-        pobj_entry_call(&object, PUT, &i, NULL);
+        ends(pobj_entry_call(&object, PUT, &i, NULL), POBJ_CALL_COMPLETED);
     return none;
 }
 
 static void *get_all(void *none) {
     int item;
     for (int i = 0; i < ITEMS; i++)
-        pobj_entry_call(&object, GET, &item, NULL);
+        ends(pobj_entry_call(&object, GET, &item, NULL), POBJ_CALL_COMPLETED);
     return none;
 }
 

@@ -96,9 +96,11 @@ int main(void) {
     printf("a conditional get of the empty buffer gets %s\n", said(pobj_conditional_call(&object, GET, &item, NULL)));
     struct timespec soon = pobj_time_from_now(10000000);
     printf("a timed get of the empty buffer gets %s\n", said(pobj_timed_call(&object, GET, &item, &soon, NULL)));
-    pobj_entry_call(&object, PUT, &item, NULL);
+    if (pobj_entry_call(&object, PUT, &item, NULL) != POBJ_CALL_COMPLETED)
+        return 1;
     printf("a conditional get after a put gets %s\n", said(pobj_conditional_call(&object, GET, &item, NULL)));
-    pobj_protected_finalize(&object);
+    if (!pobj_protected_finalize(&object))
+        return 1;
     printf("a get after the end gets %s\n", said(pobj_entry_call(&object, GET, &item, NULL)));
     pobj_protected_destroy(&object);
     return 0;

@@ -70,7 +70,8 @@ static void *read_often(void *differences) {
         if (pobj_entry_call(&object, READ, NULL, NULL) != POBJ_CALL_COMPLETED)
             abort();
         *(long *)differences += left != right;
-        pobj_procedure(&object, end_read, NULL);
+        if (pobj_procedure(&object, end_read, NULL) != POBJ_CALL_COMPLETED)
+            abort();
     }
     return NULL;
 }
@@ -81,7 +82,8 @@ static void *write_often(void *none) {
             abort();
         left++;
         right++;
-        pobj_procedure(&object, end_write, NULL);
+        if (pobj_procedure(&object, end_write, NULL) != POBJ_CALL_COMPLETED)
+            abort();
     }
     return none;
 }
@@ -106,7 +108,8 @@ int main(void) {
         sum += differences[i];
     printf("the writers wrote %ld times\n", left);
     printf("the readers saw %ld differences\n", sum);
-    pobj_protected_finalize(&object);
+    if (!pobj_protected_finalize(&object))
+        return 1;
     pobj_protected_destroy(&object);
     return 0;
 }

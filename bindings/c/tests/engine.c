@@ -19,7 +19,9 @@ static struct {
 
 static struct {
     long permits; /* how many calls the barrier lets through; less than 0: it raises */
-    uint64_t how, target, marks; /* how the body ends */
+    pobj_body_end how; /* how the body ends, with the next two */
+    uint64_t target;
+    pobj_marks marks;
 } entries[ENTRIES];
 
 static pobj_object object;
@@ -27,8 +29,10 @@ static pobj_step step;
 static uint64_t order[CALLERS]; /* the callers whose calls have ended, in that order */
 static size_t ended;
 
-static uint64_t barrier(uint64_t entry) {
-    return entries[entry].permits < 0 ? (uint64_t)POBJ_RAISED : entries[entry].permits > 0;
+static pobj_barrier barrier(uint64_t entry) {
+    if (entries[entry].permits < 0)
+        return POBJ_RAISED;
+    return entries[entry].permits > 0 ? POBJ_OPEN : POBJ_CLOSED;
 }
 
 static void end(uint64_t caller, int state) {
@@ -38,7 +42,7 @@ static void end(uint64_t caller, int state) {
 
 static uint64_t run(uint64_t caller, uint64_t entry) {
     static const int states[] = {COMPLETED, COMPLETED, NONE, NONE, ELSEWHERE};
-    uint64_t how = entries[entry].how;
+    pobj_body_end how = entries[entry].how;
     entries[entry].permits--;
     if (states[how] != NONE)
         end(caller, states[how]);
@@ -82,7 +86,7 @@ static void carry_out(uint64_t answer) {
 }
 
 /* Issues a call and carries out its protected action. Returns what has become of the call then. */
-static int issue(uint64_t caller, uint64_t entry, uint64_t marks) {
+static int issue(uint64_t caller, uint64_t entry, pobj_marks marks) {
     uint64_t answer = pobj_issue(&object, caller, entry, marks, barrier(entry), &step);
     calls[caller].state = NONE;
     if (pobj_action_of(answer) == POBJ_NO_MEMORY)
@@ -91,7 +95,7 @@ static int issue(uint64_t caller, uint64_t entry, uint64_t marks) {
     return calls[caller].state;
 }
 
-static uint64_t cancel(uint64_t caller, uint64_t expired) {
+static pobj_cancellation cancel(uint64_t caller, uint64_t expired) {
     return pobj_cancel(&object, calls[caller].key, calls[caller].number, expired);
 }
 
@@ -105,7 +109,7 @@ static void permit(uint64_t entry, long permits) {
     next();
 }
 
-static void set_body(uint64_t entry, uint64_t how, uint64_t target, uint64_t marks) {
+static void set_body(uint64_t entry, pobj_body_end how, uint64_t target, pobj_marks marks) {
     entries[entry].how = how;
     entries[entry].target = target;
     entries[entry].marks = marks;
@@ -122,11 +126,11 @@ static void begin(void) {
     CHECK(pobj_make(&object, ENTRIES));
 }
 
-static bool is(uint64_t answer, unsigned action, uint64_t entry) {
+static bool is(uint64_t answer, pobj_action action, uint64_t entry) {
     return pobj_action_of(answer) == action && pobj_entry_of(answer) == entry;
 }
 
-static bool is_of(uint64_t answer, unsigned action, uint64_t caller) {
+static bool is_of(uint64_t answer, pobj_action action, uint64_t caller) {
     return pobj_action_of(answer) == action && step.caller == caller;
 }
 
@@ -164,11 +168,11 @@ static void refuses_all_but(unsigned awaited) {
     uint64_t counts[ENTRIES];
     for (uint64_t e = 0; e < ENTRIES; e++)
         counts[e] = pobj_count(&object, e);
-    for (uint64_t b = POBJ_CLOSED; b <= POBJ_RAISED; b++) {
+    for (pobj_barrier b = POBJ_CLOSED; b <= POBJ_RAISED; b++) {
         CHECK((awaited & ISSUE) || pobj_issue(&object, 99, 0, 0, b, &scrap) == POBJ_REFUSED);
         CHECK((awaited & ANSWER) || pobj_answer(&object, b, &scrap) == POBJ_REFUSED);
     }
-    for (uint64_t how = POBJ_COMPLETED; how <= POBJ_REQUEUED_ELSEWHERE; how++)
+    for (pobj_body_end how = POBJ_COMPLETED; how <= POBJ_REQUEUED_ELSEWHERE; how++)
         CHECK((awaited & ENDED) || pobj_body_ended(&object, how, 0, 0, &scrap) == POBJ_REFUSED);
     CHECK((awaited & NEXT) || pobj_next(&object, &scrap) == POBJ_REFUSED);
     CHECK((awaited & CANCEL) || cancel(0, 0) == POBJ_CANCEL_REFUSED);
@@ -409,7 +413,7 @@ static void raising(void) {
     CHECK(issue(0, 0, 0) == QUEUED && issue(1, 1, 0) == QUEUED);
     permit(0, -1);
     CHECK(calls[0].state == PROGRAM_ERROR && calls[1].state == PROGRAM_ERROR);
-    CHECK(is_of(pobj_issue(&object, 2, 0, POBJ_DUE, UINT64_MAX, &step), POBJ_PROGRAM_ERROR, 2));
+    CHECK(is_of(pobj_issue(&object, 2, 0, POBJ_DUE, (pobj_barrier)UINT64_MAX, &step), POBJ_PROGRAM_ERROR, 2));
     next();
     CHECK(issue(3, 1, 0) == QUEUED && pobj_count(&object, 1) == 1);
     pobj_free(&object);

@@ -72,12 +72,12 @@ static void make_at_last(size_t fixed) {
     CHECK(queued() == 0);
 }
 
-static uint64_t issue(uint64_t caller, uint64_t entry, uint64_t marks, uint64_t barrier) {
+static uint64_t issue(uint64_t caller, uint64_t entry, pobj_marks marks, pobj_barrier barrier) {
     return pobj_issue(&object, caller, entry, marks, barrier, &step);
 }
 
 /* Issues a call. If its memory is refused, nothing has changed, and it is issued again. */
-static uint64_t issue_at_last(uint64_t caller, uint64_t entry, uint64_t marks, uint64_t barrier) {
+static uint64_t issue_at_last(uint64_t caller, uint64_t entry, pobj_marks marks, pobj_barrier barrier) {
     uint64_t before = queued();
     unsigned granted = refusals;
     uint64_t answer = issue(caller, entry, marks, barrier);

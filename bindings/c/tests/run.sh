@@ -82,6 +82,27 @@ header_of() {
   "$4" "-std=$3" "${strict[@]}" -fsyntax-only "$scratch/$4-$1.$2"
 }
 
+# diagnoses COMPILER FLAGS..: whether each mistake of tests/mistakes.c is diagnosed as what it is, and nothing else there is.
+diagnoses() {
+  local compile=("$@" -Wall -Wextra -Werror "-I$include" -I. -c tests/mistakes.c -o /dev/null) number last missed=0
+  local kinds='enum-conversion|enum-compare|unused-result|cannot convert|no matching function'
+  last=$(grep -c 'MISTAKE == ' tests/mistakes.c)
+  "${compile[@]}" -DMISTAKE=0 || return
+  for ((number = 1; number <= last; number++)); do
+    if "${compile[@]}" "-DMISTAKE=$number" > "$scratch/$1.said" 2>&1 || ! grep -qE "$kinds" "$scratch/$1.said"; then
+      echo "mistake $number of $last isn't diagnosed: $(cat "$scratch/$1.said")"
+      missed=1
+    fi
+  done
+  [ "$last" -gt 0 ] && [ $missed -eq 0 ]
+}
+
+# version_of COMPILER: whether pobj.h names the version of the file VERSION twice: by its text, and by its three numbers.
+version_of() {
+  "$1" -std=c11 "${strict[@]}" tests/version.c -o "$scratch/$1-version" || return
+  "$scratch/$1-version" | diff <(cat ../../VERSION ../../VERSION) -
+}
+
 # all_of COMPILER WORD FLAGS..: runs all tests and examples by this compiler with these flags.
 all_of() {
   local compiler=$1 word=$2 flags=("-std=c11" "${strict[@]}" "${@:3}") name
@@ -111,6 +132,8 @@ c_of() {
   is_there "$1" || { skip "$1" "no such compiler"; return; }
   row "$1: pobj.h alone" header_of pobj.h c c11 "$1"
   row "$1: pobj_threads.h alone" header_of pobj_threads.h c c11 "$1"
+  row "$1: mistakes are diagnosed" diagnoses "$1" -std=c11
+  row "$1: the version of pobj.h" version_of "$1"
   row "$1: speed.c" "$1" -std=c11 "${strict[@]}" -O2 speed.c -o "$scratch/$1-speed" "${link[@]}"
   all_of "$1" plain -O2
   sanitized_of "$1" addresses "${addresses[@]}"
@@ -121,6 +144,7 @@ cxx_of() {
   is_there "$1" || { skip "$1" "no such compiler"; return; }
   row "$1: pobj.h as C++17" header_of pobj.h cc c++17 "$1"
   row "$1: pobj_threads.h as C++17" header_of pobj_threads.h cc c++17 "$1"
+  row "$1: mistakes are diagnosed" diagnoses "$1" -x c++ -std=c++17
 }
 
 # Whether an example, compiled as pobj.pc says against an installation in the scratch folder, runs.

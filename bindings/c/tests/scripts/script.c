@@ -142,12 +142,12 @@ static void tell_completed(uint64_t number, unit_reply reply) {
 
 /* ---- What the engine asks for, until it answers rest. */
 
-static uint64_t barrier(const session *self, uint64_t entry) {
+static pobj_barrier barrier(const session *self, uint64_t entry) {
     return self->unit.kind->barrier(&self->unit, entry);
 }
 
-static uint64_t marks_of(const session *self, const call *one) {
-    return is_due(self, one) ? POBJ_DUE : 0;
+static pobj_marks marks_of(const session *self, const call *one) {
+    return is_due(self, one) ? POBJ_DUE : POBJ_NO_MARKS;
 }
 
 static uint64_t evaluate(session *self, uint64_t entry) {
@@ -268,7 +268,7 @@ static unsigned find_entry(const session *self, const command *says, uint64_t *e
 
 static void issue_on(session *self, const command *says, uint64_t entry) {
     const uint64_t number = new_call(self, says);
-    const uint64_t marks = marks_of(self, &self->calls[number]);
+    const pobj_marks marks = marks_of(self, &self->calls[number]);
     tell_number("#", number);
     drive(self, pobj_issue(&self->object, number, entry, marks, barrier(self, entry), &self->step));
 }
@@ -313,7 +313,7 @@ static void call_function(session *self, const command *says) {
 /* Tries to cancel a call that waits. Returns false if it is kept. */
 static bool withdraw(session *self, uint64_t number, bool is_expired) {
     const call *waiting = &self->calls[number];
-    const uint64_t came = pobj_cancel(&self->object, waiting->key, waiting->ticket_number, is_expired);
+    const pobj_cancellation came = pobj_cancel(&self->object, waiting->key, waiting->ticket_number, is_expired);
     if (came == POBJ_CANCEL_KEPT) {
         return false;
     }

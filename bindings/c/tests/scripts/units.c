@@ -6,7 +6,7 @@
 /* This follows the last declaration. */
 #define NO_DECLARATION {NULL, false, 0}
 
-static uint64_t open_if(bool condition) {
+static pobj_barrier open_if(bool condition) {
     return condition ? POBJ_OPEN : POBJ_CLOSED;
 }
 
@@ -40,7 +40,7 @@ enum { BUFFER_PUT, BUFFER_GET };
 
 static const unit_declaration buffer_declarations[] = {{"Put", true, 0}, {"Get", true, 0}, NO_DECLARATION};
 
-static uint64_t buffer_barrier(const unit *self, uint64_t entry) {
+static pobj_barrier buffer_barrier(const unit *self, uint64_t entry) {
     const uint64_t length = self->buffer.length;
     return open_if(entry == BUFFER_PUT ? length < self->size : length > 0);
 }
@@ -74,7 +74,7 @@ static uint64_t buffer_state(const unit *self) {
 
 static const unit_declaration signal_declarations[] = {{"Wait", true, 0}, NO_DECLARATION};
 
-static uint64_t signal_barrier(const unit *self, uint64_t entry) {
+static pobj_barrier signal_barrier(const unit *self, uint64_t entry) {
     (void)entry;
     return open_if(self->signal.is_set);
 }
@@ -100,7 +100,7 @@ enum { BROADCAST_RECEIVE };
 
 static const unit_declaration broadcast_declarations[] = {{"Receive", true, 0}, NO_DECLARATION};
 
-static uint64_t broadcast_barrier(const unit *self, uint64_t entry) {
+static pobj_barrier broadcast_barrier(const unit *self, uint64_t entry) {
     (void)entry;
     return open_if(self->broadcast.has_arrived);
 }
@@ -132,7 +132,7 @@ enum { PULSE_WAIT, PULSE_SIGNAL, PULSE_RESET };
 static const unit_declaration pulse_declarations[] = {
     {"Wait", true, 0}, {"Signal", true, 0}, {"Reset", false, 0}, NO_DECLARATION};
 
-static uint64_t pulse_barrier(const unit *self, uint64_t entry) {
+static pobj_barrier pulse_barrier(const unit *self, uint64_t entry) {
     if (entry == PULSE_WAIT) {
         return open_if(self->pulse.has_occurred);
     }
@@ -167,7 +167,7 @@ enum { MEETING_WAIT };
 
 static const unit_declaration meeting_declarations[] = {{"Wait", true, 0}, NO_DECLARATION};
 
-static uint64_t meeting_barrier(const unit *self, uint64_t entry) {
+static pobj_barrier meeting_barrier(const unit *self, uint64_t entry) {
     return open_if(self->meeting.is_leaving || count(self, entry) == self->size);
 }
 
@@ -201,7 +201,7 @@ static uint64_t granted_by(uint64_t entry) {
     return entry - ALLOCATOR_GRANT + 1;
 }
 
-static uint64_t allocator_barrier(const unit *self, uint64_t entry) {
+static pobj_barrier allocator_barrier(const unit *self, uint64_t entry) {
     return open_if(entry < ALLOCATOR_GRANT || granted_by(entry) <= allocator_state(self));
 }
 
@@ -236,7 +236,7 @@ enum { RELAY_FIRST, RELAY_SECOND, RELAY_THIRD };
 static const unit_declaration relay_declarations[] = {
     {"First", true, 0}, {"Second", false, 0}, {"Third", false, 0}, NO_DECLARATION};
 
-static uint64_t relay_barrier(const unit *self, uint64_t entry) {
+static pobj_barrier relay_barrier(const unit *self, uint64_t entry) {
     return open_if(self->relay.level >= entry);
 }
 
@@ -267,11 +267,11 @@ static const uint64_t trap_greatest_exception = UINT32_MAX;
 static const unit_declaration trap_declarations[] = {
     {"Wait", true, 3}, {"Fail", true, 0}, {"Exact", true, 0}, NO_DECLARATION};
 
-static uint64_t trap_wait_barrier(uint64_t level, uint64_t index) {
+static pobj_barrier trap_wait_barrier(uint64_t level, uint64_t index) {
     return level == trap_raising_level ? POBJ_RAISED : open_if(level >= index);
 }
 
-static uint64_t trap_barrier(const unit *self, uint64_t entry) {
+static pobj_barrier trap_barrier(const unit *self, uint64_t entry) {
     const uint64_t level = self->trap.level;
     switch (entry) {
     case TRAP_FAIL:

@@ -33,7 +33,7 @@ typedef struct {
 
 /* How a body ended: completed with a reply, or requeued with a value to an entry of the same object. */
 typedef struct {
-    uint64_t how; /* as pobj_body_ended takes it */
+    pobj_body_end how;
     uint64_t target;
     unit_reply reply;
 } unit_outcome;
@@ -44,7 +44,7 @@ typedef struct {
     bool has_size;
     const unit_declaration *declarations;
     const char *procedure; /* NULL: there is none */
-    uint64_t (*barrier)(const unit *self, uint64_t entry);
+    pobj_barrier (*barrier)(const unit *self, uint64_t entry);
     unit_outcome (*body)(unit *self, uint64_t entry, uint64_t value);
     unit_reply (*run)(unit *self, uint64_t value);
     uint64_t (*state)(const unit *self);

@@ -27,6 +27,19 @@ enum {
     ENTRIES
 };
 
+/* Entries whose bodies return what they mustn't; the first, PASS, is a right one. */
+enum {
+    RAISE_0 = PASS + 1,
+    RAISE_0_AND_FAIL,
+    FORGET_REQUEUE,
+    FORGET_MOVE,
+    REQUEUE_AND_FAIL,
+    REQUEUE_TWICE,
+    REQUEUE_AND_RAISE,
+    NO_REQUEUE,
+    WRONG_ENTRIES
+};
+
 struct gate {
     int passes, holds;     /* what the barriers of PASS, and of HOLD and HOLD_AND_MOVE, say */
     pobj_protected *other; /* where MOVE goes, to its PASS */
@@ -89,13 +102,63 @@ static int lose_elsewhere(pobj_call *call) {
 static int mix(pobj_call *call) {
     const struct gate *gate = pobj_data(call);
     int how = pobj_requeue(call, PASS);
-    pobj_requeue_elsewhere(call, gate->other, PASS);
-    return how;
+    return pobj_requeue_elsewhere(call, gate->other, PASS) == how ? POBJ_COMPLETED : how;
 }
 
 static int babble(pobj_call *call) {
     return (int)call->entry + 1000;
 }
+
+static int raise_0(pobj_call *call) {
+    return pobj_raise(call, 0);
+}
+
+static int raise_0_and_fail(pobj_call *call) {
+    pobj_raise(call, 0);
+    return POBJ_FAILED;
+}
+
+static int forget_requeue(pobj_call *call) {
+    return pobj_requeue(call, PASS) == POBJ_REQUEUED ? POBJ_COMPLETED : POBJ_FAILED;
+}
+
+static int forget_move(pobj_call *call) {
+    const struct gate *gate = pobj_data(call);
+    return pobj_requeue_elsewhere(call, gate->other, PASS) == POBJ_REQUEUED_ELSEWHERE ? POBJ_COMPLETED : POBJ_FAILED;
+}
+
+static int requeue_and_fail(pobj_call *call) {
+    return pobj_requeue_with_abort(call, PASS) == POBJ_REQUEUED_WITH_ABORT ? POBJ_FAILED : POBJ_COMPLETED;
+}
+
+/* Returns what the first of two requeues to its own object returned. */
+static int requeue_twice(pobj_call *call) {
+    int how = pobj_requeue(call, PASS);
+    return pobj_requeue_with_abort(call, PASS) == how ? POBJ_COMPLETED : how;
+}
+
+static int requeue_and_raise(pobj_call *call) {
+    int how = pobj_requeue(call, PASS);
+    pobj_raise(call, 7);
+    return how;
+}
+
+static int no_requeue(pobj_call *call) {
+    (void)call;
+    return POBJ_REQUEUED;
+}
+
+static const pobj_entry wrong_entries[WRONG_ENTRIES] = {
+    {"pass", passes, pass},
+    {"raise 0", NULL, raise_0},
+    {"raise 0 and fail", NULL, raise_0_and_fail},
+    {"forget requeue", NULL, forget_requeue},
+    {"forget move", NULL, forget_move},
+    {"requeue and fail", NULL, requeue_and_fail},
+    {"requeue twice", NULL, requeue_twice},
+    {"requeue and raise", NULL, requeue_and_raise},
+    {"no requeue", NULL, no_requeue},
+};
 
 static const pobj_entry entries[ENTRIES] = {
     {"pass", passes, pass},
@@ -223,6 +286,35 @@ static void outcomes(void) {
     CHECK(!pobj_protected_limit(a, ENTRIES, 1) && pobj_entry_count(a, ENTRIES) == 0);
     finish();
     CHECK(!pobj_protected_make(a, NULL, entries, 65536) && !pobj_protected_make_fixed(a, NULL, entries, 65536, 1));
+}
+
+/* An object is made only if each entry has a body. */
+static void bodies(void) {
+    static const pobj_entry bodiless[] = {{"pass", passes, pass}, {"no body", passes, NULL}, {"pass", NULL, pass}};
+    CHECK(!pobj_protected_make(a, NULL, bodiless, 3) && !pobj_protected_make_fixed(a, NULL, bodiless, 3, 1));
+    CHECK(!pobj_protected_make(a, NULL, bodiless, 2) && !pobj_protected_make_fixed(a, NULL, bodiless, 2, 1));
+    CHECK(!pobj_protected_make(a, NULL, NULL, 1) && !pobj_protected_make_fixed(a, NULL, NULL, 1, 1));
+    CHECK(pobj_protected_make(a, NULL, NULL, 0) && pobj_protected_make_fixed(b, NULL, bodiless, 1, 1));
+    finish();
+}
+
+/* A call ends by misuse if its body raises 0, or returns another number than its last pobj_raise or requeue did. No requeue is
+   carried out then. A call that is queued stays, unless the body fails. */
+static void wrong_numbers(void) {
+    struct caller caller;
+    begin();
+    pobj_protected_destroy(a);
+    CHECK(pobj_protected_make(a, &gates[0], wrong_entries, WRONG_ENTRIES));
+    for (uint64_t entry = RAISE_0; entry < WRONG_ENTRIES; entry++) {
+        bool fails = entry == RAISE_0_AND_FAIL || entry == REQUEUE_AND_FAIL;
+        start_waiting(&caller, a, PASS, untimed, a, PASS);
+        CHECK(try_call(a, entry, conditional) == POBJ_CALL_MISUSE);
+        CHECK(pobj_entry_count(a, PASS) == !fails && pobj_entry_count(b, PASS) == 0);
+        let_pass(a, POBJ_OPEN);
+        CHECK(fails ? outcome_of(&caller) == POBJ_CALL_PROGRAM_ERROR : has_passed(&caller));
+        let_pass(a, POBJ_CLOSED);
+    }
+    finish();
 }
 
 static void meddle(pobj_protected *object, void *done) {
@@ -500,6 +592,8 @@ static void sleepers(void) {
 
 void test_operations(void) {
     outcomes();
+    bodies();
+    wrong_numbers();
     misuse();
     ended_in_use();
     program_errors();

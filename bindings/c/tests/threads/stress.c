@@ -55,6 +55,14 @@ static bool completes(struct worker *worker, pobj_protected *object, uint64_t en
     return outcome == POBJ_CALL_COMPLETED;
 }
 
+/* Runs a procedure or a function, unless the object is finalized. */
+static void run(
+    pobj_outcome (*operation)(pobj_protected *, void (*)(pobj_protected *, void *), void *), pobj_protected *object,
+    void (*what)(pobj_protected *, void *), void *parameters) {
+    pobj_outcome outcome = operation(object, what, parameters);
+    CHECK(outcome == POBJ_CALL_COMPLETED || outcome == POBJ_CALL_PROGRAM_ERROR);
+}
+
 /* A thread that aborts the calls of others. */
 static void *abort_others(void *argument) {
     struct worker *worker = argument;
@@ -175,8 +183,8 @@ static void look_in(pobj_protected *object, void *none) {
 
 static void *look_often(void *none) {
     while (goes_on()) {
-        pobj_function(a, look_in, NULL);
-        pobj_procedure(a, look_in, NULL);
+        run(pobj_function, a, look_in, NULL);
+        run(pobj_procedure, a, look_in, NULL);
         pause_for(pobj_entry_count(a, GET) * 1000);
     }
     return none;
@@ -260,7 +268,7 @@ static void *read_often(void *argument) {
             __atomic_add_fetch(&readers_inside, 1, __ATOMIC_RELAXED);
             CHECK(__atomic_load_n(&writers_inside, __ATOMIC_RELAXED) == 0);
             __atomic_sub_fetch(&readers_inside, 1, __ATOMIC_RELAXED);
-            pobj_procedure(a, end_read, NULL);
+            run(pobj_procedure, a, end_read, NULL);
         }
     return NULL;
 }
@@ -271,7 +279,7 @@ static void *write_often(void *argument) {
             CHECK(__atomic_add_fetch(&writers_inside, 1, __ATOMIC_RELAXED) == 1);
             CHECK(__atomic_load_n(&readers_inside, __ATOMIC_RELAXED) == 0);
             __atomic_sub_fetch(&writers_inside, 1, __ATOMIC_RELAXED);
-            pobj_procedure(a, end_write, NULL);
+            run(pobj_procedure, a, end_write, NULL);
         }
     return NULL;
 }
@@ -349,7 +357,7 @@ static void add_token(pobj_protected *object, void *sum) {
 static void *feed_often(void *argument) {
     struct worker *worker = argument;
     while (goes_on()) {
-        pobj_procedure(&both[random_of(worker) % 2], add_token, &worker->sum);
+        run(pobj_procedure, &both[random_of(worker) % 2], add_token, &worker->sum);
         if (worker->sum % 64 == 0)
             pause_for(50000);
     }
