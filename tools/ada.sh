@@ -7,7 +7,9 @@
 ada() {
   local room status=0
   "$top/bindings/ada/ada.sh" - "${@:-}" || exit
-  [ "${1-}" != --linked ] || exit 0
+  case ${1-} in
+    --linked | --sources) exit 0 ;;
+  esac
   need_rt "the library has to be built"
   need_library
   room=$(mktemp -d)

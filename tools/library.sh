@@ -87,7 +87,7 @@ put_programs() {
 # Puts into the folder what makes a runtime folder for Ada, with two Ada programs.
 put_ada() {
   mkdir -p "$1/share/pobj/ada"
-  cp -r "$top"/bindings/ada/*.* "$top/bindings/ada/parts" "$top/bindings/ada/tests/hangs.adb" "$1/share/pobj/ada/"
+  cp -r "$top"/bindings/ada/*.* "$top"/bindings/ada/{changes,parts,tests/hangs.adb} "$1/share/pobj/ada/"
 }
 
 # Puts into the folder what is read: a README of its own, the licence, the pages, and the scripts of examples.

@@ -4,6 +4,7 @@
 #   ada.sh LIBPOBJ DEST            makes a runtime folder, and says how a program uses it
 #   ada.sh LIBPOBJ --check [DEST]  compiles and runs a program on the folder DEST, or on one that it makes for that
 #   ada.sh - --linked PROGRAM      says whether a program that is linked runs over pobj
+#   ada.sh - --sources DIR         puts the units of GNAT's that pobj changes into the folder DIR
 #   ada.sh - WORDS                 says what is wrong with these words, and does nothing
 set -eu
 here=$(cd "$(dirname "$0")" && pwd)
@@ -15,9 +16,13 @@ say() { echo "pobj ada: $*" >&2; }
 # Ends with status 2 if the words aren't among those that it takes.
 take_words() {
   case "$#${1-}" in
-    1--check | 2--check | 2--linked) ;;
+    1--check | 2--check | 2--linked | 2--sources) ;;
     1--linked)
       say "--linked takes the program"
+      exit 2
+      ;;
+    1--sources)
+      say "--sources takes the folder for the units of GNAT's that pobj changes"
       exit 2
       ;;
     1-*)
@@ -26,7 +31,8 @@ take_words() {
       ;;
     1?*) ;;
     *)
-      say "it takes the folder for the runtime, or --check, with the folder if that is already made, or --linked and a program"
+      say "it takes the folder for the runtime, or --check, with the folder if that is already made, or --linked and a program," \
+        "or --sources and a folder"
       exit 2
       ;;
   esac
@@ -41,7 +47,10 @@ quoted() {
 }
 
 take_words "${@:-}"
-[ "$1" != --linked ] || exec "$here/linked.sh" "$2"
+case $1 in
+  --linked) exec "$here/linked.sh" "$2" ;;
+  --sources) exec "$here/make.sh" --sources "$2" ;;
+esac
 [ "$library" != - ] || exit 0
 case "$#$1" in
   1--check)

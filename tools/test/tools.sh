@@ -1,14 +1,26 @@
 # SPDX-License-Identifier: MIT
 # shellcheck shell=bash
-# Tests of what these tests are made of: the scripts of Python, the counts of jobs, and the lines that say what runs. Read by `test`.
+# Tests of what these tests are made of: the scripts of Python, the counts of jobs, and the lines that say what runs; and of the
+# changes of units of GNAT's. Read by `test`.
 
-# Runs the tests of the scripts that count definitions, look for words, and try wrong bodies.
+# Runs the tests of the scripts that count definitions, look for words, try wrong bodies, and change units of GNAT's.
 scripts_are_tested() {
   local name
-  for name in walk words wrong_bodies; do
+  for name in walk words wrong_bodies change; do
     python3 "tools/test/${name}_test.py" >"$scratch/$name-test" 2>&1 || sed '$d' "$scratch/$name-test"
     count "$scratch/$name-test" "tools/test/${name}_test.py"
   done
+}
+
+# The changes of units of GNAT's have their places in GNAT 12.2, if it is there.
+changes_fit() {
+  if [[ $(gnatls --version 2>&1) != *" 12.2."* ]]; then
+    report "the changes of GNAT's units are skipped: there is no GNAT 12.2"
+  elif bindings/ada/make.sh --sources "$scratch/sources" >"$scratch/fit" 2>&1; then
+    pass
+  else
+    fail "bindings/ada/make.sh --sources: $(cat "$scratch/fit")"
+  fi
 }
 
 # What `tests` counts of a crate of which `rt try` says that two tests passed, and ends with this status.
@@ -52,6 +64,7 @@ said_of_run() {
 
 tools() {
   scripts_are_tested
+  changes_fit
   same "$(counted_with 0)" "2 passed, 0 failed" "tests of which rt try ends with status 0"
   same "$(counted_with 3)" "2 passed, 1 failed" "tests of which rt try ends with status 3"
   same "$(said_of_jobs)" $'FAILED: wanted here\nmock job: 5 passed, 1 failed\n5 passed, 1 failed' "three jobs"

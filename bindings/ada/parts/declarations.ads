@@ -1,4 +1,3 @@
-
    procedure GNARL_Do_Or_Queue
      (Self_ID    : Task_Id;
       Object     : Protection_Entries_Access;

@@ -4,4 +4,3 @@
          STPO.Self.ATC_Hack := STPO.Self.Aborting;
          System.Tasking.Initialization.Do_Pending_Action (STPO.Self);
       end if;
-
