@@ -5,6 +5,7 @@
 
    Under its lock, a client begins with one of four commands: pobj_issue (an entry call), pobj_next (after the body of a
    procedure, 9.5.1), pobj_cancel (an attempt to cancel a queued call) or pobj_finalize. It then does what each step answers.
+   For calls that nothing keeps waiting, three further commands do several steps in one.
    When the answer is POBJ_REST the protected action is over, and the client leaves its lock. At that point no body runs, and
    for each queued call the client has answered that its barrier is closed, after the last change of anything that a barrier
    may read (9.5.3). So a barrier may read the object's own data and pobj_count, and nothing else that changes.
@@ -145,6 +146,30 @@ pobj_cancellation pobj_cancel(pobj_object *object, size_t key, uint64_t number, 
 /* A command: finalizes the object. Answers POBJ_PROGRAM_ERROR for each queued call, then POBJ_REST. Each later pobj_issue is
    answered POBJ_REFUSED (9.4). */
 uint64_t pobj_finalize(pobj_object *object, pobj_step *step);
+
+/* Steps in one, for calls that nothing keeps waiting. Each does what the steps that it is made of do, and is noted in the
+   history as they are. */
+
+/* Makes room for one more call, before the client runs the body of an open entry for a call that it hasn't issued yet. If the
+   answer is POBJ_REST, pobj_served accepts a call of any entry, whatever its body does, and takes no memory. POBJ_NO_MEMORY:
+   there is no memory, and nothing has changed. POBJ_REFUSED: the object doesn't wait for a command, or is finalized. */
+uint64_t pobj_ready(pobj_object *object);
+
+/* A command: pobj_issue with POBJ_OPEN, and pobj_body_ended. The client has evaluated the barrier, which was open, and has run
+   the body, under its lock and while the object was at rest. Answers what pobj_body_ended answers. POBJ_REFUSED: there is no
+   such entry, the call is marked as aborted and may be cancelled, or pobj_ready is refused too. */
+uint64_t pobj_served(pobj_object *object, uint64_t caller, uint64_t entry, pobj_marks marks, pobj_body_end how, uint64_t target,
+    pobj_marks target_marks, pobj_step *step);
+
+/* A command: pobj_issue and pobj_answer, both with POBJ_CLOSED, for a call that isn't due while no call is queued. The barrier
+   has to be closed however many calls are queued: one that hasn't asked pobj_count is. True: the call is queued, *step has its
+   ticket, and the object is at rest. False: nothing has changed, and pobj_issue says why. */
+bool pobj_wait(pobj_object *object, uint64_t caller, uint64_t entry, pobj_marks marks, pobj_step *step);
+
+/* A command: pobj_issue and pobj_answer, both with POBJ_CLOSED, and pobj_next, for a call that is due while no call is queued.
+   The barrier has to be closed however many calls are queued. True: the call is cancelled, and the object is at rest. False:
+   nothing has changed, and pobj_issue says why. */
+bool pobj_turn_away(pobj_object *object, uint64_t caller, uint64_t entry, pobj_marks marks);
 
 /* Returns how many calls are queued on the entry (9.9), or 0 if there is no such entry. Takes constant time. The object is
    afterwards as it was, but in between its `at` is NULL. So it isn't const, and two threads mustn't count at one time. */
