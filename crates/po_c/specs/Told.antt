@@ -11,6 +11,7 @@ use Rattle.po_driven.specs.declared.words.Barrier.TheVariants.{Closed, Open, Rai
 use Rattle.po_driven.specs.declared.words.BodyEnd.{BodyEnd}
 use Rattle.po_driven.specs.declared.words.BodyEnd.TheVariants.{Completed, Failed, Requeued, RequeuedElsewhere}
 use Rattle.po_driven.specs.declared.words.Cancellation.{Cancellation}
+use Rattle.po_driven.specs.declared.words.NamedCall.{NamedCall}
 use Rattle.po_driven.specs.declared.words.Cancellation.TheVariants.{Made, Kept, Unknown, Refused as IsRefused}
 
 -- What a function does to the object in a handle, if there is one before and after it.
@@ -83,3 +84,7 @@ pub record Cancelling (answer : ℕ) (says : Cancellation → Type 0) : Type 0 w
   pub what : Cancellation
   pub told : answer ≡ number_of_cancellation what
   pub said : says what
+
+-- A step that is refused, or finds no memory, leaves the call that was named before.
+abbrev pub LeavesTold : ℕ → NamedCall → NamedCall → Type 0
+LeavesTold answer old new = (answer ≡ number_of_action NoMemory → new ≡ old) × (answer ≡ number_of_action Refused → new ≡ old)

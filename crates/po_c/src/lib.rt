@@ -11,8 +11,9 @@
 #![tactic(auto)]
 
 ghost use Rattle.std.specs.Prelude.{◌≡◌, ◌<◌, None, Some, MatchBool, count_by, slice_set, true, false, ◌≤◌};
-ghost use Rattle.po_c.specs.Told.{FromTo, KeepsObject, Cancelling, is_not_zero, Answers, entry_named, arriving_named, barrier_named, body_end_named, number_of_action, number_of_cancellation};
+ghost use Rattle.po_c.specs.Told.{FromTo, KeepsObject, LeavesTold, Cancelling, is_not_zero, Answers, entry_named, arriving_named, barrier_named, body_end_named, number_of_action, number_of_cancellation};
 ghost use Rattle.po_driven.specs.declared.action.Action.TheVariants.{Refused};
+ghost use Rattle.po_driven.specs.declared.words.BodyEnd.TheVariants.{Completed};
 ghost use Rattle.po_driven.specs.declared.words.Cancellation.TheVariants.{Refused as IsRefused};
 ghost use Rattle.po_driven.specs.Passing.{MakesReady, Serves, TurnsAway, Waits};
 ghost use Rattle.po_driven.specs.Steps.{Attempts, EndsBody, Evaluates, Finalizes, GoesOn, Issues};
@@ -119,6 +120,7 @@ pub extern "C" fn pobj_issue(
     ensures no_object { handle.old.object ≡ None → (result ≡ number_of_action Refused) × (step.new ≡ step.old) }
     ensures answer { FromTo handle.old.object handle.new.object (λ old new.
         Answers result (Issues (arriving_named caller entry marks) (barrier_named barrier) step.new old new)) }
+    ensures named { LeavesTold result step.old step.new }
 {
     let Some(mut object) = handle.take(alloc) else {
         return refused();
@@ -140,6 +142,7 @@ pub extern "C" fn pobj_answer(
     ensures made { KeepsObject handle.old.object handle.new.object }
     ensures no_object { handle.old.object ≡ None → (result ≡ number_of_action Refused) × (step.new ≡ step.old) }
     ensures answer { FromTo handle.old.object handle.new.object (λ old new. Answers result (Evaluates (barrier_named barrier) step.new old new)) }
+    ensures named { LeavesTold result step.old step.new }
 {
     let Some(mut object) = handle.take(alloc) else {
         return refused();
@@ -162,6 +165,7 @@ pub extern "C" fn pobj_body_ended(
     ensures made { KeepsObject handle.old.object handle.new.object }
     ensures no_object { handle.old.object ≡ None → (result ≡ number_of_action Refused) × (step.new ≡ step.old) }
     ensures answer { FromTo handle.old.object handle.new.object (λ old new. Answers result (EndsBody (body_end_named how entry marks) step.new old new)) }
+    ensures named { LeavesTold result step.old step.new }
 {
     let Some(mut object) = handle.take(alloc) else {
         return refused();
@@ -177,6 +181,7 @@ pub extern "C" fn pobj_next(alloc: Global, handle: &mut Handle, step: &mut Named
     ensures made { KeepsObject handle.old.object handle.new.object }
     ensures no_object { handle.old.object ≡ None → (result ≡ number_of_action Refused) × (step.new ≡ step.old) }
     ensures answer { FromTo handle.old.object handle.new.object (λ old new. Answers result (GoesOn step.new old new)) }
+    ensures named { LeavesTold result step.old step.new }
 {
     let Some(mut object) = handle.take(alloc) else {
         return refused();
@@ -214,6 +219,7 @@ pub extern "C" fn pobj_finalize(alloc: Global, handle: &mut Handle, step: &mut N
     ensures made { KeepsObject handle.old.object handle.new.object }
     ensures no_object { handle.old.object ≡ None → (result ≡ number_of_action Refused) × (step.new ≡ step.old) }
     ensures answer { FromTo handle.old.object handle.new.object (λ old new. Answers result (Finalizes step.new old new)) }
+    ensures named { LeavesTold result step.old step.new }
 {
     let Some(mut object) = handle.take(alloc) else {
         return refused();
@@ -255,14 +261,61 @@ pub extern "C" fn pobj_served(
     ensures no_object { handle.old.object ≡ None → (result ≡ number_of_action Refused) × (step.new ≡ step.old) }
     ensures answer { FromTo handle.old.object handle.new.object (λ old new.
         Answers result (Serves (arriving_named caller entry marks) (body_end_named how target target_marks) step.new old new)) }
+    ensures named { LeavesTold result step.old step.new }
 {
     let Some(mut object) = handle.take(alloc) else {
         return refused();
     };
-    let arriving = arriving_of(caller, entry, marks);
-    let action = object.served(arriving, body_end_of(how, target, target_marks), step);
+    let answer = if how == 0 {
+        completed(&mut object, caller, entry, marks, step)
+    } else {
+        served(
+            &mut object,
+            caller,
+            entry,
+            marks,
+            how,
+            target,
+            target_marks,
+            step,
+        )
+    };
     *handle = Handle::of(object);
-    answer_of(action)
+    answer
+}
+
+/// Takes a call whose body has completed, which is how most bodies end: so it is inlined.
+#[inline(always)]
+fn completed(
+    object: &mut DrivenObject,
+    caller: u64,
+    entry: u64,
+    marks: u64,
+    step: &mut NamedCall,
+) -> u64
+    ensures answers { Answers result (Serves (arriving_named caller entry marks) Completed step.new object.old object.new) }
+    ensures named { LeavesTold result step.old step.new }
+{
+    answer_of(object.served_and_completed(arriving_of(caller, entry, marks), step))
+}
+
+/// Takes a call whose body has ended in one of the ways.
+#[inline(never)]
+fn served(
+    object: &mut DrivenObject,
+    caller: u64,
+    entry: u64,
+    marks: u64,
+    how: u64,
+    target: u64,
+    target_marks: u64,
+    step: &mut NamedCall,
+) -> u64
+    ensures answers { Answers result (Serves (arriving_named caller entry marks) (body_end_named how target target_marks) step.new object.old object.new) }
+    ensures named { LeavesTold result step.old step.new }
+{
+    let end = body_end_of(how, target, target_marks);
+    answer_of(object.served(arriving_of(caller, entry, marks), end, step))
 }
 
 /// Queues a call of this caller that arrives alone and isn't due, and whose barrier is closed however many calls are queued.
@@ -278,6 +331,7 @@ pub extern "C" fn pobj_wait(
     ensures made { KeepsObject handle.old.object handle.new.object }
     ensures no_object { handle.old.object ≡ None → (result ≡ false) × (step.new ≡ step.old) }
     ensures answer { FromTo handle.old.object handle.new.object (λ old new. Waits (arriving_named caller entry marks) step.new old new result) }
+    ensures named { result ≡ false → step.new ≡ step.old }
 {
     let Some(mut object) = handle.take(alloc) else {
         return false;

@@ -9,10 +9,10 @@ use Rattle.po_engine.specs.Driving.{new_call}
 use Rattle.po_engine.specs.WaitingCalls.{is_due}
 use Rattle.po_driven.specs.Answering.{Breaks, LooksOn, Moves, is_withdrawn}
 use Rattle.po_driven.specs.DrivenCallsView.{DrivenCallsView, passed}
-use Rattle.po_driven.specs.DrivenView.{Awaits, DrivenView, Fresh, IsDriven, KeepsAll, KeepsSetup, MayIssue, Tells}
+use Rattle.po_driven.specs.DrivenView.{Awaits, DrivenView, Fresh, IsDriven, KeepsAll, KeepsSetup, LeavesNamed, MayIssue, Tells}
 use Rattle.po_driven.specs.Happening.{arrives, cancellation_of}
 use Rattle.po_driven.specs.Noted.{IsNoRequeue, Names, NamesTicket, Notes, serviced}
-use Rattle.po_driven.specs.Passing.{HasTarget, MayServe, WasServed}
+use Rattle.po_driven.specs.Passing.{HasTarget, IsTaken, MayServe, WasServed}
 use Rattle.po_driven.specs.Steps.{EndsBody, Issues}
 use Rattle.po_driven.specs.declared.action.Action.{Action}
 use Rattle.po_driven.specs.declared.action.Action.TheVariants.{Rest, Evaluate, Run, Queued, Cancelled, ProgramError, NoMemory, Refused}
@@ -250,13 +250,39 @@ body_accepted d m new a end step r was is now running setup noted ends =
     accepted_at end m r step m.calls.object.serving refl awaits (target_in end d m setup.entries was.target) (omega (arith, place_served d m a is now noted, was.may.place)) ends.accepted ends.moves
 
 -- if it isn't refused, it is taken
-pub body_kept : (d m new : DrivenView) (r : Action) → r ≢ Refused → Tells r new → KeepsAll r m new → m.phase ≡ Running → KeepsAll r d new
-body_kept d m new Rest ne tells kept running = tt
-body_kept d m new (Evaluate e) ne tells kept running = tt
-body_kept d m new (Run e) ne tells kept running = tt
-body_kept d m new (Queued e) ne tells kept running = tt
-body_kept d m new Cancelled ne tells kept running = tt
-body_kept d m new ProgramError ne tells kept running = tt
-body_kept d m new NoMemory ne tells kept running =
+taken : (m new : DrivenView) (r : Action) → r ≢ Refused → Tells r new → KeepsAll r m new → m.phase ≡ Running → IsTaken r
+taken m new Rest ne tells kept running = tt
+taken m new (Evaluate e) ne tells kept running = tt
+taken m new (Run e) ne tells kept running = tt
+taken m new (Queued e) ne tells kept running = tt
+taken m new Cancelled ne tells kept running = tt
+taken m new ProgramError ne tells kept running = tt
+taken m new NoMemory ne tells kept running =
     let bad : Resting ≡ Running = sym tells ∙ ap (λ v. v.phase) kept ∙ running in absurd (cc)
-body_kept d m new Refused ne tells kept running = absurd (ne refl)
+taken m new Refused ne tells kept running = absurd (ne refl)
+
+kept_taken : (r : Action) (old new : DrivenView) → IsTaken r → KeepsAll r old new
+kept_taken Rest old new is = tt
+kept_taken (Evaluate e) old new is = tt
+kept_taken (Run e) old new is = tt
+kept_taken (Queued e) old new is = tt
+kept_taken Cancelled old new is = tt
+kept_taken ProgramError old new is = tt
+kept_taken NoMemory old new is = absurd is
+kept_taken Refused old new is = absurd is
+
+named_taken : (r : Action) (old new : NamedCall) → IsTaken r → LeavesNamed r old new
+named_taken Rest old new is = tt
+named_taken (Evaluate e) old new is = tt
+named_taken (Run e) old new is = tt
+named_taken (Queued e) old new is = tt
+named_taken Cancelled old new is = tt
+named_taken ProgramError old new is = tt
+named_taken NoMemory old new is = absurd is
+named_taken Refused old new is = absurd is
+
+pub body_kept : (d m new : DrivenView) (r : Action) → r ≢ Refused → Tells r new → KeepsAll r m new → m.phase ≡ Running → KeepsAll r d new
+body_kept d m new r ne tells kept running = kept_taken r d new (taken m new r ne tells kept running)
+
+pub body_named : (m new : DrivenView) (r : Action) (before after : NamedCall) → r ≢ Refused → Tells r new → KeepsAll r m new → m.phase ≡ Running → LeavesNamed r before after
+body_named m new r before after ne tells kept running = named_taken r before after (taken m new r ne tells kept running)

@@ -10,6 +10,7 @@ use Rattle.po_driven.specs.declared.phase.Phase.TheVariants.{Resting, Asked, Run
 use Rattle.po_driven.specs.declared.action.Action.{Action}
 use Rattle.po_driven.specs.declared.action.Action.TheVariants.{Rest, Evaluate, Run, Queued, Cancelled, ProgramError, NoMemory, Refused}
 use Rattle.po_driven.specs.declared.words.Barrier.{Barrier}
+use Rattle.po_driven.specs.declared.words.NamedCall.{NamedCall}
 use Rattle.po_driven.specs.declared.words.Barrier.TheVariants.{Closed, Open, Raised}
 
 pub record DrivenView : Type 0 where
@@ -77,6 +78,12 @@ abbrev pub KeepsAll : Action → DrivenView → DrivenView → Type 0
 KeepsAll NoMemory old new = new ≡ old
 KeepsAll Refused old new = new ≡ old
 KeepsAll other old new = Unit {0}
+
+-- A step that is refused, or finds no memory, names no call: what was named before stays.
+abbrev pub LeavesNamed : Action → NamedCall → NamedCall → Type 0
+LeavesNamed NoMemory old new = new ≡ old
+LeavesNamed Refused old new = new ≡ old
+LeavesNamed other old new = Unit {0}
 
 -- The setup of an object stays: how many entries it has, the limits of their queues, whether its memory is fixed, and if so,
 -- for how many calls.

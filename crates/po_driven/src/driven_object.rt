@@ -10,7 +10,7 @@ ghost use Rattle.po_engine.specs.WaitingCalls.{is_on};
 ghost use Rattle.po_engine.specs.Step.{end_call};
 ghost use Rattle.po_engine.specs.declared.arriving.Arriving.{Arriving};
 ghost use Rattle.po_driven.specs.AtRest.{AskedBelow, ToldBelow, told};
-ghost use Rattle.po_driven.specs.DrivenView.{DrivenView, IsDriven, KeepsSetup, Tells, Fresh, KeepsAll, MayIssue, at_opening, closed_after};
+ghost use Rattle.po_driven.specs.DrivenView.{DrivenView, IsDriven, KeepsSetup, Tells, Fresh, KeepsAll, LeavesNamed, MayIssue, at_opening, closed_after};
 ghost use Rattle.po_driven.specs.DrivenCallsView.{IsReady, opening_calls};
 ghost use Rattle.po_driven.specs.Answering.{AnswersCall, FollowsBarrier, LooksOn, Breaks, MayRequeue, Moves, WaitsForNext};
 ghost use Rattle.po_driven.specs.Noted.{Notes, serviced, issued, concluded, attempted, Names, NamesCaller, NamesTicket, HasTicket, EndsWhereFull, IsNoRequeue, Cancels, KeepsCalls, longest_on};
@@ -175,6 +175,7 @@ impl DrivenObject {
         ensures follows { AnswersCall result arriving barrier self.new }
         ensures room { uncollected self.old.calls.object.tickets < self.old.calls.object.most → result ≢ NoMemory }
         ensures setup { KeepsSetup self.old self.new }
+        ensures named { LeavesNamed result step.old step.new }
     {
         if !self.may_issue(arriving.entry) {
             return Action::Refused;
@@ -212,6 +213,8 @@ impl DrivenObject {
         ensures follows { IfOk result (λ action. FollowsBarrier action arriving barrier self.new) }
         ensures room { uncollected self.old.calls.object.tickets < self.old.calls.object.most → IsOk result }
         ensures setup { IfOk result (λ _. KeepsSetup self.old self.new) }
+        ensures named { IfOk result (λ action. LeavesNamed action step.old step.new) }
+        ensures left { OnErr result (step.new ≡ step.old) }
     {
         self.calls.make_room()?;
         let action = match barrier {
@@ -237,6 +240,7 @@ impl DrivenObject {
         ensures full { EndsWhereFull result arriving.entry self.old }
         ensures follows { FollowsBarrier result arriving Open self.new }
         ensures setup { KeepsSetup self.old self.new }
+        ensures unnamed { (old new : NamedCall) → LeavesNamed result old new }
     {
         self.calls.accept_open(arriving);
         self.phase = Phase::Running;
@@ -259,6 +263,7 @@ impl DrivenObject {
         ensures full { EndsWhereFull result arriving.entry self.old }
         ensures follows { FollowsBarrier result arriving Closed self.new }
         ensures setup { KeepsSetup self.old self.new }
+        ensures unnamed { (old new : NamedCall) → LeavesNamed result old new }
     {
         let longest = self.longest(arriving.entry);
         let queued = self.calls.accept_closed(arriving, longest);
@@ -280,6 +285,7 @@ impl DrivenObject {
         ensures ticket { NamesTicket result step.new self.new }
         ensures follows { FollowsBarrier result arriving Raised self.new }
         ensures setup { KeepsSetup self.old self.new }
+        ensures unnamed { (old new : NamedCall) → LeavesNamed result old new }
     {
         self.calls.accept_closed(arriving, None);
         self.closed = Trace::new();
@@ -303,6 +309,7 @@ impl DrivenObject {
         ensures ticket { IfSome queued (λ ticket. HasTicket result ticket step.new) }
         ensures follows { (arriving : Arriving ℕ) → FollowsBarrier result arriving Closed self.new }
         ensures setup { KeepsSetup self.old self.new }
+        ensures unnamed { (old new : NamedCall) → LeavesNamed result old new }
     {
         let Some(ticket) = queued else {
             return Action::ProgramError;
@@ -329,6 +336,7 @@ impl DrivenObject {
         ensures looks_on { (e : ℕ) → self.old.phase ≡ Asked e → barrier ≡ Closed → LooksOn result self.old.calls.object.state.waiting self.new.closed }
         ensures breaks { (e : ℕ) → self.old.phase ≡ Asked e → barrier ≡ Raised → Breaks result self.old self.new }
         ensures setup { KeepsSetup self.old self.new }
+        ensures named { LeavesNamed result step.old step.new }
     {
         let Phase::Asked(e) = self.phase else {
             return Action::Refused;
@@ -372,6 +380,7 @@ impl DrivenObject {
         ensures noted { Notes (serviced result self.old) self.old self.new }
         ensures names { Names result step.new self.old self.new }
         ensures setup { KeepsSetup self.old self.new }
+        ensures unnamed { (old new : NamedCall) → LeavesNamed result old new }
     {
         self.closed = Trace::new();
         self.phase = Phase::Running;
@@ -400,6 +409,7 @@ impl DrivenObject {
         ensures unmoved { (requeue : Requeue) → end ≡ Requeued requeue → (MayRequeue self.old requeue → ⊥) → result ≡ Refused }
         ensures moves { (requeue : Requeue) (x : Call ℕ) → end ≡ Requeued requeue → self.old.calls.object.serving ≡ Some x → Moves result requeue x step.new self.old }
         ensures setup { KeepsSetup self.old self.new }
+        ensures named { LeavesNamed result step.old step.new }
     {
         let Some(call) = self.calls.state().in_service() else {
             return Action::Refused;
@@ -466,6 +476,7 @@ impl DrivenObject {
         ensures unmoved { (MayRequeue self.old requeue → ⊥) → result ≡ Refused }
         ensures moves { Moves result requeue call step.new self.old }
         ensures setup { KeepsSetup self.old self.new }
+        ensures named { LeavesNamed result step.old step.new }
     {
         if requeue.target >= self.entries() || !self.calls.has_place() {
             return Action::Refused;
@@ -496,6 +507,7 @@ impl DrivenObject {
         ensures breaks { self.old.phase ≡ Breaking → Breaks result self.old self.new }
         ensures accepted { WaitsForNext self.old.phase → result ≢ Refused }
         ensures setup { KeepsSetup self.old self.new }
+        ensures named { LeavesNamed result step.old step.new }
     {
         match self.phase {
             Phase::Resting | Phase::Settling => {
@@ -524,6 +536,7 @@ impl DrivenObject {
         ensures unqueued { (told : NamedCall) (d : DrivenView) → NamesTicket result told d }
         ensures looks_on { LooksOn result self.old.calls.object.state.waiting self.old.closed }
         ensures setup { KeepsSetup self.old self.new }
+        ensures unnamed { (old new : NamedCall) → LeavesNamed result old new }
     {
         if self.calls.state().is_idle() {
             self.phase = Phase::Resting;
@@ -546,6 +559,7 @@ impl DrivenObject {
         ensures unqueued { (told : NamedCall) (d : DrivenView) → NamesTicket result told d }
         ensures looks_on { LooksOn result self.old.calls.object.state.waiting self.old.closed }
         ensures setup { KeepsSetup self.old self.new }
+        ensures unnamed { (old new : NamedCall) → LeavesNamed result old new }
     {
         if let Some(e) = self.calls.state().next_busy(from) {
             self.phase = Phase::Asked(e);
@@ -567,6 +581,7 @@ impl DrivenObject {
         ensures unqueued { (told : NamedCall) (d : DrivenView) → NamesTicket result told d }
         ensures looks_on { LooksOn result self.old.calls.object.state.waiting self.old.closed }
         ensures setup { KeepsSetup self.old self.new }
+        ensures unnamed { (old new : NamedCall) → LeavesNamed result old new }
     {
         let Some(call) = self.calls.cancel_due() else {
             self.phase = Phase::Resting;
@@ -590,6 +605,7 @@ impl DrivenObject {
         ensures breaks { Breaks result self.old self.new }
         ensures first { IsSome (slice_get self.old.calls.object.state.waiting 0) → result ≡ ProgramError }
         ensures setup { KeepsSetup self.old self.new }
+        ensures unnamed { (old new : NamedCall) → LeavesNamed result old new }
     {
         self.closed = Trace::new();
         let Some(call) = self.calls.break_oldest() else {
@@ -642,6 +658,7 @@ impl DrivenObject {
         ensures refused { self.old.phase ≢ Resting → result ≡ Refused }
         ensures breaks { self.old.phase ≡ Resting → Breaks result self.old self.new }
         ensures setup { KeepsSetup self.old self.new }
+        ensures named { LeavesNamed result step.old step.new }
     {
         let Phase::Resting = self.phase else {
             return Action::Refused;

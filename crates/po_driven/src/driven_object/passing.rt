@@ -1,13 +1,14 @@
 // SPDX-License-Identifier: MIT
 //! Steps in one, for calls that nothing keeps waiting.
 
-ghost use Rattle.std.specs.Prelude.{◌≡◌, ◌≢◌, ◌<◌, true};
+ghost use Rattle.std.specs.Prelude.{◌≡◌, ◌≢◌, ◌<◌, true, false};
 ghost use Rattle.po_engine.specs.Tickets.{uncollected};
-ghost use Rattle.po_driven.specs.DrivenView.{KeepsAll, KeepsSetup};
+ghost use Rattle.po_driven.specs.DrivenView.{KeepsAll, KeepsSetup, LeavesNamed};
 ghost use Rattle.po_driven.specs.Passing.{ArrivesAlone, HasTarget, IsTaken, MakesReady, MayServe, Serves, ServesBetween, TurnsAway, Waits, WasServed, is_due_in};
 ghost use Rattle.po_driven.specs.Answering.{is_withdrawn as withdrawn};
 ghost use Rattle.po_driven.specs.declared.action.Action.TheVariants.{NoMemory, Refused};
 ghost use Rattle.po_driven.specs.declared.words.BodyEnd.TheVariants.{Completed, Failed, RequeuedElsewhere};
+ghost use Rattle.po_driven.specs.declared.words.NamedCall.{NamedCall};
 
 use crate::action::Action;
 use crate::driven_object::DrivenObject;
@@ -65,17 +66,35 @@ impl DrivenObject {
         }
     }
 
+    /// Returns whether a call of an entry that exists is accepted though its body has run already. It isn't if it is cancelled
+    /// before its barrier is looked at.
+    #[inline(always)]
+    fn accepts_served(&self, arriving: Arriving<u64>) -> bool
+        ensures yes { result ≡ true → WasServed arriving Completed self.now }
+        ensures no { WasServed arriving Completed self.now → result ≡ true }
+    {
+        self.may_serve() && arriving.entry < self.entries() && !is_withdrawn(arriving)
+    }
+
+    /// Does what `served` does, for a body that has completed.
+    #[inline(always)]
+    pub fn served_and_completed(&mut self, arriving: Arriving<u64>, step: &mut NamedCall) -> Action
+        ensures serves { Serves arriving Completed step.new self.old self.new result }
+        ensures named { LeavesNamed result step.old step.new }
+    {
+        if !self.accepts_served(arriving) {
+            return Action::Refused;
+        }
+        self.completed(arriving, step)
+    }
+
     /// Takes a call whose barrier was open and whose body has run, and returns what is next: `issue` with an open barrier and
     /// `body_ended` in one. Only a requeue within the object takes room (9.5.2, 9.5.3).
-    #[inline(always)]
     pub fn served(&mut self, arriving: Arriving<u64>, end: BodyEnd, step: &mut NamedCall) -> Action
-        ensures { Serves arriving end step.new self.old self.new result }
+        ensures serves { Serves arriving end step.new self.old self.new result }
+        ensures named { LeavesNamed result step.old step.new }
     {
-        if !self.may_serve()
-            || arriving.entry >= self.entries()
-            || is_withdrawn(arriving)
-            || !self.has_target(end)
-        {
+        if !self.accepts_served(arriving) || !self.has_target(end) {
             return Action::Refused;
         }
         match end {
@@ -92,6 +111,7 @@ impl DrivenObject {
         requires { WasServed arriving Completed self.old }
         ensures taken { IsTaken result }
         ensures setup { KeepsSetup self.old self.new }
+        ensures unnamed { (old new : NamedCall) → LeavesNamed result old new }
         ensures through { ServesBetween arriving Completed step.new self.old self.new result }
     {
         self.recall_invariant();
@@ -107,6 +127,7 @@ impl DrivenObject {
         requires { WasServed arriving Failed self.old }
         ensures taken { IsTaken result }
         ensures setup { KeepsSetup self.old self.new }
+        ensures unnamed { (old new : NamedCall) → LeavesNamed result old new }
         ensures through { ServesBetween arriving Failed step.new self.old self.new result }
     {
         self.recall_invariant();
@@ -121,6 +142,7 @@ impl DrivenObject {
         requires { WasServed arriving RequeuedElsewhere self.old }
         ensures taken { IsTaken result }
         ensures setup { KeepsSetup self.old self.new }
+        ensures unnamed { (old new : NamedCall) → LeavesNamed result old new }
         ensures through { ServesBetween arriving RequeuedElsewhere step.new self.old self.new result }
     {
         self.recall_invariant();
@@ -142,6 +164,7 @@ impl DrivenObject {
         ensures accepted { result ≢ Refused }
         ensures room { uncollected self.old.calls.object.tickets < self.old.calls.object.most → result ≢ NoMemory }
         ensures setup { KeepsSetup self.old self.new }
+        ensures named { LeavesNamed result step.old step.new }
         ensures through { IsTaken result → ServesBetween arriving end step.new self.old self.new result }
     {
         self.recall_invariant();
@@ -175,7 +198,8 @@ impl DrivenObject {
     /// (9.5.3).
     #[inline(always)]
     pub fn wait(&mut self, arriving: Arriving<u64>, step: &mut NamedCall) -> bool
-        ensures { Waits arriving step.new self.old self.new result }
+        ensures waits { Waits arriving step.new self.old self.new result }
+        ensures named { result ≡ false → step.new ≡ step.old }
     {
         self.recall_invariant();
         if !self.arrives_alone(arriving) || self.is_due(arriving) {

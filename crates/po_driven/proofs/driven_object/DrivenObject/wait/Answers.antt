@@ -6,8 +6,8 @@ use Rattle.po_driven.specs.declared.happening.Happening.TheVariants.{Arrived}
 use Rattle.po_driven.proofs.Alone.{waits_between}
 use Rattle.po_driven.proofs.driven_object.DrivenObject.wait.Goals as goal
 
-pub returns : goal.returns
-returns c =
+pub returns-clause-waits : goal.returns-clause-waits
+returns-clause-waits c =
     let d = c.args.self.now in let a = c.args.arriving in let i = c.self.inside in let k = c.in-Some.ensures in
     let alone = c.arrives_alone.ensures.yes c.if-not-arrives_alone.false in
     let roomy = c.make_room.ensures.same in
