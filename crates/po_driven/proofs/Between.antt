@@ -13,6 +13,7 @@ use Rattle.po_driven.specs.DrivenView.{Awaits, DrivenView, Fresh, IsDriven, Keep
 use Rattle.po_driven.specs.Happening.{arrives, cancellation_of}
 use Rattle.po_driven.specs.Noted.{IsNoRequeue, Names, NamesTicket, Notes, serviced}
 use Rattle.po_driven.specs.Passing.{HasTarget, IsTaken, MayServe, WasServed}
+use Rattle.po_driven.specs.Servicing.{Services}
 use Rattle.po_driven.specs.Steps.{EndsBody, Issues}
 use Rattle.po_driven.specs.declared.action.Action.{Action}
 use Rattle.po_driven.specs.declared.action.Action.TheVariants.{Rest, Evaluate, Run, Queued, Cancelled, ProgramError, NoMemory, Refused}
@@ -127,17 +128,6 @@ module _ (u v : DrivenView) (waiting : u.calls.object.state.waiting ≡ v.calls.
 two_noted : (hs : List Happening) (g h : Happening) (more : List Happening) → (hs ++ g ∷ h ∷ []) ++ more ≡ (hs ++ g ∷ []) ++ h ∷ more
 two_noted hs g h more = append_assoc hs (g ∷ h ∷ []) more ∙ sym (append_assoc hs (g ∷ []) (h ∷ more))
 
--- What an object that services its queues after a body has ended says of it, whatever way the body ended.
-pub record Services (v new : DrivenView) (step : NamedCall) (r : Action) : Type 0 where
-  pub tells : Tells r new
-  pub answers : r ≢ Refused
-  pub proceeds : (o n : DrivenView) → KeepsAll r o n
-  pub noted : Notes (serviced r v) v new
-  pub names : Names r step v new
-  pub ticket : NamesTicket r step new
-  pub fresh : new.closed ≡ []
-  pub setup : KeepsSetup v new
-
 module _ (d : DrivenView) (a : Arriving ℕ) where
   abbrev pub completed_calls : DrivenCallsView
   completed_calls = passed d.calls a (IsCompleted a.value) (Served a ∷ Ended (IsCompleted a.value) ∷ [])
@@ -151,63 +141,63 @@ module _ (d : DrivenView) (a : Arriving ℕ) where
   its_value : (x : Call ℕ) → Some (new_call d.calls.object.state.next a) ≡ Some x → a.value ≡ x.value
   its_value x e = let same : new_call d.calls.object.state.next a ≡ x = cc in ap (λ y. y.value) same
 
-  pub completed : (new : DrivenView) (step : NamedCall) (r : Action) → Services (settling d completed_calls) new step r → LooksOn r d.calls.object.state.waiting [] → EndsBody Completed step (running d a) new r
-  completed new step r s looks =
+  pub completed : (new : DrivenView) (step : NamedCall) (r : Action) → Services step (settling d completed_calls) new r → new.closed ≡ [] → LooksOn r d.calls.object.state.waiting [] → EndsBody Completed step (running d a) new r
+  completed new step r s fresh looks =
       let v = settling d completed_calls in let m = running d a in record {
         tells = s.tells;
         kept = s.proceeds m new;
         setup = record { entries = s.setup.entries; limits = s.setup.limits; room = record { fixed = s.setup.room.fixed; most = s.setup.room.most } };
         accepted = λ some no. s.answers;
         refused = λ none. absurd (cc);
-        fresh = fresh_of r new s.fresh;
+        fresh = fresh_of r new fresh;
         noted = λ x e. s.noted ∙ two_noted d.calls.happened (Served a) (Ended (IsCompleted a.value)) (serviced r v)
             ∙ ap₂ (λ n hs. (d.calls.happened ++ Served a ∷ []) ++ Ended (IsCompleted n) ∷ hs) (its_value x e) (same_serviced v m refl refl r);
         names = λ no. same_names v m refl refl r step new s.names;
         unmoved = λ q e no. absurd (cc);
         moves = λ q x e in_service. absurd (cc);
-        ticket = s.ticket;
+        ticket = s.unqueued step new;
         full = λ q e. absurd (cc);
-        looks_on = λ some e. subst (λ l. LooksOn r d.calls.object.state.waiting l) (sym s.fresh) looks;
+        looks_on = λ some e. subst (λ l. LooksOn r d.calls.object.state.waiting l) (sym fresh) looks;
         leaves = λ some e. absurd (cc);
         breaks = λ some e. absurd (cc);
       }
 
-  pub left : (new : DrivenView) (step : NamedCall) (r : Action) → Services (settling d left_calls) new step r → LooksOn r d.calls.object.state.waiting [] → EndsBody RequeuedElsewhere step (running d a) new r
-  left new step r s looks =
+  pub left : (new : DrivenView) (step : NamedCall) (r : Action) → Services step (settling d left_calls) new r → new.closed ≡ [] → LooksOn r d.calls.object.state.waiting [] → EndsBody RequeuedElsewhere step (running d a) new r
+  left new step r s fresh looks =
       let v = settling d left_calls in let m = running d a in record {
         tells = s.tells;
         kept = s.proceeds m new;
         setup = record { entries = s.setup.entries; limits = s.setup.limits; room = record { fixed = s.setup.room.fixed; most = s.setup.room.most } };
         accepted = λ some no. s.answers;
         refused = λ none. absurd (cc);
-        fresh = fresh_of r new s.fresh;
+        fresh = fresh_of r new fresh;
         noted = λ x e. s.noted ∙ two_noted d.calls.happened (Served a) HasLeft (serviced r v)
             ∙ ap (λ hs. (d.calls.happened ++ Served a ∷ []) ++ HasLeft ∷ hs) (same_serviced v m refl refl r);
         names = λ no. same_names v m refl refl r step new s.names;
         unmoved = λ q e no. absurd (cc);
         moves = λ q x e in_service. absurd (cc);
-        ticket = s.ticket;
+        ticket = s.unqueued step new;
         full = λ q e. absurd (cc);
         looks_on = λ some e. absurd (cc);
-        leaves = λ some e. subst (λ l. LooksOn r d.calls.object.state.waiting l) (sym s.fresh) looks;
+        leaves = λ some e. subst (λ l. LooksOn r d.calls.object.state.waiting l) (sym fresh) looks;
         breaks = λ some e. absurd (cc);
       }
 
-  pub failed : (new : DrivenView) (step : NamedCall) (r : Action) → Services (settling d failed_calls) new step r → Breaks r (settling d failed_calls) new → EndsBody Failed step (running d a) new r
-  failed new step r s breaks =
+  pub failed : (new : DrivenView) (step : NamedCall) (r : Action) → Services step (settling d failed_calls) new r → new.closed ≡ [] → Breaks r (settling d failed_calls) new → EndsBody Failed step (running d a) new r
+  failed new step r s fresh breaks =
       let v = settling d failed_calls in let m = running d a in record {
         tells = s.tells;
         kept = s.proceeds m new;
         setup = record { entries = s.setup.entries; limits = s.setup.limits; room = record { fixed = s.setup.room.fixed; most = s.setup.room.most } };
         accepted = λ some no. s.answers;
         refused = λ none. absurd (cc);
-        fresh = fresh_of r new s.fresh;
+        fresh = fresh_of r new fresh;
         noted = λ x e. s.noted ∙ two_noted d.calls.happened (Served a) (Ended (Raised 0)) (serviced r v)
             ∙ ap (λ hs. (d.calls.happened ++ Served a ∷ []) ++ Ended (Raised 0) ∷ hs) (same_serviced v m refl refl r);
         names = λ no. same_names v m refl refl r step new s.names;
         unmoved = λ q e no. absurd (cc);
         moves = λ q x e in_service. absurd (cc);
-        ticket = s.ticket;
+        ticket = s.unqueued step new;
         full = λ q e. absurd (cc);
         looks_on = λ some e. absurd (cc);
         leaves = λ some e. absurd (cc);

@@ -6,6 +6,7 @@ pub mod Happening
 pub mod Noted
 pub mod OnePlace
 pub mod Passing
+pub mod Servicing
 pub mod Steps
 pub mod DrivenCallsView
 pub mod Unknown

@@ -1,7 +1,6 @@
 use Rattle.std.proofs.Common.{◌∙◌, ap, subst}
 use Rattle.po_driven.specs.Answering.{Breaks}
-use Rattle.po_driven.specs.DrivenView.{KeepsSetup}
-use Rattle.po_driven.specs.Noted.{Names, Notes, serviced}
+use Rattle.po_driven.specs.Servicing.{Services}
 use Rattle.po_driven.proofs.Between.{failed, issues_open, may_issue, named, resting_idle, running, running_driven, same_settling, settling, failed_calls}
 use Rattle.po_driven.proofs.driven_object.DrivenObject.failed.Goals as goal
 
@@ -19,14 +18,5 @@ returns-clause-through c =
       told = named a;
       driven = running_driven d a is (resting_idle d is c.requires.may.resting);
       issues = issues_open d a (may_issue d a.entry c.requires.may c.requires.entry) c.requires.stays;
-      ends = failed d a new step r (record {
-        tells = c.break_one.ensures.tells;
-        answers = c.break_one.ensures.answers;
-        proceeds = c.break_one.ensures.proceeds;
-        noted = subst (λ v. Notes (serviced r v) v new) at c.break_one.ensures.noted;
-        names = subst (λ v. Names r step v new) at c.break_one.ensures.names;
-        ticket = c.break_one.ensures.unqueued c.break_one.new.step c.break_one.new.self;
-        fresh = c.break_one.ensures.fresh;
-        setup = subst (λ v. KeepsSetup v new) at c.break_one.ensures.setup;
-      }) (subst (λ v. Breaks c.break_one.result v c.break_one.new.self) at c.break_one.ensures.breaks);
+      ends = failed d a new step r (subst (λ v. Services step v new r) at c.break_one.ensures.services) (c.break_one.ensures.fresh) (subst (λ v. Breaks c.break_one.result v c.break_one.new.self) at c.break_one.ensures.breaks);
     }

@@ -1,7 +1,6 @@
 use Rattle.std.proofs.Common.{◌∙◌, ap, subst}
 use Rattle.po_driven.specs.Answering.{LooksOn}
-use Rattle.po_driven.specs.DrivenView.{KeepsSetup}
-use Rattle.po_driven.specs.Noted.{Names, Notes, serviced}
+use Rattle.po_driven.specs.Servicing.{Services}
 use Rattle.po_driven.proofs.Between.{left, issues_open, may_issue, named, resting_idle, running, running_driven, same_settling, settling, left_calls}
 use Rattle.po_driven.proofs.driven_object.DrivenObject.requeued_elsewhere.Goals as goal
 
@@ -19,14 +18,5 @@ returns-clause-through c =
       told = named a;
       driven = running_driven d a is (resting_idle d is c.requires.may.resting);
       issues = issues_open d a (may_issue d a.entry c.requires.may c.requires.entry) c.requires.stays;
-      ends = left d a new step r (record {
-        tells = c.ask.ensures.tells;
-        answers = c.ask.ensures.answers;
-        proceeds = c.ask.ensures.proceeds;
-        noted = subst (λ v. Notes (serviced r v) v new) at c.ask.ensures.noted;
-        names = subst (λ v. Names r step v new) at c.ask.ensures.names;
-        ticket = c.ask.ensures.unqueued c.ask.new.step c.ask.new.self;
-        fresh = c.ask.ensures.same ∙ c.new-self-inside.ensures;
-        setup = subst (λ v. KeepsSetup v new) at c.ask.ensures.setup;
-      }) (subst (λ v. LooksOn c.ask.result v.calls.object.state.waiting v.closed) at c.ask.ensures.looks_on);
+      ends = left d a new step r (subst (λ v. Services step v new r) at c.ask.ensures.services) (c.ask.ensures.same ∙ c.new-self-inside.ensures) (subst (λ v. LooksOn c.ask.result v.calls.object.state.waiting v.closed) at c.ask.ensures.looks_on);
     }
