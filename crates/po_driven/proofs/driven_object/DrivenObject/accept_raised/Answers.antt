@@ -13,7 +13,7 @@ returns-clause-noted c =
     let i = c.self.inside in let a = c.args.arriving in let b = c.break_one.ensures in
     let waiting = ap (λ s. s.waiting) c.accept_closed.ensures.state in
     let breaks = b.first (subst (λ l. IsSome (slice_get l 0)) (sym waiting) (one_waits i.calls.object.state.waiting (new_call i.calls.object.state.next a))) in
-    let notes = rw breaks at b.noted ∙ ap (λ h. h ++ Broken ∷ []) c.accept_closed.ensures.happened ∙ append_assoc i.calls.happened (Arrived a None ∷ []) (Broken ∷ []) in
+    let notes = rw breaks at b.services.noted ∙ ap (λ h. h ++ Broken ∷ []) c.accept_closed.ensures.happened ∙ append_assoc i.calls.happened (Arrived a None ∷ []) (Broken ∷ []) in
     subst (λ v. c.break_one.new.self.calls.happened ≡ v.calls.happened ++ issued c.break_one.result a Raised v) c.self.view_is (rw breaks notes)
 
 pub returns-clause-names : goal.returns-clause-names
@@ -21,5 +21,5 @@ returns-clause-names c =
     let i = c.self.inside in let a = c.args.arriving in let b = c.break_one.ensures in
     let waiting = ap (λ s. s.waiting) c.accept_closed.ensures.state in
     let breaks = b.first (subst (λ l. IsSome (slice_get l 0)) (sym waiting) (one_waits i.calls.object.state.waiting (new_call i.calls.object.state.next a))) in
-    let named = subst (λ l. IsSomeAnd (slice_get l 0) (λ x. c.break_one.new.step.caller ≡ x.value)) waiting (rw breaks at b.names) in
+    let named = subst (λ l. IsSomeAnd (slice_get l 0) (λ x. c.break_one.new.step.caller ≡ x.value)) waiting (rw breaks at b.services.names) in
     subst (λ v. NamesCaller c.break_one.result a Raised c.break_one.new.step v) c.self.view_is (rw breaks named)
