@@ -11,7 +11,7 @@ use Rattle.po_driven.specs.Answering.{Breaks, LooksOn, Moves, is_withdrawn}
 use Rattle.po_driven.specs.DrivenCallsView.{DrivenCallsView, passed}
 use Rattle.po_driven.specs.DrivenView.{Awaits, DrivenView, Fresh, IsDriven, KeepsAll, KeepsSetup, LeavesNamed, MayIssue, Tells}
 use Rattle.po_driven.specs.Happening.{arrives, cancellation_of}
-use Rattle.po_driven.specs.Noted.{IsNoRequeue, Names, NamesTicket, Notes, serviced}
+use Rattle.po_driven.specs.Noted.{IsNoRequeue, Names, Notes, serviced}
 use Rattle.po_driven.specs.Passing.{HasTarget, IsTaken, MayServe, WasServed}
 use Rattle.po_driven.specs.Servicing.{Services}
 use Rattle.po_driven.specs.Steps.{EndsBody, Issues}
@@ -225,31 +225,17 @@ accepted_at Failed m r step (Some x) is some target place accepts moves = accept
 accepted_at RequeuedElsewhere m r step (Some x) is some target place accepts moves = accepts (subst (λ o. IsSome o) (sym is) some) tt
 accepted_at (Requeued q) m r step (Some x) is some target place accepts moves = λ e. (subst (λ k. Moves k q x step m) e (moves q x refl is)) (target, place)
 
--- what the contract of the end of a body says, used here
-pub record Ends (end : BodyEnd) (step : NamedCall) (m new : DrivenView) (r : Action) : Type 0 where
-  pub tells : Tells r new
-  pub kept : KeepsAll r m new
-  pub accepted : IsSome m.calls.object.serving → IsNoRequeue end → r ≢ Refused
-  pub moves : (q : Requeue) (x : Call ℕ) → end ≡ Requeued q → m.calls.object.serving ≡ Some x → Moves r q x step m
-
--- the end of the body of a call that was just issued isn't refused
-pub body_accepted : (d m new : DrivenView) (a : Arriving ℕ) (end : BodyEnd) (step : NamedCall) (r : Action) → WasServed a end d → IsDriven d → IsDriven m → m.phase ≡ Running
-    → KeepsSetup d m → Notes (Served a ∷ []) d m → Ends end step m new r → r ≢ Refused
-body_accepted d m new a end step r was is now running setup noted ends =
-    let awaits : Awaits Running m.calls.object m.closed = subst (λ p. Awaits p m.calls.object m.closed) running now.waits.awaits in
-    accepted_at end m r step m.calls.object.serving refl awaits (target_in end d m setup.entries was.target) (omega (arith, place_served d m a is now noted, was.may.place)) ends.accepted ends.moves
-
 -- if it isn't refused, it is taken
-taken : (m new : DrivenView) (r : Action) → r ≢ Refused → Tells r new → KeepsAll r m new → m.phase ≡ Running → IsTaken r
-taken m new Rest ne tells kept running = tt
-taken m new (Evaluate e) ne tells kept running = tt
-taken m new (Run e) ne tells kept running = tt
-taken m new (Queued e) ne tells kept running = tt
-taken m new Cancelled ne tells kept running = tt
-taken m new ProgramError ne tells kept running = tt
-taken m new NoMemory ne tells kept running =
+taken_of : (m new : DrivenView) (r : Action) → r ≢ Refused → Tells r new → KeepsAll r m new → m.phase ≡ Running → IsTaken r
+taken_of m new Rest ne tells kept running = tt
+taken_of m new (Evaluate e) ne tells kept running = tt
+taken_of m new (Run e) ne tells kept running = tt
+taken_of m new (Queued e) ne tells kept running = tt
+taken_of m new Cancelled ne tells kept running = tt
+taken_of m new ProgramError ne tells kept running = tt
+taken_of m new NoMemory ne tells kept running =
     let bad : Resting ≡ Running = sym tells ∙ ap (λ v. v.phase) kept ∙ running in absurd (cc)
-taken m new Refused ne tells kept running = absurd (ne refl)
+taken_of m new Refused ne tells kept running = absurd (ne refl)
 
 kept_taken : (r : Action) (old new : DrivenView) → IsTaken r → KeepsAll r old new
 kept_taken Rest old new is = tt
@@ -271,8 +257,19 @@ named_taken ProgramError old new is = tt
 named_taken NoMemory old new is = absurd is
 named_taken Refused old new is = absurd is
 
-pub body_kept : (d m new : DrivenView) (r : Action) → r ≢ Refused → Tells r new → KeepsAll r m new → m.phase ≡ Running → KeepsAll r d new
-body_kept d m new r ne tells kept running = kept_taken r d new (taken m new r ne tells kept running)
+module _ (d m new : DrivenView) (a : Arriving ℕ) (end : BodyEnd) (step : NamedCall) (r : Action) (was : WasServed a end d) (is : IsDriven d) (now : IsDriven m) (running : m.phase ≡ Running)
+    (setup : KeepsSetup d m) (noted : Notes (Served a ∷ []) d m) (ends : EndsBody end step m new r) where
+  -- the end of the body of a call that was just issued isn't refused
+  pub body_accepted : r ≢ Refused
+  body_accepted =
+      let awaits : Awaits Running m.calls.object m.closed = subst (λ p. Awaits p m.calls.object m.closed) running now.waits.awaits in
+      accepted_at end m r step m.calls.object.serving refl awaits (target_in end d m setup.entries was.target) (omega (arith, place_served d m a is now noted, was.may.place)) ends.accepted ends.moves
 
-pub body_named : (m new : DrivenView) (r : Action) (before after : NamedCall) → r ≢ Refused → Tells r new → KeepsAll r m new → m.phase ≡ Running → LeavesNamed r before after
-body_named m new r before after ne tells kept running = named_taken r before after (taken m new r ne tells kept running)
+  is_taken : IsTaken r
+  is_taken = taken_of m new r body_accepted ends.tells ends.kept running
+
+  pub body_kept : KeepsAll r d new
+  body_kept = kept_taken r d new is_taken
+
+  pub body_named : (before after : NamedCall) → LeavesNamed r before after
+  body_named before after = named_taken r before after is_taken

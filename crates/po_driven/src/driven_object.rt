@@ -12,6 +12,7 @@ ghost use Rattle.po_driven.specs.declared.action.Action.TheVariants.{Refused};
 ghost use Rattle.po_driven.specs.declared.happening.Happening.TheVariants.{Finalized};
 ghost use Rattle.po_driven.specs.declared.phase.Phase.TheVariants.{Resting, Settling};
 ghost use Rattle.po_driven.specs.declared.words.Cancellation.TheVariants.{Made, Refused as IsRefused};
+ghost use Rattle.po_driven.specs.Steps.{Attempts, Finalizes};
 
 mod arrivals;
 mod bodies;
@@ -139,14 +140,7 @@ impl DrivenObject {
     /// Attempts to cancel the queued call of the ticket, because its time has come or its caller was aborted. If the call is
     /// cancelled, the client asks for what is next (9.5.3, 9.7.2, 9.8).
     pub fn cancel(&mut self, ticket: Ticket, expired: bool) -> Cancellation
-        ensures made { result ≡ Made → self.new.phase ≡ Settling }
-        ensures other { result ≢ Made → self.new.phase ≡ self.old.phase }
-        ensures noted { Notes (attempted result ticket.number expired) self.old self.new }
-        ensures call { Cancels result (waiting_among self.old.calls.object.state.waiting self.old.calls.object.tickets ticket) }
-        ensures same { KeepsCalls result self.old self.new }
-        ensures accepted { self.old.phase ≡ Resting → result ≢ IsRefused }
-        ensures refused { self.old.phase ≢ Resting → result ≡ IsRefused }
-        ensures setup { KeepsSetup self.old self.new }
+        ensures attempts { Attempts ticket expired self.old self.new result }
     {
         let Phase::Resting = self.phase else {
             return Cancellation::Refused;
@@ -168,15 +162,7 @@ impl DrivenObject {
 
     /// Finalizes the object: all queued calls end by Program_Error (9.4).
     pub fn finalize(&mut self, step: &mut NamedCall) -> Action
-        ensures tells { Tells result self.new }
-        ensures fresh { Fresh result self.new }
-        ensures kept { KeepsAll result self.old self.new }
-        ensures noted { result ≢ Refused → Notes (Finalized ∷ serviced result self.old) self.old self.new }
-        ensures names { Names result step.new self.old self.new }
-        ensures accepted { self.old.phase ≡ Resting → result ≢ Refused }
-        ensures refused { self.old.phase ≢ Resting → result ≡ Refused }
-        ensures breaks { self.old.phase ≡ Resting → Breaks result self.old self.new }
-        ensures setup { KeepsSetup self.old self.new }
+        ensures finalizes { Finalizes step.new self.old self.new result }
         ensures named { LeavesNamed result step.old step.new }
     {
         let Phase::Resting = self.phase else {

@@ -13,6 +13,7 @@ ghost use Rattle.po_driven.specs.declared.action.Action.TheVariants.{Run, Progra
 ghost use Rattle.po_driven.specs.declared.phase.Phase.TheVariants.{Settling};
 ghost use Rattle.po_driven.specs.declared.words.Barrier.TheVariants.{Closed, Open, Raised};
 ghost use Rattle.po_driven.specs.declared.words.NamedCall.{NamedCall};
+ghost use Rattle.po_driven.specs.Steps.{Issues};
 
 use crate::action::Action;
 use crate::driven_object::DrivenObject;
@@ -43,18 +44,7 @@ impl DrivenObject {
         barrier: Barrier,
         step: &mut NamedCall,
     ) -> Action
-        ensures tells { Tells result self.new }
-        ensures fresh { Fresh result self.new }
-        ensures kept { KeepsAll result self.old self.new }
-        ensures accepted { MayIssue self.old arriving.entry → result ≢ Refused }
-        ensures noted { Notes (issued result arriving barrier self.old) self.old self.new }
-        ensures names { NamesCaller result arriving barrier step.new self.old }
-        ensures ticket { NamesTicket result step.new self.new }
-        ensures full { (barrier ≡ Raised → ⊥) → EndsWhereFull result arriving.entry self.old }
-        ensures refused { (MayIssue self.old arriving.entry → ⊥) → result ≡ Refused }
-        ensures follows { AnswersCall result arriving barrier self.new }
-        ensures room { uncollected self.old.calls.object.tickets < self.old.calls.object.most → result ≢ NoMemory }
-        ensures setup { KeepsSetup self.old self.new }
+        ensures issues { Issues arriving barrier step.new self.old self.new result }
         ensures named { LeavesNamed result step.old step.new }
     {
         if !self.may_issue(arriving.entry) {

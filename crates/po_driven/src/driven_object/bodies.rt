@@ -13,6 +13,7 @@ ghost use Rattle.po_driven.specs.declared.happening.Happening.TheVariants.{Ended
 ghost use Rattle.po_driven.specs.declared.words.BodyEnd.TheVariants.{Completed, Failed, Requeued, RequeuedElsewhere};
 ghost use Rattle.po_driven.specs.declared.phase.Phase.TheVariants.{Settling};
 ghost use Rattle.po_driven.specs.declared.words.Requeue.{Requeue};
+ghost use Rattle.po_driven.specs.Steps.{EndsBody};
 
 use crate::action::Action;
 use crate::driven_object::DrivenObject;
@@ -25,21 +26,7 @@ impl DrivenObject {
     /// Takes how the body of the call in service ended, and returns what is next.
     #[inline(always)]
     pub fn body_ended(&mut self, end: BodyEnd, step: &mut NamedCall) -> Action
-        ensures tells { Tells result self.new }
-        ensures fresh { Fresh result self.new }
-        ensures kept { KeepsAll result self.old self.new }
-        ensures noted { (x : Call ℕ) → self.old.calls.object.serving ≡ Some x → Notes (concluded end x result self.old) self.old self.new }
-        ensures accepted { IsSome self.old.calls.object.serving → IsNoRequeue end → result ≢ Refused }
-        ensures ticket { NamesTicket result step.new self.new }
-        ensures full { (requeue : Requeue) → end ≡ Requeued requeue → EndsWhereFull result requeue.target self.old }
-        ensures refused { self.old.calls.object.serving ≡ None → result ≡ Refused }
-        ensures looks_on { IsSome self.old.calls.object.serving → end ≡ Completed → LooksOn result self.old.calls.object.state.waiting self.new.closed }
-        ensures leaves { IsSome self.old.calls.object.serving → end ≡ RequeuedElsewhere → LooksOn result self.old.calls.object.state.waiting self.new.closed }
-        ensures breaks { IsSome self.old.calls.object.serving → end ≡ Failed → Breaks result self.old self.new }
-        ensures names { IsNoRequeue end → Names result step.new self.old self.new }
-        ensures unmoved { (requeue : Requeue) → end ≡ Requeued requeue → (MayRequeue self.old requeue → ⊥) → result ≡ Refused }
-        ensures moves { (requeue : Requeue) (x : Call ℕ) → end ≡ Requeued requeue → self.old.calls.object.serving ≡ Some x → Moves result requeue x step.new self.old }
-        ensures setup { KeepsSetup self.old self.new }
+        ensures ends { EndsBody end step.new self.old self.new result }
         ensures named { LeavesNamed result step.old step.new }
     {
         let Some(call) = self.calls.state().in_service() else {

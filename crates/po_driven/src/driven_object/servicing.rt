@@ -13,6 +13,7 @@ ghost use Rattle.po_driven.specs.declared.phase.Phase.TheVariants.{Asked, Settli
 ghost use Rattle.po_driven.specs.declared.words.Barrier.TheVariants.{Closed, Open, Raised};
 ghost use Rattle.po_driven.specs.declared.words.NamedCall.{NamedCall};
 ghost use Rattle.po_driven.specs.Servicing.{Services};
+ghost use Rattle.po_driven.specs.Steps.{Evaluates, GoesOn};
 
 use crate::action::Action;
 use crate::driven_object::DrivenObject;
@@ -23,17 +24,7 @@ use po_history::Trace;
 impl DrivenObject {
     /// Takes what the client says about the barrier that it was asked for, and returns what is next.
     pub fn answer(&mut self, barrier: Barrier, step: &mut NamedCall) -> Action
-        ensures tells { Tells result self.new }
-        ensures kept { KeepsAll result self.old self.new }
-        ensures closed { (e : ℕ) → self.old.phase ≡ Asked e → self.new.closed ≡ closed_after self.old.closed e barrier }
-        ensures accepted { (e : ℕ) → self.old.phase ≡ Asked e → result ≢ Refused }
-        ensures noted { Notes (serviced result self.old) self.old self.new }
-        ensures names { Names result step.new self.old self.new }
-        ensures serves { (e : ℕ) → self.old.phase ≡ Asked e → barrier ≡ Open → result ≡ Run e }
-        ensures refused { ((e : ℕ) → self.old.phase ≡ Asked e → ⊥) → result ≡ Refused }
-        ensures looks_on { (e : ℕ) → self.old.phase ≡ Asked e → barrier ≡ Closed → LooksOn result self.old.calls.object.state.waiting self.new.closed }
-        ensures breaks { (e : ℕ) → self.old.phase ≡ Asked e → barrier ≡ Raised → Breaks result self.old self.new }
-        ensures setup { KeepsSetup self.old self.new }
+        ensures evaluates { Evaluates barrier step.new self.old self.new result }
         ensures named { LeavesNamed result step.old step.new }
     {
         let Phase::Asked(e) = self.phase else {
@@ -92,16 +83,7 @@ impl DrivenObject {
     /// Returns what is next. Unless all queued calls are ending, it asks for the barriers anew: a procedure may have changed
     /// them.
     pub fn next(&mut self, step: &mut NamedCall) -> Action
-        ensures tells { Tells result self.new }
-        ensures fresh { Fresh result self.new }
-        ensures kept { KeepsAll result self.old self.new }
-        ensures noted { Notes (serviced result self.old) self.old self.new }
-        ensures names { Names result step.new self.old self.new }
-        ensures refused { (WaitsForNext self.old.phase → ⊥) → result ≡ Refused }
-        ensures looks_on { self.old.phase ≢ Breaking → result ≢ Refused → LooksOn result self.old.calls.object.state.waiting self.new.closed }
-        ensures breaks { self.old.phase ≡ Breaking → Breaks result self.old self.new }
-        ensures accepted { WaitsForNext self.old.phase → result ≢ Refused }
-        ensures setup { KeepsSetup self.old self.new }
+        ensures goes_on { GoesOn step.new self.old self.new result }
         ensures named { LeavesNamed result step.old step.new }
     {
         match self.phase {
