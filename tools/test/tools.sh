@@ -2,10 +2,10 @@
 # shellcheck shell=bash
 # Tests of what these tests are made of: the scripts of Python, the counts of jobs, and the lines that say what runs. Read by `test`.
 
-# Runs the tests of the scripts that count definitions, look for words, and try wrong bodies.
+# Runs the tests of the scripts that count definitions, look for words, try wrong bodies, and show records of Ada programs.
 scripts_are_tested() {
   local name
-  for name in walk words wrong_bodies; do
+  for name in walk words wrong_bodies trace; do
     python3 "tools/test/${name}_test.py" >"$scratch/$name-test" 2>&1 || sed '$d' "$scratch/$name-test"
     count "$scratch/$name-test" "tools/test/${name}_test.py"
   done
