@@ -97,7 +97,7 @@ package body System.Tasking.Protected_Objects.Actions is
    procedure Trace
      (Object : Protection_Entries_Access;
       Call   : Entry_Call_Link;
-      What   : String);
+      What   : Traces.Event);
    pragma Inline (Trace);
    --  Records what came of a call, if a record is asked for
 
@@ -289,7 +289,7 @@ package body System.Tasking.Protected_Objects.Actions is
    procedure Trace
      (Object : Protection_Entries_Access;
       Call   : Entry_Call_Link;
-      What   : String) is
+      What   : Traces.Event) is
    begin
       if Traces.Is_On then
          Traces.Note (Object, Call, Protected_Entry_Index (Call.E), What);
@@ -427,7 +427,7 @@ package body System.Tasking.Protected_Objects.Actions is
       Call    : Entry_Call_Link;
       Told    : Step) is
    begin
-      Trace (Object, Call, "queued");
+      Trace (Object, Call, Traces.Queued);
       Call.Prev := To_Link (Word (Told.Key));
       Call.Next := To_Link (Told.Number);
 
@@ -564,12 +564,12 @@ package body System.Tasking.Protected_Objects.Actions is
               (Engine_Of (Object.all), Barrier_Of (Object, E), Told'Address);
 
          when Now_Cancelled =>
-            Trace (Object, To_Link (Told.Caller), "cancelled");
+            Trace (Object, To_Link (Told.Caller), Traces.Cancelled);
             End_Call (Self_ID, Object, To_Link (Told.Caller), Cancelled);
             return pobj_next (Engine_Of (Object.all), Told'Address);
 
          when Now_Broken =>
-            Trace (Object, To_Link (Told.Caller), "program_error");
+            Trace (Object, To_Link (Told.Caller), Traces.Broken);
             To_Link (Told.Caller).Exception_To_Raise := Program_Error'Identity;
             End_Call (Self_ID, Object, To_Link (Told.Caller), Done);
             return pobj_next (Engine_Of (Object.all), Told'Address);
@@ -623,7 +623,7 @@ package body System.Tasking.Protected_Objects.Actions is
          Marks_Of (Call), Barrier_Of (Object, E), Told'Address);
 
       if Answer = No_Memory then
-         Trace (Object, Call, "raised STORAGE_ERROR");
+         Trace (Object, Call, Traces.Without_Memory);
          Call.Exception_To_Raise := Storage_Error'Identity;
          End_Call (Self_ID, Object, Call, Done);
       else
@@ -888,7 +888,7 @@ package body System.Tasking.Protected_Objects.Actions is
               To_Word (Call.Next), Boolean'Pos (Only_Expired (Call)))
       is
          when Made =>
-            Trace (Object, Call, "cancelled");
+            Trace (Object, Call, Traces.Cancelled);
             Call.Next := null;
             Call.Prev := null;
             return True;

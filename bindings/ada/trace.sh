@@ -1,27 +1,26 @@
 #!/bin/sh
 # SPDX-License-Identifier: MIT
-# Shows the file that a program has written for POBJ_TRACE, object by object, with the calls that still wait at its end:
-#   trace.sh FILE
+# Shows the file that a program has written for POBJ_TRACE, by trace.py:
+#   trace.sh FILE           object by object, with the calls that still wait at its end
+#   trace.sh --all FILE     all events in the order they were noted, with their times
+#   trace.sh --waits FILE   only what waits, since when, and which call or procedure went last through its object
 set -eu
 here=$(cd "$(dirname "$0")" && pwd)
 
+# Says why, and ends with the status.
 fail() {
-  echo "pobj trace: $*" >&2
-  exit 4
+  echo "pobj trace: $2" >&2
+  exit "$1"
 }
 
-if [ $# -ne 1 ]; then
-  echo "pobj trace: it takes the file that POBJ_TRACE named" >&2
-  exit 2
+case "$#${1-}" in
+  2--all | 2--waits) file=$2 ;;
+  1-*) fail 2 "it takes the file that POBJ_TRACE named, after --all or --waits if there is one" ;;
+  1?*) file=$1 ;;
+  *) fail 2 "it takes the file that POBJ_TRACE named, or --all or --waits and that file" ;;
+esac
+if [ ! -f "$file" ] || [ ! -r "$file" ]; then
+  fail 4 "the file $file can't be read; only a program over pobj whose objects have entries writes one (docs/ADA.md)"
 fi
-[ -r "$1" ] || fail "the file $1 can't be read; only a program over pobj whose objects have entries writes one (docs/ADA.md)"
-head -n 1 "$1" | grep -q '^program [0-9a-f]* ' || fail "$1 isn't a record of a program over pobj"
-program=$(sed -n '1s/^program [0-9a-f]* //p' "$1")
-names=$(mktemp)
-trap 'rm -f "$names"' EXIT
-if [ -r "$program" ]; then
-  # The address of the program's headers, before it is loaded, and those of entry bodies.
-  readelf -lW "$program" 2>/dev/null | awk '$1 == "PHDR" { print "headers", $3 }' >"$names"
-  nm "$program" 2>/dev/null | awk '$3 ~ /_E[0-9]+[bs](\.[0-9]+)?$/ { print $1, $3 }' >>"$names"
-fi
-awk -f "$here/trace.awk" "$names" "$1"
+command -v python3 >/dev/null || fail 6 "there is no python3, which shows the record"
+exec python3 "$here/trace.py" "$@"

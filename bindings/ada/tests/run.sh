@@ -90,6 +90,36 @@ records_alone() {
   [[ $said == *"takes no more"* ]]
 }
 
+# Whether the record has every call of tasks that call at once, on objects that are told apart by their lines.
+records_all() {
+  linked many_callers -cargs -g && POBJ_TRACE=$scratch/callers "$scratch/many_callers-linked" || return
+  ../trace.sh --all "$scratch/callers" >"$scratch/all" || return
+  [ "$(grep -cE '^ +[0-9]+\.[0-9]{6}  object 1, many_callers.counter, many_callers.adb:20  callers\([1-4]\) +add +done$' "$scratch/all")" -eq 5000 ] || return
+  [ "$(grep -c '  object 2, many_callers.counter, many_callers.adb:21  .* done$' "$scratch/all")" -eq 5000 ] || return
+  [ "$(wc -l <"$scratch/all")" -eq 10002 ]
+}
+
+# Whether the record has the last events if it is asked for these alone, and a number that is none is refused.
+records_last() {
+  local said
+  linked many_callers && POBJ_TRACE=$scratch/callers POBJ_TRACE_LAST=100 "$scratch/many_callers-linked" || return
+  [ "$(stat -c %s "$scratch/callers")" -lt 300000 ] || return
+  said=$(../trace.sh --all "$scratch/callers") || return
+  [ "$(wc -l <<<"$said")" -eq 129 ] && [[ $said == "9874 events before these aren't kept"*finalized ]] || return
+  said=$(POBJ_TRACE=$scratch/callers POBJ_TRACE_LAST=100x "$scratch/many_callers-linked" 2>&1) || return
+  [[ $said == *"has to be a number from 1 to"* ]]
+}
+
+# Whether a program goes on when its file takes no more, and the record has what came before.
+records_until_full() {
+  local said
+  linked many_callers || return
+  said=$(trap '' XFSZ && ulimit -f 400 && POBJ_TRACE=$scratch/callers "$scratch/many_callers-linked" 2>&1) || return
+  [[ $said == *"takes no more"* ]] || return
+  said=$(../trace.sh --all "$scratch/callers") || return
+  [[ $said == "the record ends before the program did"* ]] && [ "$(wc -l <<<"$said")" -gt 1000 ]
+}
+
 # Whether the program copes with each allocation of the library refused in turn, and says so.
 refused_memory() {
   gcc -c refuse.c -o "$scratch/refuse.o" &&
@@ -97,11 +127,24 @@ refused_memory() {
     timeout 120 "$scratch/refused_memory-linked" | diff refused_memory.out -
 }
 
-# Whether the record of a program that hangs shows what waits.
+# Whether the record of a program that hangs and is killed shows what waits.
 record() {
   linked hangs || return
-  POBJ_TRACE=$scratch/record timeout 3 "$scratch/hangs-linked"
-  ../trace.sh "$scratch/record" | diff hangs.out -
+  POBJ_TRACE=$scratch/record timeout -s KILL 3 "$scratch/hangs-linked"
+  ../trace.sh "$scratch/record" | diff hangs.out - || return
+  ../trace.sh --waits "$scratch/record" | sed -E 's/[0-9]+\.[0-9]{6}/TIME/g' | diff hangs.waits -
+}
+
+# Whether `pobj trace` says that there is no Python, and which words it takes.
+trace_says() {
+  local said
+  mkdir "$scratch/bare" && ln -s "$(command -v dirname)" "$scratch/bare/" || return
+  said=$(PATH=$scratch/bare /bin/sh ../trace.sh run.sh 2>&1)
+  [ $? -eq 6 ] && [[ $said == *"there is no python3"* ]] || return
+  said=$(../trace.sh --wait run.sh 2>&1)
+  [ $? -eq 2 ] && [[ $said == *"--all or --waits"* ]] || return
+  said=$(../trace.sh run.sh 2>&1)
+  [ $? -eq 4 ] && [[ $said == *"run.sh isn't a record"* ]]
 }
 
 # Whether the record has the names of an object in the specification of a package.
@@ -185,6 +228,10 @@ row "POBJ_TRACE of an object in a package" record_of_package
 row "POBJ_TRACE under Priority_Queuing" no_record
 row "POBJ_TRACE of two programs, and of a full disk" records_alone
 row "POBJ_TRACE of an object with many entries" many_entries
+row "POBJ_TRACE of tasks that call at once" records_all
+row "POBJ_TRACE_LAST" records_last
+row "POBJ_TRACE of a file that takes no more" records_until_full
+row "pobj trace without Python, and with wrong words" trace_says
 row "a step that is refused" ends_where_refused
 row "a GNAT of another version" refuses_gnat 13.1.0 "found is GNATLS 13.1.0"
 row "a GNAT with other sources" refuses_gnat 12.2.0 "Check_Pending_Actions_For_Entry_Call"
