@@ -16,6 +16,7 @@ rows() {
   ada DEST                      Makes a runtime folder for Ada programs of GNAT 12.2
   ada --check [DEST]            Compiles and runs a program on such a folder, or on a new one
   ada --linked PROGRAM          Says whether a linked Ada program runs over pobj or on GNAT's own runtime
+  ada --sources DIR             Puts the units of GNAT's that pobj changes into DIR, to be read
   c DEST                        Makes a folder with the library for C, its headers and examples
   trace FILE                    Shows what the objects of an Ada program did
   build [run|check|stress|all]  Proves and builds programs; until then an answer is a trial of a minute

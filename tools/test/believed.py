@@ -17,6 +17,7 @@ GLUE = (
         ("bindings/ada/s-*.ad?", "bindings/ada/parts/*.ad?"),
         "--",
     ),
+    ("the changes of GNAT's units (bindings/ada)", ("bindings/ada/changes/*.edit",), "#"),
     (
         "the scripts that put that into a copy of GNAT's runtime (bindings/ada)",
         ("bindings/ada/make.sh", "bindings/ada/change.awk"),
