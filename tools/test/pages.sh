@@ -4,7 +4,7 @@
 # must be believed is counted, paragraphs are short, words are plain, wrong bodies are few. Read by `test`, after count.sh.
 
 # How many wrong bodies the tree may have: each costs a quarter of a minute of a full run (CONTRIBUTING.md).
-most_edits=147
+most_edits=156
 
 # How many words all pages together may have, outside of code.
 most_words=20600
@@ -70,13 +70,13 @@ claims_lead_somewhere() {
   local part name names file
   while read -r part; do
     names=$(grep -oE '`[A-Za-z_:]+`' <<<"$part" | tr -d '`' | sed 's/::/\n/')
-    file=$(grep -oE '(po|example)_[a-z_]+/src/[a-z_]+\.rt' <<<"$part" | sed 's:^:crates/:')
+    file=$(grep -oE '(po|example)_[a-z_]+/src/[a-z_/]+\.rt' <<<"$part" | sed 's:^:crates/:')
     [ -n "$names$file" ] || continue
     if [ -f "$file" ]; then pass; else fail "docs/PROVED.md names '$file', which isn't there"; fi
     for name in $names; do
       if grep -qsE "\\b(fn|struct|trait|impl.*[ :]) ?$name\\b|^> $name\\b|\\bensures $name \\{" "$file"; then pass; else fail "docs/PROVED.md: $name isn't in $file"; fi
     done
-  done < <(awk -F'|' '$3 ~ /(po|example)_.*\/src\// { print $3 }' docs/PROVED.md | sed -E 's:`(po|example)_[a-z_]+/src/[a-z_]+\.rt`:&\n:g')
+  done < <(awk -F'|' '$3 ~ /(po|example)_.*\/src\// { print $3 }' docs/PROVED.md | sed -E 's:`(po|example)_[a-z_]+/src/[a-z_/]+\.rt`:&\n:g')
 }
 
 # The code in docs/OBJECTS.md is in the example, word for word.
