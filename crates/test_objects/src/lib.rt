@@ -4,7 +4,8 @@
 //! A `Scene` of scenes.rt says what is done with an object over a buffer. shelf.rt opens the
 //! object, plays the scene and closes the object; its `Shelf` is what is left. volumes.rt compares
 //! histories that were cut. threads.rt has threads do jobs at the object's two seats, also beside a
-//! ticker, which raises its clock.
+//! ticker, which raises its clock. stopping.rt stops a ticker while a function of a sleeper, the unit
+//! of sleeper.rt, holds the lock.
 //!
 //! Begin with buffers.rt, which plays the scenes.
 #![tactic(auto)]
@@ -17,6 +18,10 @@ mod buffers;
 mod scenes;
 #[cfg(test)]
 mod shelf;
+#[cfg(test)]
+mod sleeper;
+#[cfg(test)]
+mod stopping;
 #[cfg(test)]
 mod threads;
 #[cfg(test)]
