@@ -54,17 +54,26 @@ package body System.Tasking.Protected_Objects.Actions is
    pragma Inline (Take_Off);
    --  Notes that the call is off its queue, and can't be cancelled
 
+   procedure End_Locked
+     (Self_ID : Task_Id;
+      Object  : Protection_Entries_Access;
+      Call    : Entry_Call_Link;
+      State   : Entry_Call_State);
+   --  Ends a trigger of this task at once, under the task's own lock, and a
+   --  call of another task when the object's lock is given up. Until then
+   --  that caller waits, whatever comes: its call isn't queued, and hasn't
+   --  ended. Under Ceiling_Locking (D.3) the caller is woken at once:
+   --  otherwise this task, which leaves the ceiling with the lock, could be
+   --  preempted before it wakes a more urgent one.
+
    procedure End_Call
      (Self_ID : Task_Id;
       Object  : Protection_Entries_Access;
       Call    : Entry_Call_Link;
       State   : Entry_Call_State);
-   --  Ends a call of this task at once, and one of another task when the
-   --  object's lock is given up. Until then that caller waits, whatever
-   --  comes: its call isn't queued, and hasn't ended. Under Ceiling_Locking
-   --  (D.3) the caller is woken at once: otherwise this task, which leaves
-   --  the ceiling with the lock, could be preempted before it wakes a more
-   --  urgent one.
+   pragma Inline (End_Call);
+   --  Ends a call. One of this task, unless it is a trigger, needs no lock:
+   --  this task doesn't sleep, and no other looks whether the call has ended.
 
    procedure Note_Queued
      (Self_ID : Task_Id;
@@ -229,11 +238,11 @@ package body System.Tasking.Protected_Objects.Actions is
       end if;
    end Take_Off;
 
-   --------------
-   -- End_Call --
-   --------------
+   ----------------
+   -- End_Locked --
+   ----------------
 
-   procedure End_Call
+   procedure End_Locked
      (Self_ID : Task_Id;
       Object  : Protection_Entries_Access;
       Call    : Entry_Call_Link;
@@ -246,6 +255,25 @@ package body System.Tasking.Protected_Objects.Actions is
       else
          Call.Prev := To_Link (Entry_Call_State'Pos (State));
          Put_Off (Object, Call);
+      end if;
+   end End_Locked;
+
+   --------------
+   -- End_Call --
+   --------------
+
+   procedure End_Call
+     (Self_ID : Task_Id;
+      Object  : Protection_Entries_Access;
+      Call    : Entry_Call_Link;
+      State   : Entry_Call_State) is
+   begin
+      if Call.Self = Self_ID and then Call.Mode /= Asynchronous_Call then
+         Call.Next := null;
+         Call.Prev := Call;
+         Call.State := State;
+      else
+         End_Locked (Self_ID, Object, Call, State);
       end if;
    end End_Call;
 
@@ -463,6 +491,8 @@ package body System.Tasking.Protected_Objects.Actions is
       Answer : Word;
 
    begin
+      Call.Prev := null;
+
       --  An abortable part begins once the call is queued, or requeued with
       --  abort, and not before (9.7.4).
 

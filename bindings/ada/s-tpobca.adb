@@ -76,6 +76,76 @@ package body System.Tasking.Protected_Objects.Callers is
    end End_Now;
 
    ------------------
+   -- Look_For_End --
+   ------------------
+
+   procedure Look_For_End (Self_ID : Task_Id; Call : Entry_Call_Link) is
+   begin
+      for Look in 1 .. Looks loop
+         STPO.Yield;
+         exit when Call.State >= Done or else Self_ID.Pending_Action;
+      end loop;
+   end Look_For_End;
+
+   ---------------------
+   -- Leaves_Unlocked --
+   ---------------------
+
+   --  GNARL leaves a level under the task's own lock, as others abort the task
+   --  under that lock (s-tasini, Locked_Abort_To_Level). The call is simple,
+   --  conditional or timed, and this task ended it itself: only then Prev is
+   --  the call. Then the lock isn't needed, whatever others write or read in
+   --  between:
+
+   --  Pending_ATC_Level, Pending_Action: an abort that is seen here is left to
+   --  GNARL. One that comes later isn't to the level just outside the call's,
+   --  as only triggers, delays and the task itself abort to that. So it is to
+   --  one further out, which is below the level before and after the step, and
+   --  GNARL would change neither field. The abort is raised when aborts are
+   --  undeferred.
+
+   --  ATC_Nesting_Level: who aborts the task reads it, to mark the call of the
+   --  level. If that sees the level that is left here, it marks a call that
+   --  has ended, or the next one on this level. The next one is aborted too,
+   --  as the task can't leave the level that the abort is to: it leaves those
+   --  of triggers and delays under its lock.
+
+   --  Cancellation_Attempted: it is written before Pending_ATC_Level. The
+   --  engine may have cancelled the call for it before the rest of the abort
+   --  was written, and the caller mustn't go on without that. So if it is
+   --  seen, the lock is taken, which the aborting task holds until then.
+
+   --  Aborting, ATC_Hack: only this task writes them, and no abort is under
+   --  way while Pending_ATC_Level names no level.
+
+   --  The lock itself: a task that ended another's call has to unlock it yet,
+   --  and the caller mustn't come to its end, and be freed, before that.
+
+   function Leaves_Unlocked
+     (Self_ID : Task_Id;
+      Call    : Entry_Call_Link) return Boolean is
+   begin
+      return Call.Prev = Call
+        and then Call.Exception_To_Raise = Null_Id
+        and then not Call.Cancellation_Attempted
+        and then Self_ID.Pending_ATC_Level = Level_No_Pending_Abort;
+   end Leaves_Unlocked;
+
+   -----------------
+   -- Raise_Abort --
+   -----------------
+
+   procedure Raise_Abort (Self_ID : Task_Id) is
+   begin
+      if Self_ID.Pending_ATC_Level < Self_ID.ATC_Nesting_Level
+        and then Self_ID.Deferral_Level = 0
+      then
+         Self_ID.ATC_Hack := Self_ID.Aborting;
+         Initialization.Do_Pending_Action (Self_ID);
+      end if;
+   end Raise_Abort;
+
+   ------------------
    -- Only_Expired --
    ------------------
 

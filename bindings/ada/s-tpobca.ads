@@ -13,6 +13,22 @@ package System.Tasking.Protected_Objects.Callers is
       State   : Entry_Call_State);
    --  Ends the call, and wakes its caller
 
+   procedure Look_For_End (Self_ID : Task_Id; Call : Entry_Call_Link);
+   --  This task's call waits: before the task sleeps, it looks several times
+   --  whether the call has ended, and lets others run meanwhile.
+
+   function Leaves_Unlocked
+     (Self_ID : Task_Id;
+      Call    : Entry_Call_Link) return Boolean;
+   pragma Inline (Leaves_Unlocked);
+   --  Whether this task may leave the level of its call, which has ended,
+   --  without its own lock.
+
+   procedure Raise_Abort (Self_ID : Task_Id);
+   pragma Inline (Raise_Abort);
+   --  Raises the abort of this task that came during an abortable part, if
+   --  one did and aborts aren't deferred.
+
    function Only_Expired (Call : Entry_Call_Link) return Boolean;
    --  Whether a cancellation was attempted because the call's time has come,
    --  and not because of an abort. Both are noted under the caller's lock.

@@ -164,7 +164,7 @@ row "the runtime folder" ../make.sh "$dest" "$library"
 row "the runtime folder, made again" ../make.sh "$dest" "$library"
 row "pobj ada --check" ../check.sh "$dest"
 row "pobj ada --linked" says_what_is_linked
-for name in abort_after_refused_call refused_trigger delay_of_aborted_task \
+for name in abort_after_refused_call refused_trigger trigger_never_called delay_of_aborted_task \
   exception_of_aborted_trigger timed_call_after_abort expired_on_task parameters_of_trigger \
   timed_call_to_task_after_abort \
   requeue_to_object_inside message_of_trigger requeue_by_task_to_ended_task requeue_by_task_to_finalized_object \
