@@ -30,20 +30,6 @@ package System.Tasking.Protected_Objects.Actions is
    --  Records that a procedure of the object was called (9.5.1), if a record
    --  is asked for.
 
-   procedure Leave
-     (Self_ID : Task_Id;
-      Object  : Entries.Protection_Entries_Access);
-   --  Gives up the lock of an object at rest. Then it wakes the other tasks
-   --  whose calls have ended, and issues the calls that bodies requeued to
-   --  other objects or to tasks (9.5.4), with no lock held in between: a
-   --  caller that is woken finds the object's lock free. A task that is inside
-   --  other objects does this when it has left the last.
-
-   procedure Look_After_Later;
-   pragma Export (Ada, Look_After_Later, "pobj_ada_look_after");
-   --  Looks after what this task has put off, now that it has left the last
-   --  object
-
    procedure Finalize
      (Self_ID : Task_Id;
       Object  : Entries.Protection_Entries_Access);

@@ -9,7 +9,6 @@ with System.Task_Primitives.Operations;
 with System.Tasking.Initialization;
 with System.Tasking.Nested_Actions;
 with System.Tasking.Protected_Objects.Entries;
-with System.Tasking.Protected_Objects.Pobj;
 with System.Tasking.Protected_Objects.Queues;
 with System.Tasking.Protected_Objects.Traces;
 with System.Tasking.Queuing;
@@ -22,6 +21,7 @@ package body System.Tasking.Protected_Objects.Callers is
    use Entries;
    use Pobj;
    use Queues;
+   use type Pobj.Word;
 
    Queuing_Policy : constant Character;
    pragma Import (C, Queuing_Policy, "__gl_queuing_policy");
@@ -55,6 +55,10 @@ package body System.Tasking.Protected_Objects.Callers is
 
    procedure Sleep_Shortly (Microseconds : Interfaces.C.unsigned);
    pragma Import (C, Sleep_Shortly, "usleep");
+
+   function Only_Expired (Call : Entry_Call_Link) return Boolean;
+   --  Whether a cancellation was attempted because the call's time has come,
+   --  and not because of an abort. Both are noted under the caller's lock.
 
    function Is_Cancelled (Call : Entry_Call_Link) return Boolean;
    --  Whether the engine cancels the queued call now
@@ -164,6 +168,33 @@ package body System.Tasking.Protected_Objects.Callers is
       STPO.Unlock (Call.Self);
       return Expired;
    end Only_Expired;
+
+   ---------------
+   -- Attempted --
+   ---------------
+
+   function Attempted (Call : Entry_Call_Link) return Word is
+   begin
+      --  Only the level shows an abort that came before the call
+
+      return (if Call.State = Never_Abortable
+                or else not (Call.Cancellation_Attempted
+                             or else Call.Self.Pending_ATC_Level < Call.Level)
+              then 0
+              elsif Only_Expired (Call) then Due
+              else Aborted);
+   end Attempted;
+
+   --------------
+   -- Marks_Of --
+   --------------
+
+   function Marks_Of (Call : Entry_Call_Link) return Word is
+   begin
+      return Attempted (Call)
+        or (if Call.Mode = Conditional_Call then Due else 0)
+        or (if Call.With_Abort then 0 else Without_Abort);
+   end Marks_Of;
 
    --------------------
    -- Lock_Object_Of --

@@ -5,6 +5,8 @@
 
 with Ada.Exceptions;
 
+with System.Tasking.Protected_Objects.Pobj;
+
 package System.Tasking.Protected_Objects.Callers is
 
    procedure End_Now
@@ -29,9 +31,14 @@ package System.Tasking.Protected_Objects.Callers is
    --  Raises the abort of this task that came during an abortable part, if
    --  one did and aborts aren't deferred.
 
-   function Only_Expired (Call : Entry_Call_Link) return Boolean;
-   --  Whether a cancellation was attempted because the call's time has come,
-   --  and not because of an abort. Both are noted under the caller's lock.
+   function Attempted (Call : Entry_Call_Link) return Pobj.Word;
+   pragma Inline (Attempted);
+   --  The mark of a call for the cancellation that was attempted, or 0. A
+   --  call that is made while aborts are deferred isn't cancelled by one.
+
+   function Marks_Of (Call : Entry_Call_Link) return Pobj.Word;
+   pragma Inline (Marks_Of);
+   --  All marks of a call that arrives
 
    function Is_Server_Locked (Call : Entry_Call_Link) return Boolean;
    --  Locks the object that the call is on. The call's caller asks this while

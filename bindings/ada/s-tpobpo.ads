@@ -115,6 +115,27 @@ package System.Tasking.Protected_Objects.Pobj is
       Told   : System.Address) return Word;
    pragma Import (C, pobj_finalize);
 
+   function pobj_ready (Object : Engine) return Word;
+   pragma Import (C, pobj_ready);
+
+   function pobj_served
+     (Object                     : Engine;
+      Caller, E, Marks           : Word;
+      How, Target, Target_Marks  : Word;
+      Told                       : System.Address) return Word;
+   pragma Import (C, pobj_served);
+
+   function pobj_wait
+     (Object           : Engine;
+      Caller, E, Marks : Word;
+      Told             : System.Address) return Flag;
+   pragma Import (C, pobj_wait);
+
+   function pobj_turn_away
+     (Object           : Engine;
+      Caller, E, Marks : Word) return Flag;
+   pragma Import (C, pobj_turn_away);
+
    function pobj_count (Object : Engine; E : Word) return Word;
    pragma Import (C, pobj_count);
 

@@ -29,7 +29,7 @@
       if not Queues.Serves (Object) then
          GNARL_Service_Entries (Self_ID, Object, True);
       elsif Queues.Has_Put_Off (Object) then
-         Actions.Leave (Self_ID, Object);
+         Departures.Leave (Object);
       else
          Unlock_Entries (Object);
       end if;

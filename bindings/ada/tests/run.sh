@@ -13,7 +13,6 @@ scratch=$(mktemp -d) || exit 2
 trap 'rm -rf "$scratch"' EXIT
 dest=${2:-$scratch/runtime}
 cd "$(dirname "$0")" || exit 2
-include=$(cd ../../../include && pwd)
 passed=0 failed=0 skipped=0
 
 # row NAME COMMAND..: writes whether the command succeeds, and what it said if it fails.
@@ -122,7 +121,7 @@ no_record() {
 # Whether a step that the engine refuses ends the program with a message.
 ends_where_refused() {
   local said status
-  gcc -O1 "-I$include" -c refuses.c -o "$scratch/refuses.o" && ar rc "$scratch/librefuses.a" "$scratch/refuses.o" || return
+  gcc -O1 -c refuses.c -o "$scratch/refuses.o" && ar rc "$scratch/librefuses.a" "$scratch/refuses.o" || return
   ../make.sh "$scratch/refusing" "$scratch/librefuses.a" || return
   (cd "$scratch" && gnatmake -q -f "--RTS=$scratch/refusing" "$OLDPWD/../there_and_back.adb" -o refused -bargs -static) || return
   said=$(timeout 10 "$scratch/refused" 2>&1)
