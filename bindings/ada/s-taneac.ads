@@ -26,6 +26,11 @@ package System.Tasking.Nested_Actions is
    --  Undefers the aborts that the compiler's code has deferred for a
    --  protected action, which an exception ends before it has begun.
 
+   Has_Counted : Boolean := False;
+   pragma Thread_Local_Storage (Has_Counted);
+   --  Whether this task has asked for a 'Count (9.9) since this was cleared: a
+   --  barrier that hasn't says the same however many calls are queued.
+
    Later : Entry_Call_Link := null;
    pragma Thread_Local_Storage (Later);
    --  The ring of calls to be looked after once the task is inside no object

@@ -1,72 +1,26 @@
 --  SPDX-License-Identifier: MIT
 
-with Ada.Unchecked_Conversion;
-with Ada.Unchecked_Deallocation;
-
-with Interfaces.C;
-
 with System.Task_Primitives.Operations;
-with System.Tasking.Initialization;
 with System.Tasking.Nested_Actions;
+with System.Tasking.Protected_Objects.Callers;
+with System.Tasking.Protected_Objects.Departures;
 with System.Tasking.Protected_Objects.Pobj;
 with System.Tasking.Protected_Objects.Queues;
 with System.Tasking.Protected_Objects.Traces;
-with System.Tasking.Queuing;
-with System.Tasking.Rendezvous;
 
 package body System.Tasking.Protected_Objects.Actions is
 
    package STPO renames System.Task_Primitives.Operations;
 
-   use Ada.Exceptions;
+   use Callers;
    use Entries;
    use Pobj;
    use Queues;
+   use type Pobj.Flag;
    use type Pobj.Word;
 
    Locking_Policy : constant Character;
    pragma Import (C, Locking_Policy, "__gl_locking_policy");
-
-   Queuing_Policy : constant Character;
-   pragma Import (C, Queuing_Policy, "__gl_queuing_policy");
-
-   procedure Synchronize;
-   pragma Import (Intrinsic, Synchronize, "__sync_synchronize");
-   --  Lets others see what this task wrote before it reads on
-
-   subtype Occurrence_Access is Exception_Occurrence_Access;
-
-   procedure Free is new Ada.Unchecked_Deallocation
-     (Exception_Occurrence, Occurrence_Access);
-
-   With_Occurrence : constant := Null_Entry;
-   --  The entry of a call that has ended by an exception of a body: its
-   --  Uninterpreted_Data is the occurrence, until the caller takes it.
-
-   procedure Lock_Object_Of
-     (Call   : Entry_Call_Link;
-      Object : out Protection_Entries_Access;
-      Ended  : out Boolean);
-   --  Locks the object that the call is on, or none if it is on a task. If
-   --  the call has ended, holds the caller's lock instead.
-
-   procedure Sleep_Shortly (Microseconds : Interfaces.C.unsigned);
-   pragma Import (C, Sleep_Shortly, "usleep");
-
-   --  A queued call keeps its ticket: the key in Prev, the number in Next.
-   --  The number is never 0, so Next isn't null while the call is queued, as
-   --  in GNARL.
-
-   pragma Warnings (Off);  --  aliasing: compiled with -fno-strict-aliasing
-   function To_Link is
-     new Ada.Unchecked_Conversion (Word, Entry_Call_Link);
-   function To_Word is
-     new Ada.Unchecked_Conversion (Entry_Call_Link, Word);
-   function To_Occurrence is
-     new Ada.Unchecked_Conversion (Address, Occurrence_Access);
-   function To_Address is
-     new Ada.Unchecked_Conversion (Occurrence_Access, Address);
-   pragma Warnings (On);
 
    function Action_Of (Answer : Word) return Word;
    pragma Inline (Action_Of);
@@ -75,24 +29,18 @@ package body System.Tasking.Protected_Objects.Actions is
    pragma Inline (Entry_Of);
    --  The engine numbers entries from 0, and GNARL from 1
 
-   function Barrier_Of
+   function Index_Of
      (Object : Protection_Entries_Access;
-      E      : Protected_Entry_Index) return Word;
+      E      : Protected_Entry_Index) return Protected_Entry_Index;
+   pragma Inline (Index_Of);
+   --  Where barrier and body of the entry are in Entry_Bodies
+
+   function Barrier_Of
+     (Object   : Protection_Entries_Access;
+      E, Index : Protected_Entry_Index) return Word;
+   pragma Inline (Barrier_Of);
    --  The value of the entry's barrier. An exception that it raises goes no
    --  further (9.5.3).
-
-   function Only_Expired (Call : Entry_Call_Link) return Boolean;
-   --  Whether a cancellation was attempted because the call's time has come,
-   --  and not because of an abort. Both are noted under the caller's lock.
-
-   function Attempted (Call : Entry_Call_Link) return Word;
-   pragma Inline (Attempted);
-   --  The mark of a call for the cancellation that was attempted, or 0. A
-   --  call that is made while aborts are deferred isn't cancelled by one.
-
-   function Marks_Of (Call : Entry_Call_Link) return Word;
-   pragma Inline (Marks_Of);
-   --  All marks of a call that arrives
 
    procedure Trace
      (Object : Protection_Entries_Access;
@@ -105,23 +53,26 @@ package body System.Tasking.Protected_Objects.Actions is
    pragma Inline (Take_Off);
    --  Notes that the call is off its queue, and can't be cancelled
 
-   procedure End_Now
+   procedure End_Locked
      (Self_ID : Task_Id;
+      Object  : Protection_Entries_Access;
       Call    : Entry_Call_Link;
       State   : Entry_Call_State);
-   --  Ends the call, and wakes its caller
+   --  Ends a trigger of this task at once, under the task's own lock, and a
+   --  call of another task when the object's lock is given up. Until then
+   --  that caller waits, whatever comes: its call isn't queued, and hasn't
+   --  ended. Under Ceiling_Locking (D.3) the caller is woken at once:
+   --  otherwise this task, which leaves the ceiling with the lock, could be
+   --  preempted before it wakes a more urgent one.
 
    procedure End_Call
      (Self_ID : Task_Id;
       Object  : Protection_Entries_Access;
       Call    : Entry_Call_Link;
       State   : Entry_Call_State);
-   --  Ends a call of this task at once, and one of another task when the
-   --  object's lock is given up. Until then that caller waits, whatever
-   --  comes: its call isn't queued, and hasn't ended. Under Ceiling_Locking
-   --  (D.3) the caller is woken at once: otherwise this task, which leaves
-   --  the ceiling with the lock, could be preempted before it wakes a more
-   --  urgent one.
+   pragma Inline (End_Call);
+   --  Ends a call. One of this task, unless it is a trigger, needs no lock:
+   --  this task doesn't sleep, and no other looks whether the call has ended.
 
    procedure Note_Queued
      (Self_ID : Task_Id;
@@ -137,35 +88,38 @@ package body System.Tasking.Protected_Objects.Actions is
    --  of an asynchronous select begins now (9.7.4).
 
    function Is_Run
-     (Object : Protection_Entries_Access;
-      Call   : Entry_Call_Link;
-      E      : Protected_Entry_Index) return Boolean;
+     (Object   : Protection_Entries_Access;
+      Call     : Entry_Call_Link;
+      E, Index : Protected_Entry_Index) return Boolean;
+   pragma Inline_Always (Is_Run);
    --  Runs the body of the entry for the call. Returns False if an exception
    --  left it that its own handlers don't see.
 
-   function Completed_Call
-     (Self_ID : Task_Id;
-      Object  : Protection_Entries_Access;
-      Call    : Entry_Call_Link;
-      How     : Word;
-      Told    : in out Step) return Word;
-   --  Tells the engine that the body has completed the call, ends it, and
-   --  returns the next answer.
-
-   function Requeued_Call
+   function Requeue_Of
      (Object : Protection_Entries_Access;
-      Call   : Entry_Call_Link;
-      Told   : in out Step) return Word;
-   --  Tells the engine that the body has requeued the call, and returns the
-   --  next answer.
+      Call   : Entry_Call_Link) return Word;
+   --  How the body ended that has requeued the call. If it goes to another
+   --  object or to a task, puts it off.
 
-   function Body_Run
-     (Self_ID : Task_Id;
-      Object  : Protection_Entries_Access;
-      E       : Protected_Entry_Index;
-      Told    : in out Step) return Word;
-   --  Runs the body of the entry, tells the engine how it ended, and returns
-   --  the next answer.
+   function Run_Body
+     (Self_ID  : Task_Id;
+      Object   : Protection_Entries_Access;
+      Call     : Entry_Call_Link;
+      E, Index : Protected_Entry_Index) return Word;
+   pragma Inline_Always (Run_Body);
+   --  Runs the body of the entry for the call, ends the call unless the body
+   --  requeues it, and returns how the body ended.
+
+   function Is_Within (How : Word) return Boolean is
+     (How in Requeued | Requeued_With_Abort);
+   --  Whether a body has requeued its call within the object: then the engine
+   --  takes the call's new entry, and its mark.
+
+   function Target_Of (How : Word; Call : Entry_Call_Link) return Word is
+     (if Is_Within (How) then Word (Call.E - 1) else 0);
+
+   function Marks_After (How : Word; Call : Entry_Call_Link) return Word is
+     (if Is_Within (How) then Attempted (Call) else 0);
 
    function Next_Answer
      (Self_ID : Task_Id;
@@ -182,23 +136,46 @@ package body System.Tasking.Protected_Objects.Actions is
    --  Does what the engine says, one answer after another, until the object
    --  is at rest.
 
-   procedure Issue_To_Task (Self_ID : Task_Id; Call : Entry_Call_Link);
-   --  Issues a call that was requeued to a task. If that task has ended,
-   --  GNARL ends the call by Tasking_Error (9.5.3), and its record is the
-   --  caller's again.
-
-   procedure Issue_To_Object
+   procedure Issue_First
      (Self_ID : Task_Id;
+      Object  : Protection_Entries_Access;
       Call    : Entry_Call_Link;
-      Last    : in out Entry_Call_Link);
-   --  Issues a call that was requeued to another object. The calls that are
-   --  put off there join the ring.
+      Barrier : Word);
+   --  Issues a call. The engine decides each step.
 
-   procedure Look_After (Self_ID : Task_Id; Ring : Entry_Call_Link);
-   --  Ends or issues the calls of a ring, one after the other
+   procedure Issue_Unready
+     (Self_ID : Task_Id;
+      Object  : Protection_Entries_Access;
+      Call    : Entry_Call_Link;
+      Barrier : Word;
+      Ready   : Word);
+   --  Issues a call for which the engine isn't ready: ends it by Storage_Error
+   --  if there is no memory.
 
-   function Is_Cancelled (Call : Entry_Call_Link) return Boolean;
-   --  Whether the engine cancels the queued call now
+   procedure Serve
+     (Self_ID : Task_Id;
+      Object  : Protection_Entries_Access;
+      Call    : Entry_Call_Link;
+      Index   : Protected_Entry_Index;
+      Marks   : Word);
+   pragma Inline (Serve);
+   --  Runs the body of an open entry for a call that arrives, and tells the
+   --  engine how it ended.
+
+   procedure Wait
+     (Self_ID : Task_Id;
+      Object  : Protection_Entries_Access;
+      Call    : Entry_Call_Link;
+      Marks   : Word);
+   --  Queues a call that arrives and isn't due. Its barrier is closed however
+   --  many calls are queued: if none is, it isn't evaluated again.
+
+   procedure Turn_Away
+     (Self_ID : Task_Id;
+      Object  : Protection_Entries_Access;
+      Call    : Entry_Call_Link;
+      Marks   : Word);
+   --  Cancels a call that is due, under the same conditions
 
    ---------------
    -- Action_Of --
@@ -218,69 +195,31 @@ package body System.Tasking.Protected_Objects.Actions is
       return Protected_Entry_Index (Answer / 2 ** 8 + 1);
    end Entry_Of;
 
+   --------------
+   -- Index_Of --
+   --------------
+
+   function Index_Of
+     (Object : Protection_Entries_Access;
+      E      : Protected_Entry_Index) return Protected_Entry_Index is
+   begin
+      return Object.Find_Body_Index (Object.Compiler_Info, E);
+   end Index_Of;
+
    ----------------
    -- Barrier_Of --
    ----------------
 
    function Barrier_Of
-     (Object : Protection_Entries_Access;
-      E      : Protected_Entry_Index) return Word is
+     (Object   : Protection_Entries_Access;
+      E, Index : Protected_Entry_Index) return Word is
    begin
       return Boolean'Pos
-        (Object.Entry_Bodies
-          (Object.Find_Body_Index (Object.Compiler_Info, E)).
-             Barrier (Object.Compiler_Info, E));
+        (Object.Entry_Bodies (Index).Barrier (Object.Compiler_Info, E));
    exception
       when others =>
          return Raised;
    end Barrier_Of;
-
-   ------------------
-   -- Only_Expired --
-   ------------------
-
-   function Only_Expired (Call : Entry_Call_Link) return Boolean is
-      Expired : Boolean;
-   begin
-      if Call.Mode /= Timed_Call then
-         return False;
-      end if;
-
-      --  While aborts are deferred, only its time can cancel the call
-
-      STPO.Write_Lock (Call.Self);
-      Expired := Call.Self.Pending_ATC_Level = Call.Level - 1
-        or else Call.Self.Deferral_Level > 1;
-      STPO.Unlock (Call.Self);
-      return Expired;
-   end Only_Expired;
-
-   ---------------
-   -- Attempted --
-   ---------------
-
-   function Attempted (Call : Entry_Call_Link) return Word is
-   begin
-      --  Only the level shows an abort that came before the call
-
-      return (if Call.State = Never_Abortable
-                or else not (Call.Cancellation_Attempted
-                             or else Call.Self.Pending_ATC_Level < Call.Level)
-              then 0
-              elsif Only_Expired (Call) then Due
-              else Aborted);
-   end Attempted;
-
-   --------------
-   -- Marks_Of --
-   --------------
-
-   function Marks_Of (Call : Entry_Call_Link) return Word is
-   begin
-      return Attempted (Call)
-        or (if Call.Mode = Conditional_Call then Due else 0)
-        or (if Call.With_Abort then 0 else Without_Abort);
-   end Marks_Of;
 
    -----------
    -- Trace --
@@ -309,27 +248,11 @@ package body System.Tasking.Protected_Objects.Actions is
       end if;
    end Take_Off;
 
-   -------------
-   -- End_Now --
-   -------------
+   ----------------
+   -- End_Locked --
+   ----------------
 
-   procedure End_Now
-     (Self_ID : Task_Id;
-      Call    : Entry_Call_Link;
-      State   : Entry_Call_State)
-   is
-      Caller : constant Task_Id := Call.Self;
-   begin
-      STPO.Write_Lock (Caller);
-      Initialization.Wakeup_Entry_Caller (Self_ID, Call, State);
-      STPO.Unlock (Caller);
-   end End_Now;
-
-   --------------
-   -- End_Call --
-   --------------
-
-   procedure End_Call
+   procedure End_Locked
      (Self_ID : Task_Id;
       Object  : Protection_Entries_Access;
       Call    : Entry_Call_Link;
@@ -343,59 +266,31 @@ package body System.Tasking.Protected_Objects.Actions is
          Call.Prev := To_Link (Entry_Call_State'Pos (State));
          Put_Off (Object, Call);
       end if;
+   end End_Locked;
+
+   --------------
+   -- End_Call --
+   --------------
+
+   procedure End_Call
+     (Self_ID : Task_Id;
+      Object  : Protection_Entries_Access;
+      Call    : Entry_Call_Link;
+      State   : Entry_Call_State)
+   is
+      Own_State : Entry_Call_State
+        with Import, Address => Call.State'Address;
+      --  Stored as no other task reads it: not atomically
+
+   begin
+      if Call.Self = Self_ID and then Call.Mode /= Asynchronous_Call then
+         Call.Next := null;
+         Call.Prev := Call;
+         Own_State := State;
+      else
+         End_Locked (Self_ID, Object, Call, State);
+      end if;
    end End_Call;
-
-   ---------------------
-   -- Keep_Occurrence --
-   ---------------------
-
-   procedure Keep_Occurrence
-     (Call : Entry_Call_Link; Source : Exception_Occurrence) is
-   begin
-      Call.Uninterpreted_Data :=
-        To_Address (Occurrence_Access'(Save_Occurrence (Source)));
-      Call.E := With_Occurrence;
-   exception
-      when others =>
-         null;
-   end Keep_Occurrence;
-
-   ---------------------
-   -- Take_Occurrence --
-   ---------------------
-
-   procedure Take_Occurrence (Self_ID : Task_Id) is
-      Call : constant Entry_Call_Link :=
-               Self_ID.Entry_Calls (Self_ID.ATC_Nesting_Level)'Access;
-      Kept : Occurrence_Access;
-   begin
-      --  The level may be that of a delay: then its record is new, or that of
-      --  an earlier call.
-
-      if Call.Exception_To_Raise /= Null_Id
-        and then Call.E = With_Occurrence
-        and then Call.Uninterpreted_Data /= Null_Address
-      then
-         Kept := To_Occurrence (Call.Uninterpreted_Data);
-         Call.Uninterpreted_Data := Null_Address;
-         Save_Occurrence
-           (Self_ID.Common.Compiler_Data.Current_Excep, Kept.all);
-         Free (Kept);
-      end if;
-   end Take_Occurrence;
-
-   -----------------
-   -- Set_Message --
-   -----------------
-
-   procedure Set_Message (Call : Entry_Call_Link) is
-   begin
-      if Call.Exception_To_Raise /= Null_Id and then Call.E /= With_Occurrence
-      then
-         Save_Occurrence
-           (Call.Self.Common.Compiler_Data.Current_Excep, Null_Occurrence);
-      end if;
-   end Set_Message;
 
    ----------------
    -- Look_Again --
@@ -447,74 +342,49 @@ package body System.Tasking.Protected_Objects.Actions is
    ------------
 
    function Is_Run
-     (Object : Protection_Entries_Access;
-      Call   : Entry_Call_Link;
-      E      : Protected_Entry_Index) return Boolean is
+     (Object   : Protection_Entries_Access;
+      Call     : Entry_Call_Link;
+      E, Index : Protected_Entry_Index) return Boolean is
    begin
-      Take_Off (Call);
       Object.Call_In_Progress := Call;
-      Object.Entry_Bodies
-        (Object.Find_Body_Index (Object.Compiler_Info, E)).Action
-          (Object.Compiler_Info, Call.Uninterpreted_Data, E);
+      Object.Entry_Bodies (Index).Action
+        (Object.Compiler_Info, Call.Uninterpreted_Data, E);
       return True;
    exception
       when others =>
          return False;
    end Is_Run;
 
-   --------------------
-   -- Completed_Call --
-   --------------------
+   ----------------
+   -- Requeue_Of --
+   ----------------
 
-   function Completed_Call
-     (Self_ID : Task_Id;
-      Object  : Protection_Entries_Access;
-      Call    : Entry_Call_Link;
-      How     : Word;
-      Told    : in out Step) return Word
-   is
-      Answer : constant Word :=
-                 pobj_body_ended
-                   (Engine_Of (Object.all), How, 0, 0, Told'Address);
-   begin
-      End_Call (Self_ID, Object, Call, Done);
-      return Answer;
-   end Completed_Call;
-
-   -------------------
-   -- Requeued_Call --
-   -------------------
-
-   function Requeued_Call
+   function Requeue_Of
      (Object : Protection_Entries_Access;
-      Call   : Entry_Call_Link;
-      Told   : in out Step) return Word is
+      Call   : Entry_Call_Link) return Word is
    begin
+      Take_Off (Call);
+
       if Call.Called_PO = To_Address (Object) then
-         return pobj_body_ended
-           (Engine_Of (Object.all),
-            (if Call.With_Abort then Requeued_With_Abort else Requeued),
-            Word (Call.E - 1), Attempted (Call), Told'Address);
+         return (if Call.With_Abort then Requeued_With_Abort else Requeued);
       else
          Call.Prev := null;
          Put_Off (Object, Call);
-         return pobj_body_ended
-           (Engine_Of (Object.all), Requeued_Elsewhere, 0, 0, Told'Address);
+         return Requeued_Elsewhere;
       end if;
-   end Requeued_Call;
+   end Requeue_Of;
 
    --------------
-   -- Body_Run --
+   -- Run_Body --
    --------------
 
-   function Body_Run
-     (Self_ID : Task_Id;
-      Object  : Protection_Entries_Access;
-      E       : Protected_Entry_Index;
-      Told    : in out Step) return Word
+   function Run_Body
+     (Self_ID  : Task_Id;
+      Object   : Protection_Entries_Access;
+      Call     : Entry_Call_Link;
+      E, Index : Protected_Entry_Index) return Word
    is
-      Call        : constant Entry_Call_Link := To_Link (Told.Caller);
-      Is_Fine     : constant Boolean := Is_Run (Object, Call, E);
+      Is_Fine     : constant Boolean := Is_Run (Object, Call, E, Index);
       Is_Requeued : constant Boolean :=
                       Is_Fine and then Object.Call_In_Progress = null;
 
@@ -530,13 +400,12 @@ package body System.Tasking.Protected_Objects.Actions is
       end if;
 
       if Is_Requeued then
-         return Requeued_Call (Object, Call, Told);
+         return Requeue_Of (Object, Call);
       else
-         return Completed_Call
-           (Self_ID, Object, Call, (if Is_Fine then Completed else Failed),
-            Told);
+         End_Call (Self_ID, Object, Call, Done);
+         return (if Is_Fine then Completed else Failed);
       end if;
-   end Body_Run;
+   end Run_Body;
 
    -----------------
    -- Next_Answer --
@@ -548,30 +417,37 @@ package body System.Tasking.Protected_Objects.Actions is
       Answer  : Word;
       Told    : in out Step) return Word
    is
-      E : constant Protected_Entry_Index := Entry_Of (Answer);
+      E    : constant Protected_Entry_Index := Entry_Of (Answer);
+      Call : constant Entry_Call_Link := To_Link (Told.Caller);
+      How  : Word;
+
    begin
       case Action_Of (Answer) is
          when Run =>
-            return Body_Run (Self_ID, Object, E, Told);
+            Take_Off (Call);
+            How := Run_Body (Self_ID, Object, Call, E, Index_Of (Object, E));
+            return pobj_body_ended
+              (Engine_Of (Object.all), How, Target_Of (How, Call),
+               Marks_After (How, Call), Told'Address);
 
-         when Evaluate =>
-            return pobj_answer
-              (Engine_Of (Object.all), Barrier_Of (Object, E), Told'Address);
+         when Evaluate | Now_Queued =>
+            if Action_Of (Answer) = Now_Queued then
+               Note_Queued (Self_ID, Object, Call, Told);
+            end if;
 
-         when Now_Queued =>
-            Note_Queued (Self_ID, Object, To_Link (Told.Caller), Told);
             return pobj_answer
-              (Engine_Of (Object.all), Barrier_Of (Object, E), Told'Address);
+              (Engine_Of (Object.all),
+               Barrier_Of (Object, E, Index_Of (Object, E)), Told'Address);
 
          when Now_Cancelled =>
-            Trace (Object, To_Link (Told.Caller), Traces.Cancelled);
-            End_Call (Self_ID, Object, To_Link (Told.Caller), Cancelled);
+            Trace (Object, Call, Traces.Cancelled);
+            End_Call (Self_ID, Object, Call, Cancelled);
             return pobj_next (Engine_Of (Object.all), Told'Address);
 
          when Now_Broken =>
-            Trace (Object, To_Link (Told.Caller), Traces.Broken);
-            To_Link (Told.Caller).Exception_To_Raise := Program_Error'Identity;
-            End_Call (Self_ID, Object, To_Link (Told.Caller), Done);
+            Trace (Object, Call, Traces.Broken);
+            Call.Exception_To_Raise := Program_Error'Identity;
+            End_Call (Self_ID, Object, Call, Done);
             return pobj_next (Engine_Of (Object.all), Told'Address);
 
          when others =>
@@ -596,6 +472,134 @@ package body System.Tasking.Protected_Objects.Actions is
       end loop;
    end Carry_Out;
 
+   -----------------
+   -- Issue_First --
+   -----------------
+
+   procedure Issue_First
+     (Self_ID : Task_Id;
+      Object  : Protection_Entries_Access;
+      Call    : Entry_Call_Link;
+      Barrier : Word)
+   is
+      Told   : aliased Step;
+      Answer : constant Word :=
+                 pobj_issue
+                   (Engine_Of (Object.all), To_Word (Call),
+                    Word (Call.E - 1), Marks_Of (Call), Barrier,
+                    Told'Address);
+   begin
+      if Answer = No_Memory then
+         Issue_Unready (Self_ID, Object, Call, Barrier, No_Memory);
+      else
+         Carry_Out (Self_ID, Object, Answer, Told);
+      end if;
+   end Issue_First;
+
+   -------------------
+   -- Issue_Unready --
+   -------------------
+
+   procedure Issue_Unready
+     (Self_ID : Task_Id;
+      Object  : Protection_Entries_Access;
+      Call    : Entry_Call_Link;
+      Barrier : Word;
+      Ready   : Word) is
+   begin
+      if Ready = No_Memory then
+         Trace (Object, Call, Traces.Without_Memory);
+         Call.Exception_To_Raise := Storage_Error'Identity;
+         End_Call (Self_ID, Object, Call, Done);
+      else
+         Issue_First (Self_ID, Object, Call, Barrier);
+      end if;
+   end Issue_Unready;
+
+   -----------
+   -- Serve --
+   -----------
+
+   procedure Serve
+     (Self_ID : Task_Id;
+      Object  : Protection_Entries_Access;
+      Call    : Entry_Call_Link;
+      Index   : Protected_Entry_Index;
+      Marks   : Word)
+   is
+      E      : constant Protected_Entry_Index :=
+                 Protected_Entry_Index (Call.E);
+      Ready  : constant Word := pobj_ready (Engine_Of (Object.all));
+      Told   : aliased Step;
+      How    : Word;
+      Answer : Word;
+
+   begin
+      if Ready /= Rest then
+         Issue_Unready (Self_ID, Object, Call, Open, Ready);
+         return;
+      end if;
+
+      How := Run_Body (Self_ID, Object, Call, E, Index);
+      Answer := pobj_served
+        (Engine_Of (Object.all), To_Word (Call), Word (E - 1), Marks, How,
+         Target_Of (How, Call), Marks_After (How, Call), Told'Address);
+
+      if Answer /= Rest then
+         Carry_Out (Self_ID, Object, Answer, Told);
+      end if;
+   end Serve;
+
+   ----------
+   -- Wait --
+   ----------
+
+   procedure Wait
+     (Self_ID : Task_Id;
+      Object  : Protection_Entries_Access;
+      Call    : Entry_Call_Link;
+      Marks   : Word)
+   is
+      Ready : constant Word := pobj_ready (Engine_Of (Object.all));
+      Told  : aliased Step;
+
+   begin
+      if Ready /= Rest then
+         Issue_Unready (Self_ID, Object, Call, Closed, Ready);
+
+      elsif pobj_wait
+              (Engine_Of (Object.all), To_Word (Call), Word (Call.E - 1),
+               Marks, Told'Address) /= 0
+      then
+         Note_Queued (Self_ID, Object, Call, Told);
+
+      else
+         Issue_First (Self_ID, Object, Call, Closed);
+      end if;
+   end Wait;
+
+   ---------------
+   -- Turn_Away --
+   ---------------
+
+   procedure Turn_Away
+     (Self_ID : Task_Id;
+      Object  : Protection_Entries_Access;
+      Call    : Entry_Call_Link;
+      Marks   : Word) is
+   begin
+      if pobj_turn_away
+           (Engine_Of (Object.all), To_Word (Call), Word (Call.E - 1),
+            Marks) /= 0
+      then
+         Trace (Object, Call, Traces.Queued);
+         Trace (Object, Call, Traces.Cancelled);
+         End_Call (Self_ID, Object, Call, Cancelled);
+      else
+         Issue_First (Self_ID, Object, Call, Closed);
+      end if;
+   end Turn_Away;
+
    -----------
    -- Issue --
    -----------
@@ -605,12 +609,15 @@ package body System.Tasking.Protected_Objects.Actions is
       Object  : Protection_Entries_Access;
       Call    : Entry_Call_Link)
    is
-      E      : constant Protected_Entry_Index :=
-                 Protected_Entry_Index (Call.E);
-      Told   : aliased Step;
-      Answer : Word;
+      E       : constant Protected_Entry_Index :=
+                  Protected_Entry_Index (Call.E);
+      Index   : constant Protected_Entry_Index := Index_Of (Object, E);
+      Barrier : Word;
+      Marks   : Word;
 
    begin
+      Call.Prev := null;
+
       --  An abortable part begins once the call is queued, or requeued with
       --  abort, and not before (9.7.4).
 
@@ -618,16 +625,20 @@ package body System.Tasking.Protected_Objects.Actions is
          Call.State := Not_Yet_Abortable;
       end if;
 
-      Answer := pobj_issue
-        (Engine_Of (Object.all), To_Word (Call), Word (E - 1),
-         Marks_Of (Call), Barrier_Of (Object, E), Told'Address);
+      Nested_Actions.Has_Counted := False;
+      Barrier := Barrier_Of (Object, E, Index);
+      Marks := Marks_Of (Call);
 
-      if Answer = No_Memory then
-         Trace (Object, Call, Traces.Without_Memory);
-         Call.Exception_To_Raise := Storage_Error'Identity;
-         End_Call (Self_ID, Object, Call, Done);
+      if (Marks and (Aborted or Without_Abort)) = Aborted then
+         Issue_First (Self_ID, Object, Call, Barrier);
+      elsif Barrier = Open then
+         Serve (Self_ID, Object, Call, Index, Marks);
+      elsif Barrier = Raised or else Nested_Actions.Has_Counted then
+         Issue_First (Self_ID, Object, Call, Barrier);
+      elsif (Marks and Due) /= 0 then
+         Turn_Away (Self_ID, Object, Call, Marks);
       else
-         Carry_Out (Self_ID, Object, Answer, Told);
+         Wait (Self_ID, Object, Call, Marks);
       end if;
    end Issue;
 
@@ -661,121 +672,6 @@ package body System.Tasking.Protected_Objects.Actions is
       end if;
    end Note_Procedure;
 
-   -------------------
-   -- Issue_To_Task --
-   -------------------
-
-   procedure Issue_To_Task (Self_ID : Task_Id; Call : Entry_Call_Link) is
-      Is_Callable : Boolean;
-      pragma Unreferenced (Is_Callable);
-   begin
-      Is_Callable := Rendezvous.Task_Do_Or_Queue (Self_ID, Call);
-   end Issue_To_Task;
-
-   ---------------------
-   -- Issue_To_Object --
-   ---------------------
-
-   procedure Issue_To_Object
-     (Self_ID : Task_Id;
-      Call    : Entry_Call_Link;
-      Last    : in out Entry_Call_Link)
-   is
-      Object    : constant Protection_Entries_Access :=
-                    To_Protection (Call.Called_PO);
-      Put_There : Entry_Call_Link;
-      Violation : Boolean;
-
-   begin
-      begin
-         Lock_Entries_With_Status (Object, Violation);
-      exception
-         when others =>
-            Violation := True;
-      end;
-
-      if Violation then
-         Call.Exception_To_Raise := Program_Error'Identity;
-         End_Now (Self_ID, Call, Done);
-      else
-         Issue (Self_ID, Object, Call);
-         Take_Put_Off (Object, Put_There);
-         Join (Last, Put_There);
-
-         if Put_There /= null then
-            Nested_Actions.Keep (Object.Ceiling);
-         end if;
-
-         Unlock_Entries (Object);
-      end if;
-   end Issue_To_Object;
-
-   ----------------
-   -- Look_After --
-   ----------------
-
-   procedure Look_After (Self_ID : Task_Id; Ring : Entry_Call_Link) is
-      Last : Entry_Call_Link := Ring;
-      Call : Entry_Call_Link;
-   begin
-      while Last /= null loop
-         Take_First (Last, Call);
-
-         if Call.Prev /= null then
-            End_Now
-              (Self_ID, Call, Entry_Call_State'Val (To_Word (Call.Prev)));
-         elsif Call.Called_Task /= null then
-            Issue_To_Task (Self_ID, Call);
-         else
-            Issue_To_Object (Self_ID, Call, Last);
-         end if;
-      end loop;
-   end Look_After;
-
-   -----------
-   -- Leave --
-   -----------
-
-   procedure Leave
-     (Self_ID : Task_Id;
-      Object  : Protection_Entries_Access)
-   is
-      pragma Unreferenced (Self_ID);
-      Ring : Entry_Call_Link := null;
-   begin
-      if Serves (Object) then
-         Take_Put_Off (Object, Ring);
-
-         if Ring /= null then
-            Join (Nested_Actions.Later, Ring);
-            Nested_Actions.Keep (Object.Ceiling);
-         end if;
-      end if;
-
-      Unlock_Entries (Object);
-   end Leave;
-
-   ----------------------
-   -- Look_After_Later --
-   ----------------------
-
-   procedure Look_After_Later is
-      Ring : Entry_Call_Link;
-   begin
-      --  Calls that are put off meanwhile come after these
-
-      Nested_Actions.Enter;
-
-      while Nested_Actions.Later /= null loop
-         Ring := Nested_Actions.Later;
-         Nested_Actions.Later := null;
-         Look_After (STPO.Self, Ring);
-      end loop;
-
-      Nested_Actions.Give_Back;
-      Nested_Actions.Leave;
-   end Look_After_Later;
-
    --------------
    -- Finalize --
    --------------
@@ -794,184 +690,9 @@ package body System.Tasking.Protected_Objects.Actions is
            (Self_ID, Object,
             pobj_finalize (Engine_Of (Object.all), Told'Address), Told);
          Take_Put_Off (Object, Ring);
-         Look_After (Self_ID, Ring);
+         Departures.Look_After (Self_ID, Ring);
          Free (Object);
       end if;
    end Finalize;
-
-   --------------------
-   -- Lock_Object_Of --
-   --------------------
-
-   procedure Lock_Object_Of
-     (Call   : Entry_Call_Link;
-      Object : out Protection_Entries_Access;
-      Ended  : out Boolean)
-   is
-      Self_ID : constant Task_Id := Call.Self;
-
-   begin
-      --  A task that ends the call needs the caller's lock for that. So while
-      --  this has the caller's lock, and the call hasn't ended, the object is
-      --  there.
-
-      loop
-         STPO.Write_Lock (Self_ID);
-         Ended := Call.State >= Done;
-
-         --  A call on a task may still have the object of an earlier call
-
-         Object := (if not Ended and then Call.Called_Task = null
-                    then To_Protection (Call.Called_PO) else null);
-
-         exit when Object = null or else Is_Locked (Object);
-         STPO.Unlock (Self_ID);
-         Sleep_Shortly (20);
-      end loop;
-
-      if not Ended then
-         STPO.Unlock (Self_ID);
-      end if;
-   end Lock_Object_Of;
-
-   ----------------------
-   -- Is_Server_Locked --
-   ----------------------
-
-   function Is_Server_Locked (Call : Entry_Call_Link) return Boolean is
-      Self_ID : constant Task_Id := Call.Self;
-      Object  : Protection_Entries_Access;
-      Ended   : Boolean;
-
-   begin
-      if not Has_Own_Lock then
-         return False;
-      end if;
-
-      Lock_Object_Of (Call, Object, Ended);
-
-      if Ended then
-         Call.Called_PO := Null_Address;
-         Call.Called_Task := Self_ID;
-         return True;
-
-      elsif Object = null then
-         return False;
-      end if;
-
-      Nested_Actions.Enter;
-
-      if Detect_Blocking then
-         Object.Owner := Self_ID;
-         Self_ID.Common.Protected_Action_Nesting :=
-           Self_ID.Common.Protected_Action_Nesting + 1;
-      end if;
-
-      if To_Address (Object) = Call.Called_PO then
-         return True;
-      else
-         Unlock_Entries (Object);
-         return Is_Server_Locked (Call);
-      end if;
-   end Is_Server_Locked;
-
-   ------------------
-   -- Is_Cancelled --
-   ------------------
-
-   function Is_Cancelled (Call : Entry_Call_Link) return Boolean is
-      Object : constant Protection_Entries_Access :=
-                 To_Protection (Call.Called_PO);
-   begin
-      case pobj_cancel
-             (Engine_Of (Object.all), Size (To_Word (Call.Prev)),
-              To_Word (Call.Next), Boolean'Pos (Only_Expired (Call)))
-      is
-         when Made =>
-            Trace (Object, Call, Traces.Cancelled);
-            Call.Next := null;
-            Call.Prev := null;
-            return True;
-
-         when Kept =>
-            return False;
-
-         when others =>
-            Stop;
-      end case;
-   end Is_Cancelled;
-
-   ------------------
-   -- Is_Withdrawn --
-   ------------------
-
-   function Is_Withdrawn (Call : Entry_Call_Link) return Boolean is
-   begin
-      if not Queuing.Onqueue (Call) or else Call.State /= Now_Abortable then
-         return False;
-
-      elsif Call.Called_Task = null
-        and then Serves (To_Protection (Call.Called_PO))
-      then
-         return Is_Cancelled (Call);
-
-      else
-         --  If a call was made while aborts were deferred, it is marked as
-         --  abortable on a task's queue when its time comes.
-
-         return Call.With_Abort;
-      end if;
-   end Is_Withdrawn;
-
-   -----------------------
-   -- Is_Aborted_Before --
-   -----------------------
-
-   function Is_Aborted_Before
-     (Self_ID : Task_Id;
-      Call    : Entry_Call_Link) return Boolean is
-   begin
-      if Call.Self = Self_ID
-        or else not Call.With_Abort
-        or else Call.State = Never_Abortable
-        or else Queuing_Policy = 'P'
-      then
-         return False;
-      end if;
-
-      --  GNARL doesn't wake the caller of a simple call again. So either the
-      --  caller, which an abort wakes, sees that the call can be cancelled, or
-      --  this task sees the abort.
-
-      if Call.Mode = Simple_Call then
-         Call.State := Now_Abortable;
-         Synchronize;
-      end if;
-
-      --  A timed call whose time has come may still be accepted
-
-      return Call.Self.Pending_ATC_Level
-        < (if Call.Mode = Timed_Call then Call.Level - 1 else Call.Level);
-   end Is_Aborted_Before;
-
-   ------------
-   -- Cancel --
-   ------------
-
-   procedure Cancel (Self_ID : Task_Id; Call : Entry_Call_Link) is
-   begin
-      End_Now (Self_ID, Call, Cancelled);
-   end Cancel;
-
-   -----------------
-   -- Leave_Queue --
-   -----------------
-
-   procedure Leave_Queue (Call : Entry_Call_Link) is
-   begin
-      if Queuing.Onqueue (Call) then
-         Queuing.Dequeue_Call (Call);
-      end if;
-   end Leave_Queue;
 
 end System.Tasking.Protected_Objects.Actions;

@@ -3,6 +3,8 @@
 --  call of a protected object is queued, served, cancelled or ended (ISO/IEC
 --  8652:2023, 9.5.1 to 9.5.4), and each of its functions is proved.
 
+with Ada.Unchecked_Conversion;
+
 with Interfaces;
 with Interfaces.C;
 
@@ -20,6 +22,17 @@ package System.Tasking.Protected_Objects.Pobj is
    pragma Convention (C, Step);
    pragma Suppress_Initialization (Step);
    --  The call that an answer is about, and its ticket
+
+   --  The engine keeps a call as a word. A queued call keeps its ticket: the
+   --  key in Prev, the number in Next. The number is never 0, so Next isn't
+   --  null while the call is queued, as in GNARL.
+
+   pragma Warnings (Off);  --  aliasing: compiled with -fno-strict-aliasing
+   function To_Link is
+     new Ada.Unchecked_Conversion (Word, Entry_Call_Link);
+   function To_Word is
+     new Ada.Unchecked_Conversion (Entry_Call_Link, Word);
+   pragma Warnings (On);
 
    --  Answers: what to do next
 
@@ -101,6 +114,27 @@ package System.Tasking.Protected_Objects.Pobj is
      (Object : Engine;
       Told   : System.Address) return Word;
    pragma Import (C, pobj_finalize);
+
+   function pobj_ready (Object : Engine) return Word;
+   pragma Import (C, pobj_ready);
+
+   function pobj_served
+     (Object                     : Engine;
+      Caller, E, Marks           : Word;
+      How, Target, Target_Marks  : Word;
+      Told                       : System.Address) return Word;
+   pragma Import (C, pobj_served);
+
+   function pobj_wait
+     (Object           : Engine;
+      Caller, E, Marks : Word;
+      Told             : System.Address) return Flag;
+   pragma Import (C, pobj_wait);
+
+   function pobj_turn_away
+     (Object           : Engine;
+      Caller, E, Marks : Word) return Flag;
+   pragma Import (C, pobj_turn_away);
 
    function pobj_count (Object : Engine; E : Word) return Word;
    pragma Import (C, pobj_count);

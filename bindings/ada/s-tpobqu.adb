@@ -58,8 +58,20 @@ package body System.Tasking.Protected_Objects.Queues is
    procedure Make_Adaptive (Object : Protection_Entries_Access);
    --  Replaces the object's lock by one of another kind: a task that finds it
    --  taken looks about a hundred times whether it is free before it sleeps,
-   --  as a protected action is short. Under a locking policy (D.3) the lock
-   --  stays GNARL's.
+   --  as a protected action is short. Under a locking policy (D.3), or with
+   --  one processor, the lock stays GNARL's.
+
+   Has_Several : Boolean := False;
+   --  Whether this process may use more than one processor
+
+   Is_Counted : Boolean := False;
+   --  Whether the processors are counted, for Has_Several and Looks
+
+   procedure Count_Processors;
+   --  Sets these when the first object is made
+
+   function Has_Urgencies return Boolean;
+   --  Whether tasks have real-time priorities
 
    ------------
    -- Serves --
@@ -129,6 +141,60 @@ package body System.Tasking.Protected_Objects.Queues is
    end Set_Limits;
 
    -------------------
+   -- Has_Urgencies --
+   -------------------
+
+   function Has_Urgencies return Boolean is
+      Dispatching_Policy : constant Character;
+      pragma Import (C, Dispatching_Policy, "__gl_task_dispatching_policy");
+
+      Time_Slice : constant Integer;
+      pragma Import (C, Time_Slice, "__gl_time_slice_val");
+
+      Specific_Policies : constant Integer;
+      pragma Import (C, Specific_Policies, "__gl_num_specific_dispatching");
+
+   begin
+      return Dispatching_Policy in 'F' | 'R'
+        or else Time_Slice >= 0
+        or else Specific_Policies > 0;
+   end Has_Urgencies;
+
+   ----------------------
+   -- Count_Processors --
+   ----------------------
+
+   procedure Count_Processors is
+      use type Size;
+
+      type Set is array (1 .. 128) of Word;
+
+      function sched_getaffinity
+        (Process : Interfaces.C.int;
+         Bytes   : Size;
+         Its_Set : Address) return Interfaces.C.int;
+      pragma Import (C, sched_getaffinity);
+
+      function Length (Bytes : Size; Its_Set : Address)
+         return Interfaces.C.int;
+      pragma Import (C, Length, "__sched_cpucount");
+
+      Those : Set := [others => 0];
+      Bytes : constant Size := Those'Size / System.Storage_Unit;
+
+   begin
+      Has_Several :=
+        sched_getaffinity (0, Bytes, Those'Address) = 0
+        and then Length (Bytes, Those'Address) > 1;
+
+      if Has_Several and then Has_Own_Lock and then not Has_Urgencies then
+         Looks := 100;
+      end if;
+
+      Is_Counted := True;
+   end Count_Processors;
+
+   -------------------
    -- Make_Adaptive --
    -------------------
 
@@ -141,7 +207,8 @@ package body System.Tasking.Protected_Objects.Queues is
       Result     : Interfaces.C.int := 0;
 
    begin
-      if not Has_Own_Lock
+      if not Has_Several
+        or else not Has_Own_Lock
         or else pthread_mutexattr_init (Attributes'Access) /= 0
       then
          return;
@@ -199,6 +266,10 @@ package body System.Tasking.Protected_Objects.Queues is
 
       if Object.Num_Entries > Most_Entries then
          raise Storage_Error with "a protected object over 65_535 entries";
+      end if;
+
+      if not Is_Counted then
+         Count_Processors;
       end if;
 
       Make_Adaptive (Object);
@@ -295,6 +366,15 @@ package body System.Tasking.Protected_Objects.Queues is
       Call.Acceptor_Prev_Call := Call;
       Join (Object.Entry_Queues (1).Tail, Call);
    end Put_Off;
+
+   -----------------
+   -- Has_Put_Off --
+   -----------------
+
+   function Has_Put_Off (Object : Protection_Entries_Access) return Boolean is
+   begin
+      return Object.Entry_Queues (1).Tail /= null;
+   end Has_Put_Off;
 
    ------------------
    -- Take_Put_Off --

@@ -30,6 +30,12 @@ package System.Tasking.Protected_Objects.Queues is
    --  serves it. Raises Storage_Error if there is no memory for them, or if
    --  the object has more than 65_535 entries.
 
+   Looks : Positive := 1;
+   --  How many times a task whose call waits looks for the call's end before
+   --  it sleeps: more than once if the tasks may run beside each other, unless
+   --  they have urgencies, by which a task that looks keeps others from
+   --  running.
+
    function Has_Own_Lock return Boolean;
    pragma Inline (Has_Own_Lock);
    --  Whether the objects' locks are those that Make makes: under a locking
@@ -52,6 +58,11 @@ package System.Tasking.Protected_Objects.Queues is
       Call   : Entry_Call_Link);
    --  Puts a call off until the object's lock is given up: it has ended, or a
    --  body requeued it to another object or to a task.
+
+   function Has_Put_Off
+     (Object : Entries.Protection_Entries_Access) return Boolean;
+   pragma Inline (Has_Put_Off);
+   --  Whether there are such calls
 
    procedure Take_Put_Off
      (Object : Entries.Protection_Entries_Access;

@@ -13,8 +13,15 @@
       E      : Protected_Entry_Index) return Natural;
    --  GNARL's own subprograms, for the objects that pobj doesn't serve
 
+   procedure Arrive
+     (Self_ID    : Task_Id;
+      Object     : Protection_Entries_Access;
+      Entry_Call : Entry_Call_Link);
+   pragma Inline (Arrive);
+   --  Issues a call: PO_Do_Or_Queue, in place
+
    procedure Leave
      (Self_ID : Task_Id;
       Object  : Entries.Protection_Entries_Access);
    pragma Inline (Leave);
-   --  Gives the lock up: after PO_Do_Or_Queue the object is at rest
+   --  Gives the lock up: after Arrive the object is at rest

@@ -1,8 +1,8 @@
-   --------------------
-   -- PO_Do_Or_Queue --
-   --------------------
+   ------------
+   -- Arrive --
+   ------------
 
-   procedure PO_Do_Or_Queue
+   procedure Arrive
      (Self_ID    : Task_Id;
       Object     : Protection_Entries_Access;
       Entry_Call : Entry_Call_Link) is
@@ -12,4 +12,16 @@
       else
          GNARL_Do_Or_Queue (Self_ID, Object, Entry_Call);
       end if;
+   end Arrive;
+
+   --------------------
+   -- PO_Do_Or_Queue --
+   --------------------
+
+   procedure PO_Do_Or_Queue
+     (Self_ID    : Task_Id;
+      Object     : Protection_Entries_Access;
+      Entry_Call : Entry_Call_Link) is
+   begin
+      Arrive (Self_ID, Object, Entry_Call);
    end PO_Do_Or_Queue;

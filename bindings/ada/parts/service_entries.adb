@@ -13,7 +13,7 @@
          Actions.Service (Self_ID, Object);
 
          if Unlock_Object then
-            Actions.Leave (Self_ID, Object);
+            Leave (Self_ID, Object);
          end if;
       end if;
    end PO_Service_Entries;
@@ -26,9 +26,11 @@
      (Self_ID : Task_Id;
       Object  : Entries.Protection_Entries_Access) is
    begin
-      if Queues.Serves (Object) then
-         Actions.Leave (Self_ID, Object);
-      else
+      if not Queues.Serves (Object) then
          GNARL_Service_Entries (Self_ID, Object, True);
+      elsif Queues.Has_Put_Off (Object) then
+         Departures.Leave (Object);
+      else
+         Unlock_Entries (Object);
       end if;
    end Leave;

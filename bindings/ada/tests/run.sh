@@ -13,7 +13,6 @@ scratch=$(mktemp -d) || exit 2
 trap 'rm -rf "$scratch"' EXIT
 dest=${2:-$scratch/runtime}
 cd "$(dirname "$0")" || exit 2
-include=$(cd ../../../include && pwd)
 passed=0 failed=0 skipped=0
 
 # row NAME COMMAND..: writes whether the command succeeds, and what it said if it fails.
@@ -165,7 +164,7 @@ no_record() {
 # Whether a step that the engine refuses ends the program with a message.
 ends_where_refused() {
   local said status
-  gcc -O1 "-I$include" -c refuses.c -o "$scratch/refuses.o" && ar rc "$scratch/librefuses.a" "$scratch/refuses.o" || return
+  gcc -O1 -c refuses.c -o "$scratch/refuses.o" && ar rc "$scratch/librefuses.a" "$scratch/refuses.o" || return
   ../make.sh "$scratch/refusing" "$scratch/librefuses.a" || return
   (cd "$scratch" && gnatmake -q -f "--RTS=$scratch/refusing" "$OLDPWD/../there_and_back.adb" -o refused -bargs -static) || return
   said=$(timeout 10 "$scratch/refused" 2>&1)
@@ -207,7 +206,7 @@ row "the runtime folder" ../make.sh "$dest" "$library"
 row "the runtime folder, made again" ../make.sh "$dest" "$library"
 row "pobj ada --check" ../check.sh "$dest"
 row "pobj ada --linked" says_what_is_linked
-for name in abort_after_refused_call refused_trigger delay_of_aborted_task \
+for name in abort_after_refused_call refused_trigger trigger_never_called delay_of_aborted_task \
   exception_of_aborted_trigger timed_call_after_abort expired_on_task parameters_of_trigger \
   timed_call_to_task_after_abort \
   requeue_to_object_inside message_of_trigger requeue_by_task_to_ended_task requeue_by_task_to_finalized_object \
