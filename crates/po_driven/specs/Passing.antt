@@ -8,6 +8,7 @@ use Rattle.po_engine.specs.Tickets.{uncollected}
 use Rattle.po_engine.specs.WaitingCalls.{is_due}
 use Rattle.po_driven.specs.Answering.{is_withdrawn}
 use Rattle.po_driven.specs.DrivenView.{DrivenView, IsDriven, KeepsAll, KeepsSetup, MayIssue}
+use Rattle.po_driven.specs.Noted.{IsNoRequeue}
 use Rattle.po_driven.specs.Steps.{EndsBody, Evaluates, GoesOn, Issues}
 use Rattle.po_driven.specs.declared.action.Action.{Action}
 use Rattle.po_driven.specs.declared.action.Action.TheVariants.{Rest, Run, Queued, Cancelled, NoMemory, Refused}
@@ -79,6 +80,8 @@ pub record Serves (a : Arriving ℕ) (end : BodyEnd) (step : NamedCall) (old new
   pub accepted : WasServed a end old → action ≢ Refused
   pub refused : (WasServed a end old → ⊥) → action ≡ Refused
   pub room : uncollected old.calls.object.tickets < old.calls.object.most → action ≢ NoMemory
+  -- only a requeue within the object takes room
+  pub needs_none : IsNoRequeue end → action ≢ NoMemory
   pub through : IsTaken action → ServesBetween a end step old new action
 
 -- A call arrives alone: it is accepted, no call is queued, and it isn't cancelled before its barrier is looked at.

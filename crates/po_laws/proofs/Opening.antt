@@ -19,6 +19,7 @@ opening_driven entries most is_fixed = record {
     tickets = refl;
     rises = tt;
     later = All-nil (λ k. k < 0);
+    place = refl;
   };
   waits = record {
     limits = length-replicate entries 0;
