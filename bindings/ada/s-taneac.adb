@@ -19,6 +19,14 @@ package body System.Tasking.Nested_Actions is
    pragma Thread_Local_Storage (Kept);
    --  That ceiling, or none
 
+   type Ceiling_Array is array (Positive range 1 .. 64) of Any_Priority
+     with Component_Size => 8;
+
+   Ceilings : Ceiling_Array;
+   pragma Thread_Local_Storage (Ceilings);
+   --  The ceilings of the objects that this task is inside of, by their depth,
+   --  if its program has Ceiling_Locking; deeper ones aren't noted.
+
    procedure Look_After_Later;
    pragma Import (Ada, Look_After_Later, "pobj_ada_look_after");
    --  Imported from Actions, which needs units that need this one
@@ -44,6 +52,38 @@ package body System.Tasking.Nested_Actions is
          Look_After_Later;
       end if;
    end Leave;
+
+   ----------------
+   -- Enter_None --
+   ----------------
+
+   procedure Enter_None is
+   begin
+      Enter;
+
+      if Depth in Ceilings'Range then
+         Ceilings (Depth) := Any_Priority'First;
+      end if;
+   end Enter_None;
+
+   --------------
+   -- Is_Above --
+   --------------
+
+   function Is_Above (Ceiling : Any_Priority) return Boolean is
+   begin
+      if Get_Priority (Self) > Ceiling
+        or else (Depth in Ceilings'Range and then Ceilings (Depth) > Ceiling)
+      then
+         return True;
+      end if;
+
+      if Depth < Ceilings'Last then
+         Ceilings (Depth + 1) := Ceiling;
+      end if;
+
+      return False;
+   end Is_Above;
 
    ----------
    -- Keep --

@@ -14,6 +14,16 @@ package System.Tasking.Nested_Actions is
    --  Notes that it has given one up. If that was the last, looks after what
    --  is put off.
 
+   procedure Enter_None;
+   --  Notes that this task looks after what it has put off, as if it were
+   --  inside one more object, with the lowest ceiling.
+
+   function Is_Above (Ceiling : Any_Priority) return Boolean;
+   --  Whether this task's active priority is above the ceiling of an object
+   --  that it calls under Ceiling_Locking (D.3). It is the task's own, or the
+   --  ceiling of the object that the task is inside of. If it isn't above,
+   --  notes the ceiling: next this task takes the object's lock.
+
    procedure Keep (Ceiling : Any_Priority);
    --  Notes that this task leaves an object with this ceiling, and has put
    --  calls off. Under Ceiling_Locking (D.3) it keeps that priority until

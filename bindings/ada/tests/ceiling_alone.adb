@@ -1,4 +1,4 @@
---  Under Ceiling_Locking alone tasks have no real-time priorities, not even root's: then the runtime checks no ceiling.
+--  Under Ceiling_Locking alone tasks have no real-time priorities, not even root's: then the runtime takes no ceiling of the system.
 pragma Locking_Policy (Ceiling_Locking);
 with Ada.Text_IO; use Ada.Text_IO;
 procedure Ceiling_Alone is

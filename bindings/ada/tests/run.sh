@@ -42,6 +42,16 @@ writes() {
   shared "$1" && LD_LIBRARY_PATH=$dest/adalib timeout 60 taskset -c "$one" "$scratch/$1-shared" | diff "$1.out" -
 }
 
+# The same for a program that isn't root's, to which the system allows no real-time priorities.
+writes_as_user() {
+  linked "$1" && chmod 711 "$scratch" || return
+  if [ "$(id -u)" -eq 0 ]; then
+    timeout 60 setpriv --reuid=65534 --regid=65534 --clear-groups "$scratch/$1-linked" | diff "$1.out" -
+  else
+    timeout 60 "$scratch/$1-linked" | diff "$1.out" -
+  fi
+}
+
 # The same for a program that needs real-time priorities.
 writes_urgently() {
   if chrt -f 1 true 2>/dev/null; then
@@ -211,7 +221,7 @@ for name in abort_after_refused_call refused_trigger trigger_never_called delay_
   timed_call_to_task_after_abort \
   requeue_to_object_inside message_of_trigger requeue_by_task_to_ended_task requeue_by_task_to_finalized_object \
   acceptor_aborted acceptor_aborted_at_requeue \
-  priority_after_requeue finalized_as_time_comes ceiling_alone \
+  priority_after_requeue finalized_as_time_comes ceiling_alone ceiling_above \
   priority_queuing queues_with_limits ended_once ended_once_by_task own_message deferred_call expired_in_finalize \
   abort_before_call abort_before_open_entry abort_before_requeue_to_task abort_before_open_accept abort_at_open_trigger \
   abort_while_trigger_is_served trigger_requeued_to_task conditional_call_to_task; do
@@ -221,6 +231,7 @@ for name in priority_after_finalization priority_after_requeue_meanwhile priorit
   urgent_caller_first urgent_requeue_first ceiling_of_requeue acceptor_aborted_before_body; do
   writes_urgently "$name"
 done
+row "ceiling_above.adb as a user" writes_as_user ceiling_above
 row "refused_memory.adb" refused_memory
 row "POBJ_TRACE, and pobj trace" record
 row "POBJ_TRACE of an object in a package" record_of_package
