@@ -108,7 +108,7 @@ package body System.Tasking.Protected_Objects.Callers is
    --  GNARL would change neither field. The abort is raised when aborts are
    --  undeferred.
 
-   --  ATC_Nesting_Level: who aborts the task reads it, to mark the call of the
+   --  ATC_Nesting_Level: an aborting task reads it, to mark the call of the
    --  level. If that sees the level that is left here, it marks a call that
    --  has ended, or the next one on this level. The next one is aborted too,
    --  as the task can't leave the level that the abort is to: it leaves those
@@ -122,8 +122,8 @@ package body System.Tasking.Protected_Objects.Callers is
    --  Aborting, ATC_Hack: only this task writes them, and no abort is under
    --  way while Pending_ATC_Level names no level.
 
-   --  The lock itself: a task that ended another's call has to unlock it yet,
-   --  and the caller mustn't come to its end, and be freed, before that.
+   --  The lock itself: a task that ends another's call holds it a moment
+   --  longer, and the caller mustn't come to its end, and be freed, before.
 
    function Leaves_Unlocked
      (Self_ID : Task_Id;

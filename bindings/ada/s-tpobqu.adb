@@ -70,7 +70,7 @@ package body System.Tasking.Protected_Objects.Queues is
    procedure Count_Processors;
    --  Sets these when the first object is made
 
-   function Has_Urgencies return Boolean;
+   function Has_Urgent_Tasks return Boolean;
    --  Whether tasks have real-time priorities
 
    ------------
@@ -140,11 +140,11 @@ package body System.Tasking.Protected_Objects.Queues is
       end loop;
    end Set_Limits;
 
-   -------------------
-   -- Has_Urgencies --
-   -------------------
+   ----------------------
+   -- Has_Urgent_Tasks --
+   ----------------------
 
-   function Has_Urgencies return Boolean is
+   function Has_Urgent_Tasks return Boolean is
       Dispatching_Policy : constant Character;
       pragma Import (C, Dispatching_Policy, "__gl_task_dispatching_policy");
 
@@ -158,7 +158,7 @@ package body System.Tasking.Protected_Objects.Queues is
       return Dispatching_Policy in 'F' | 'R'
         or else Time_Slice >= 0
         or else Specific_Policies > 0;
-   end Has_Urgencies;
+   end Has_Urgent_Tasks;
 
    ----------------------
    -- Count_Processors --
@@ -187,7 +187,7 @@ package body System.Tasking.Protected_Objects.Queues is
         sched_getaffinity (0, Bytes, Those'Address) = 0
         and then Length (Bytes, Those'Address) > 1;
 
-      if Has_Several and then Has_Own_Lock and then not Has_Urgencies then
+      if Has_Several and then Has_Own_Lock and then not Has_Urgent_Tasks then
          Looks := 100;
       end if;
 

@@ -32,9 +32,9 @@ package System.Tasking.Protected_Objects.Queues is
 
    Looks : Positive := 1;
    --  How many times a task whose call waits looks for the call's end before
-   --  it sleeps: more than once if the tasks may run beside each other, unless
-   --  they have urgencies, by which a task that looks keeps others from
-   --  running.
+   --  it sleeps: more than once if tasks may run beside each other. Those with
+   --  real-time priorities look once: more urgent ones that look would keep
+   --  others from running.
 
    function Has_Own_Lock return Boolean;
    pragma Inline (Has_Own_Lock);
