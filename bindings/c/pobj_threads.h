@@ -10,7 +10,8 @@
 
    Threads call its entries, and an entry call waits while its barrier is closed. A mutex guards the object. The thread that
    holds it carries out all that has become possible, the bodies of other callers too, and after the unlock it wakes exactly
-   the callers whose calls have ended. Each waiting caller has a condition variable of its own.
+   the callers whose calls have ended. Each waiting caller has a condition variable of its own. A call that isn't timed first
+   yields the processor some times.
 
    Barriers, bodies, procedures and functions run under the mutex, in whichever thread carries them out. They must end by
    returning: not by longjmp, a C++ exception or the cancellation of their thread. They make no entry call, which is
@@ -31,6 +32,7 @@
 #include "pobj.h"
 
 #include <pthread.h>
+#include <sched.h>
 #include <stdbool.h>
 #include <stddef.h>
 #include <stdint.h>
@@ -46,6 +48,9 @@ typedef struct pobj_call pobj_call;
 
 /* Of a function whose answer a program mustn't drop. */
 #define POBJ_THREADS_HEED __attribute__((warn_unused_result))
+
+/* Of a function on the way of every call: in a frame of its own, each would cost more than what it does. */
+#define POBJ_THREADS_IN_PLACE __attribute__((always_inline))
 
 /* How a call ended. */
 typedef enum {
@@ -79,6 +84,7 @@ struct pobj_protected {
     const pobj_entry *entries;
     uint64_t number;          /* of the entries */
     bool raised;              /* the barrier that is evaluated raises */
+    bool counted;             /* a count was asked for since the last evaluation of a barrier began */
     bool finalized;
     pobj_object calls;
     pthread_mutex_t mutex;
@@ -97,7 +103,7 @@ struct pobj_call {
     bool due;                 /* it is conditional, or its time has come */
     bool without_abort;       /* its last requeue was without abort */
     bool can_wait;            /* whether mutex and wake are made */
-    bool woken;               /* the call has ended; the call's own mutex guards this */
+    bool woken;               /* the call has ended; written under the call's own mutex */
     pobj_outcome outcome;
     int said;                 /* what the body's last pobj_raise or requeue returned, or POBJ_COMPLETED if there is none */
     pobj_protected *target;   /* of a requeue */
@@ -172,8 +178,7 @@ typedef struct {
 /* A protected action: what one thread does on an object between its lock and its unlock (9.5.1). */
 typedef struct {
     pobj_protected *object;
-    pobj_call *own;           /* the call of this very thread, which needs no waking */
-    bool own_ended;
+    pobj_call *own;           /* the call of this very thread, which needs no waking; NULL if there is none, or it has ended */
     pobj_threads_list ended;  /* calls of other threads, which have to be woken */
     pobj_threads_list moved;  /* calls that have to be issued on other objects */
     pobj_step step;
@@ -195,9 +200,11 @@ static inline pobj_call *pobj_threads_take(pobj_threads_list *list) {
     return call;
 }
 
-static inline pobj_threads_action pobj_threads_action_of(pobj_call *own) {
-    pobj_threads_action action = {NULL, own, false, {NULL, NULL}, {NULL, NULL}, {0, 0, 0}};
-    return action;
+/* Prepares a protected action of a thread that makes this call, or none. The other parts are set when they are needed. */
+static inline void pobj_threads_begin(pobj_threads_action *action, pobj_call *own) {
+    action->own = own;
+    action->ended.first = NULL;
+    action->moved.first = NULL;
 }
 
 /* A call leaves an object only under that object's mutex. So a thread that has locked the object that the call seemed to be on,
@@ -239,9 +246,8 @@ static inline bool pobj_threads_can_wait(pobj_call *call) {
 /* Ends the call with this outcome. */
 static inline void pobj_threads_end(pobj_threads_action *action, pobj_call *call, pobj_outcome outcome) {
     call->outcome = outcome;
-    call->number = 0;
     if (call == action->own)
-        action->own_ended = true;
+        action->own = NULL;
     else
         pobj_threads_append(&action->ended, call);
     pobj_threads_place(call, NULL);
@@ -249,15 +255,21 @@ static inline void pobj_threads_end(pobj_threads_action *action, pobj_call *call
 
 static inline void pobj_threads_wake(pobj_call *call) {
     pthread_mutex_lock(&call->mutex);
-    call->woken = true;
+    __atomic_store_n(&call->woken, true, __ATOMIC_RELAXED);
     pthread_cond_signal(&call->wake);
     pthread_mutex_unlock(&call->mutex);
 }
 
-/* Returns the marks of the call when it is issued or requeued. */
+/* Returns the marks of the call when it is requeued within its object. */
 static inline pobj_marks pobj_threads_marks(const pobj_call *call) {
     pobj_marks due = call->due ? POBJ_DUE : POBJ_NO_MARKS;
     return pobj_threads_is_aborted(call) ? (pobj_marks)(due | POBJ_ABORTED) : due;
+}
+
+/* Returns the marks of the call when it is issued. */
+static inline pobj_marks pobj_threads_first_marks(const pobj_call *call) {
+    pobj_marks marks = pobj_threads_marks(call);
+    return call->without_abort ? (pobj_marks)(marks | POBJ_WITHOUT_ABORT) : marks;
 }
 
 static inline pobj_barrier pobj_threads_barrier(pobj_protected *object, uint64_t entry) {
@@ -266,6 +278,7 @@ static inline pobj_barrier pobj_threads_barrier(pobj_protected *object, uint64_t
         return POBJ_OPEN;
     object->evaluated = entry;
     object->raised = false;
+    object->counted = false;
     bool is_open = barrier(object);
     if (object->raised)
         return POBJ_RAISED;
@@ -277,68 +290,85 @@ static inline uint64_t pobj_threads_answer(pobj_threads_action *action, uint64_t
     return pobj_answer(&object->calls, pobj_threads_barrier(object, entry), &action->step);
 }
 
+static inline uint64_t pobj_threads_number_of(const pobj_call *call) {
+    return (uint64_t)(uintptr_t)call;
+}
+
 static inline pobj_call *pobj_threads_caller(const pobj_threads_action *action) {
     return (pobj_call *)(uintptr_t)action->step.caller;
 }
 
-/* Keeps the ticket of the step's call, which is queued, and answers the barrier that the engine asks for. */
-static inline uint64_t pobj_threads_queued(pobj_threads_action *action, uint64_t entry) {
+/* Keeps the ticket of the step's call, which is queued. */
+static inline void pobj_threads_keep(pobj_threads_action *action) {
     pobj_call *call = pobj_threads_caller(action);
     call->key = action->step.key;
     call->number = action->step.number;
-    return pobj_threads_answer(action, entry);
 }
 
-/* Tells the engine that the body has completed its call, and ends the call. */
-static inline uint64_t pobj_threads_complete(
-    pobj_threads_action *action, pobj_call *call, pobj_body_end how, pobj_outcome outcome) {
-    uint64_t answer = pobj_body_ended(&action->object->calls, how, 0, POBJ_NO_MARKS, &action->step);
-    pobj_threads_end(action, call, outcome);
-    return answer;
-}
-
-/* Tells the engine that the body has requeued its call to another object, and keeps the call for that one. */
-static inline uint64_t pobj_threads_move(pobj_threads_action *action, pobj_call *call) {
-    uint64_t answer = pobj_body_ended(&action->object->calls, POBJ_REQUEUED_ELSEWHERE, 0, POBJ_NO_MARKS, &action->step);
-    pobj_threads_append(&action->moved, call);
-    pobj_threads_place(call, call->target);
-    return answer;
-}
-
-/* Carries out the requeue of a call by its body. */
-static inline uint64_t pobj_threads_requeue(pobj_threads_action *action, pobj_call *call, pobj_body_end how) {
-    if (call->target_entry >= call->target->number)
-        return pobj_threads_complete(action, call, POBJ_COMPLETED, POBJ_CALL_MISUSE);
-    if (!pobj_threads_can_wait(call))
-        return pobj_threads_complete(action, call, POBJ_COMPLETED, POBJ_CALL_NO_MEMORY);
-    if (how == POBJ_REQUEUED_ELSEWHERE)
-        return pobj_threads_move(action, call);
-    return pobj_body_ended(&action->object->calls, how, call->target_entry, pobj_threads_marks(call), &action->step);
-}
-
-static inline int pobj_threads_body(pobj_protected *object, uint64_t entry, pobj_call *call) {
-    call->entry = entry;
+/* Returns how a body that requeues its call has ended. It has completed the call if the requeue can't be carried out. */
+static inline pobj_body_end pobj_threads_requeue(pobj_call *call, pobj_body_end how) {
+    bool is_there = call->target_entry < call->target->number;
     call->error = 0;
     call->number = 0;
-    call->said = POBJ_COMPLETED;
-    return object->entries[entry].body(call);
+    if (is_there && pobj_threads_can_wait(call))
+        return how;
+    call->outcome = is_there ? POBJ_CALL_NO_MEMORY : POBJ_CALL_MISUSE;
+    return POBJ_COMPLETED;
 }
 
-/* Runs the body of the entry for the call of the step. POBJ_FAILED ends the queued calls even if it is misuse. */
-static inline uint64_t pobj_threads_run(pobj_threads_action *action, uint64_t entry) {
-    pobj_call *call = pobj_threads_caller(action);
-    int how = pobj_threads_body(action->object, entry, call);
+/* Returns how the body that returned this has ended, and sets the outcome of its call unless it is requeued. POBJ_FAILED ends
+   the queued calls even if it is misuse. */
+static inline pobj_body_end pobj_threads_how(pobj_call *call, int how) {
     pobj_body_end end = how == POBJ_FAILED ? POBJ_FAILED : POBJ_COMPLETED;
-    if (how == (int)end && call->said == POBJ_COMPLETED)
-        return pobj_threads_complete(action, call, end, call->error == 0 ? POBJ_CALL_COMPLETED : POBJ_CALL_ERROR);
+    if (how == (int)end && call->said == POBJ_COMPLETED) {
+        call->outcome = call->error == 0 ? POBJ_CALL_COMPLETED : POBJ_CALL_ERROR;
+        return end;
+    }
     if (how == call->said && (how == POBJ_REQUEUED || how == POBJ_REQUEUED_WITH_ABORT || how == POBJ_REQUEUED_ELSEWHERE))
-        return pobj_threads_requeue(action, call, (pobj_body_end)how);
-    return pobj_threads_complete(action, call, end, POBJ_CALL_MISUSE);
+        return pobj_threads_requeue(call, (pobj_body_end)how);
+    call->outcome = POBJ_CALL_MISUSE;
+    return end;
+}
+
+/* Runs the body of the entry for the call. Returns how it has ended. */
+static inline pobj_body_end pobj_threads_body(pobj_protected *object, pobj_call *call, uint64_t entry) {
+    call->entry = entry;
+    call->said = POBJ_COMPLETED;
+    return pobj_threads_how(call, object->entries[entry].body(call));
+}
+
+/* Returns the entry to which the body has requeued its call, or 0. */
+static inline uint64_t pobj_threads_target_of(const pobj_call *call, pobj_body_end how) {
+    return how < POBJ_REQUEUED ? 0 : call->target_entry;
+}
+
+/* Ends the call, or keeps it for another object, as its body has ended. */
+static inline void pobj_threads_settle(pobj_threads_action *action, pobj_call *call, pobj_body_end how) {
+    if (how == POBJ_COMPLETED || how == POBJ_FAILED) {
+        pobj_threads_end(action, call, call->outcome);
+    } else if (how == POBJ_REQUEUED_ELSEWHERE) {
+        pobj_threads_append(&action->moved, call);
+        pobj_threads_place(call, call->target);
+    }
+}
+
+/* Runs the body of the entry for the call of the step. */
+static inline uint64_t pobj_threads_run(pobj_threads_action *action, uint64_t entry) {
+    pobj_object *calls = &action->object->calls;
+    pobj_call *call = pobj_threads_caller(action);
+    call->number = 0;
+    pobj_body_end how = pobj_threads_body(action->object, call, entry);
+    uint64_t target = pobj_threads_target_of(call, how);
+    uint64_t answer = pobj_body_ended(calls, how, target, pobj_threads_marks(call), &action->step);
+    pobj_threads_settle(action, call, how);
+    return answer;
 }
 
 /* Ends the step's call, which no body completed. */
 static inline uint64_t pobj_threads_unserved(pobj_threads_action *action, pobj_outcome outcome) {
-    pobj_threads_end(action, pobj_threads_caller(action), outcome);
+    pobj_call *call = pobj_threads_caller(action);
+    call->number = 0;
+    pobj_threads_end(action, call, outcome);
     return pobj_next(&action->object->calls, &action->step);
 }
 
@@ -347,32 +377,32 @@ static inline uint64_t pobj_threads_cancelled(pobj_threads_action *action) {
     return pobj_threads_unserved(action, is_aborted ? POBJ_CALL_ABORTED : POBJ_CALL_EXPIRED);
 }
 
+/* Does what the engine answers. Returns what it answers then. */
+static inline uint64_t pobj_threads_do(pobj_threads_action *action, uint64_t answer) {
+    switch (pobj_action_of(answer)) {
+    case POBJ_QUEUED:
+        pobj_threads_keep(action);
+        return pobj_threads_answer(action, pobj_entry_of(answer));
+    case POBJ_EVALUATE:
+        return pobj_threads_answer(action, pobj_entry_of(answer));
+    case POBJ_RUN:
+        return pobj_threads_run(action, pobj_entry_of(answer));
+    case POBJ_CANCELLED:
+        return pobj_threads_cancelled(action);
+    case POBJ_PROGRAM_ERROR:
+        return pobj_threads_unserved(action, POBJ_CALL_PROGRAM_ERROR);
+    case POBJ_REST:
+    case POBJ_NO_MEMORY:
+    case POBJ_REFUSED:
+    default: /* a step of this header is refused only if something has written into the object */
+        abort();
+    }
+}
+
 /* Does what the engine answers, until the protected action is over. */
-static inline void pobj_threads_drive(pobj_threads_action *action, uint64_t answer) {
-    for (;;)
-        switch (pobj_action_of(answer)) {
-        case POBJ_REST:
-            return;
-        case POBJ_EVALUATE:
-            answer = pobj_threads_answer(action, pobj_entry_of(answer));
-            break;
-        case POBJ_RUN:
-            answer = pobj_threads_run(action, pobj_entry_of(answer));
-            break;
-        case POBJ_QUEUED:
-            answer = pobj_threads_queued(action, pobj_entry_of(answer));
-            break;
-        case POBJ_CANCELLED:
-            answer = pobj_threads_cancelled(action);
-            break;
-        case POBJ_PROGRAM_ERROR:
-            answer = pobj_threads_unserved(action, POBJ_CALL_PROGRAM_ERROR);
-            break;
-        case POBJ_NO_MEMORY:
-        case POBJ_REFUSED:
-        default: /* a step of this header is refused only if something has written into the object */
-            abort();
-        }
+POBJ_THREADS_IN_PLACE static inline void pobj_threads_drive(pobj_threads_action *action, uint64_t answer) {
+    while (pobj_action_of(answer) != POBJ_REST)
+        answer = pobj_threads_do(action, answer);
 }
 
 /* Begins a protected action on the object. Returns false if this thread is inside it. */
@@ -388,29 +418,82 @@ static inline void pobj_threads_unlock(pobj_threads_action *action) {
         pobj_threads_wake(call);
 }
 
-/* Issues the call on the object of the action. If the call may have to wait, first makes what its caller sleeps on. */
-static inline uint64_t pobj_threads_accept(pobj_threads_action *action, pobj_call *call, uint64_t entry) {
-    pobj_protected *object = action->object;
-    pobj_barrier barrier = pobj_threads_barrier(object, entry);
-    if (barrier == POBJ_CLOSED && !call->due && !pobj_threads_can_wait(call))
-        return POBJ_NO_MEMORY;
-    pobj_marks marks = pobj_threads_marks(call);
-    if (call->without_abort)
-        marks = (pobj_marks)(marks | POBJ_WITHOUT_ABORT);
-    return pobj_issue(&object->calls, (uint64_t)(uintptr_t)call, entry, marks, barrier, &action->step);
+/* Runs the body of the open entry for the call, and then issues the call as one that is served. */
+POBJ_THREADS_IN_PLACE static inline void pobj_threads_serve(
+    pobj_threads_action *action, pobj_call *call, uint64_t entry, pobj_marks marks) {
+    pobj_object *calls = &action->object->calls;
+    uint64_t caller = pobj_threads_number_of(call);
+    pobj_body_end how = pobj_threads_body(action->object, call, entry);
+    uint64_t target = pobj_threads_target_of(call, how);
+    uint64_t answer = pobj_served(calls, caller, entry, marks, how, target, pobj_threads_marks(call), &action->step);
+    pobj_threads_settle(action, call, how);
+    pobj_threads_drive(action, answer);
 }
 
-/* Issues the call on the object of the action, and does what the engine answers. */
-static inline void pobj_threads_issue(pobj_threads_action *action, pobj_call *call, uint64_t entry) {
-    if (action->object->finalized) {
-        pobj_threads_end(action, call, POBJ_CALL_PROGRAM_ERROR);
-        return;
-    }
-    uint64_t answer = pobj_threads_accept(action, call, entry);
+/* Carries out the call, whose barrier is open, if there is room for it. */
+POBJ_THREADS_IN_PLACE static inline void pobj_threads_pass(
+    pobj_threads_action *action, pobj_call *call, uint64_t entry, pobj_marks marks) {
+    pobj_action is_ready = pobj_action_of(pobj_ready(&action->object->calls));
+    if (is_ready == POBJ_REST)
+        pobj_threads_serve(action, call, entry, marks);
+    else if (is_ready == POBJ_NO_MEMORY)
+        pobj_threads_end(action, call, POBJ_CALL_NO_MEMORY);
+    else
+        abort(); /* as in pobj_threads_do */
+}
+
+static inline bool pobj_threads_turn_away(pobj_threads_action *action, pobj_call *call, uint64_t entry, pobj_marks marks) {
+    if (!pobj_turn_away(&action->object->calls, pobj_threads_number_of(call), entry, marks))
+        return false;
+    pobj_threads_end(action, call, POBJ_CALL_EXPIRED);
+    return true;
+}
+
+static inline bool pobj_threads_wait(pobj_threads_action *action, pobj_call *call, uint64_t entry, pobj_marks marks) {
+    if (!pobj_wait(&action->object->calls, pobj_threads_number_of(call), entry, marks, &action->step))
+        return false;
+    pobj_threads_keep(action);
+    return true;
+}
+
+/* Cancels the call if it is due, and queues it otherwise: its barrier is closed, and asked for no count. Returns false, and
+   changes nothing, if a call is queued already, if this one is aborted, or if there is no memory. */
+static inline bool pobj_threads_stop(pobj_threads_action *action, pobj_call *call, uint64_t entry, pobj_marks marks) {
+    return call->due ? pobj_threads_turn_away(action, call, entry, marks) : pobj_threads_wait(action, call, entry, marks);
+}
+
+/* Carries out step by step the call, whose barrier has this value. */
+static inline void pobj_threads_accept(
+    pobj_threads_action *action, pobj_call *call, uint64_t entry, pobj_marks marks, pobj_barrier barrier) {
+    pobj_object *calls = &action->object->calls;
+    uint64_t answer = pobj_issue(calls, pobj_threads_number_of(call), entry, marks, barrier, &action->step);
     if (pobj_action_of(answer) == POBJ_NO_MEMORY)
         pobj_threads_end(action, call, POBJ_CALL_NO_MEMORY);
     else
         pobj_threads_drive(action, answer);
+}
+
+/* Carries out the call, whose barrier has this value, in as few steps as possible. If it may have to wait, first makes what its
+   caller sleeps on. */
+POBJ_THREADS_IN_PLACE static inline void pobj_threads_carry_out(
+    pobj_threads_action *action, pobj_call *call, uint64_t entry, pobj_marks marks, pobj_barrier barrier) {
+    bool is_withdrawn = (marks & (POBJ_ABORTED | POBJ_WITHOUT_ABORT)) == POBJ_ABORTED;
+    if (barrier == POBJ_OPEN && !is_withdrawn)
+        pobj_threads_pass(action, call, entry, marks);
+    else if (barrier == POBJ_CLOSED && !call->due && !pobj_threads_can_wait(call))
+        pobj_threads_end(action, call, POBJ_CALL_NO_MEMORY);
+    else if (barrier != POBJ_CLOSED || action->object->counted || !pobj_threads_stop(action, call, entry, marks))
+        pobj_threads_accept(action, call, entry, marks, barrier);
+}
+
+/* Issues the call on the object of the action, and does all that this makes possible. */
+POBJ_THREADS_IN_PLACE static inline void pobj_threads_issue(pobj_threads_action *action, pobj_call *call, uint64_t entry) {
+    if (action->object->finalized) {
+        pobj_threads_end(action, call, POBJ_CALL_PROGRAM_ERROR);
+        return;
+    }
+    pobj_barrier barrier = pobj_threads_barrier(action->object, entry);
+    pobj_threads_carry_out(action, call, entry, pobj_threads_first_marks(call), barrier);
 }
 
 /* Issues a call that was requeued to another object there. */
@@ -420,8 +503,9 @@ static inline void pobj_threads_go_on(pobj_threads_action *action, pobj_call *ca
         pobj_threads_unlock(action);
         return;
     }
+    bool is_own = call == action->own;
     pobj_threads_end(action, call, POBJ_CALL_MISUSE); /* this thread is inside that object, and can't begin an action there */
-    if (call != action->own)
+    if (!is_own)
         pobj_threads_wake(pobj_threads_take(&action->ended));
 }
 
@@ -439,6 +523,7 @@ static inline pobj_cancellation pobj_threads_withdraw(pobj_threads_action *actio
     if (call->number != 0)
         made = pobj_cancel(calls, call->key, call->number, expired);
     if (made == POBJ_CANCEL_MADE) {
+        call->number = 0;
         pobj_threads_end(action, call, expired ? POBJ_CALL_EXPIRED : POBJ_CALL_ABORTED);
         pobj_threads_drive(action, pobj_next(calls, &action->step));
     } else if (expired) {
@@ -449,7 +534,8 @@ static inline pobj_cancellation pobj_threads_withdraw(pobj_threads_action *actio
 
 /* Attempts to cancel the call, wherever it is (9.5.3). */
 static inline pobj_cancellation pobj_threads_cancel(pobj_call *call, pobj_call *own, bool expired) {
-    pobj_threads_action action = pobj_threads_action_of(own);
+    pobj_threads_action action;
+    pobj_threads_begin(&action, own);
     for (pobj_protected *object; (object = pobj_threads_where(call)) != NULL; pobj_threads_unlock(&action)) {
         if (!pobj_threads_enter(&action, object))
             return POBJ_CANCEL_REFUSED;
@@ -462,9 +548,17 @@ static inline pobj_cancellation pobj_threads_cancel(pobj_call *call, pobj_call *
     return POBJ_CANCEL_UNKNOWN;
 }
 
+/* Lets other threads run some times, until the call has ended: a short wait costs less than a sleep. */
+static inline void pobj_threads_yield(const pobj_call *call) {
+    for (int i = 0; i < 16 && !__atomic_load_n(&call->woken, __ATOMIC_RELAXED); i++)
+        sched_yield();
+}
+
 /* Sleeps until the call has ended or its time has come. Returns whether it has ended. */
 static inline bool pobj_threads_sleep(pobj_call *call, const struct timespec *until) {
     int error = 0;
+    if (until == NULL)
+        pobj_threads_yield(call);
     pthread_mutex_lock(&call->mutex);
     while (!call->woken && error == 0)
         if (until == NULL)
@@ -488,14 +582,15 @@ static inline void pobj_threads_await(pobj_call *call, const struct timespec *un
 /* Makes the call that a record of this thread describes, and waits until it has ended. */
 static inline pobj_outcome pobj_threads_make(
     pobj_protected *object, uint64_t entry, pobj_call *call, const struct timespec *until) {
-    pobj_threads_action action = pobj_threads_action_of(call);
+    pobj_threads_action action;
+    pobj_threads_begin(&action, call);
     if (!pobj_threads_enter(&action, object)) {
         pobj_threads_place(call, NULL);
         return POBJ_CALL_MISUSE;
     }
     pobj_threads_issue(&action, call, entry);
     pobj_threads_leave(&action);
-    if (!action.own_ended)
+    if (action.own != NULL)
         pobj_threads_await(call, until);
     if (call->can_wait) {
         pthread_cond_destroy(&call->wake);
@@ -559,6 +654,7 @@ static inline bool pobj_threads_set_up(pobj_protected *object, void *data, const
     object->entries = entries;
     object->number = number;
     object->raised = false;
+    object->counted = false;
     object->finalized = false;
     if (pobj_threads_have_bodies(entries, number) && pobj_threads_make_mutex(&object->mutex))
         return true;
@@ -598,7 +694,8 @@ POBJ_THREADS_HEED static inline bool pobj_protected_limit(pobj_protected *object
 /* Finalizes the object: each queued call ends by POBJ_CALL_PROGRAM_ERROR, and so does each later call, procedure and
    function (9.4). Returns false if this thread is inside the object. */
 POBJ_THREADS_HEED static inline bool pobj_protected_finalize(pobj_protected *object) {
-    pobj_threads_action action = pobj_threads_action_of(NULL);
+    pobj_threads_action action;
+    pobj_threads_begin(&action, NULL);
     if (!pobj_threads_enter(&action, object))
         return false;
     if (!object->finalized) {
@@ -622,6 +719,7 @@ static inline void pobj_protected_destroy(pobj_protected *object) {
 static inline uint64_t pobj_entry_count(pobj_protected *object, uint64_t entry) {
     bool is_outside = pthread_mutex_lock(&object->mutex) == 0;
     uint64_t count = pobj_count(&object->calls, entry);
+    object->counted = true;
     if (is_outside)
         pthread_mutex_unlock(&object->mutex);
     return count;
@@ -680,7 +778,8 @@ static inline pobj_cancellation pobj_abort(pobj_call *record) {
    object is finalized returns POBJ_CALL_PROGRAM_ERROR, and if this thread is inside it POBJ_CALL_MISUSE: then it didn't run. */
 POBJ_THREADS_HEED static inline pobj_outcome pobj_procedure(
     pobj_protected *object, void (*procedure)(pobj_protected *object, void *parameters), void *parameters) {
-    pobj_threads_action action = pobj_threads_action_of(NULL);
+    pobj_threads_action action;
+    pobj_threads_begin(&action, NULL);
     if (!pobj_threads_enter(&action, object))
         return POBJ_CALL_MISUSE;
     bool runs = !object->finalized;

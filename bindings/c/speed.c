@@ -1,6 +1,7 @@
 /* SPDX-License-Identifier: MIT */
 /* What calls cost here, by the library, and there, the same work by a mutex and condition variables alone. A row has the
-   nanoseconds of one call, or of one item of a buffer, here and there: medians of 9 rounds, which take turns. */
+   nanoseconds of one call, or of one item of a buffer, here and there: medians of 41 short rounds, which take turns, so that they
+   hold on a busy machine too. */
 #define _POSIX_C_SOURCE 200809L
 
 #include "pobj_threads.h"
@@ -9,7 +10,7 @@
 #include <unistd.h>
 
 enum { COUNT, CLOSED, PUT, GET, ENTRIES };
-enum { ROUNDS = 9, CALLS = 200000, ITEMS = 40000, ROOM = 16, MOST_PAIRS = 2 };
+enum { ROUNDS = 41, CALLS = 20000, ITEMS = 8000, ROOM = 16, MOST_PAIRS = 2 };
 
 struct data {
     uint64_t counter;

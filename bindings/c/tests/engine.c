@@ -160,7 +160,16 @@ static void actions(void) {
     pobj_free(&object);
 }
 
-enum { ISSUE = 1, ANSWER = 2, ENDED = 4, NEXT = 8, CANCEL = 16, FINALIZE = 32 };
+enum { ISSUE = 1, ANSWER = 2, ENDED = 4, NEXT = 8, CANCEL = 16, FINALIZE = 32, READY = 64 };
+
+/* Checks that each of the steps in one is refused. */
+static void refuses_steps_in_one(pobj_step *scrap) {
+    CHECK(pobj_ready(&object) == POBJ_REFUSED);
+    for (pobj_body_end how = POBJ_COMPLETED; how <= POBJ_REQUEUED_ELSEWHERE; how++)
+        CHECK(pobj_served(&object, 99, 0, 0, how, 0, 0, scrap) == POBJ_REFUSED);
+    for (pobj_marks marks = POBJ_NO_MARKS; marks <= 7; marks++)
+        CHECK(!pobj_wait(&object, 99, 0, marks, scrap) && !pobj_turn_away(&object, 99, 0, marks));
+}
 
 /* Checks that every step is refused but the one that the object waits for, and that refusing changes no step and no queue. */
 static void refuses_all_but(unsigned awaited) {
@@ -178,12 +187,14 @@ static void refuses_all_but(unsigned awaited) {
     CHECK((awaited & CANCEL) || cancel(0, 0) == POBJ_CANCEL_REFUSED);
     CHECK((awaited & CANCEL) || cancel(0, 1) == POBJ_CANCEL_REFUSED);
     CHECK((awaited & FINALIZE) || pobj_finalize(&object, &scrap) == POBJ_REFUSED);
+    if (!(awaited & READY))
+        refuses_steps_in_one(&scrap);
     for (uint64_t e = 0; e < ENTRIES; e++)
         CHECK(pobj_count(&object, e) == counts[e]);
     CHECK(scrap.caller == 11 && scrap.key == 12 && scrap.number == 13);
 }
 
-static const unsigned commands = ISSUE | NEXT | CANCEL | FINALIZE;
+static const unsigned commands = ISSUE | NEXT | CANCEL | FINALIZE | READY;
 
 /* In each state an object refuses every step that it doesn't wait for, and then goes on as it would have. */
 static void refusals(void) {
@@ -213,7 +224,7 @@ static void refusals(void) {
     CHECK(is_of(pobj_issue(&object, 4, 0, POBJ_ABORTED, POBJ_CLOSED, &step), POBJ_CANCELLED, 4));
     refuses_all_but(NEXT);
     CHECK(is_rest(pobj_next(&object, &step)) && is_rest(pobj_finalize(&object, &step)));
-    refuses_all_but(commands & ~(unsigned)ISSUE);
+    refuses_all_but(commands & ~(unsigned)(ISSUE | READY));
     pobj_free(&object);
 }
 
@@ -475,6 +486,7 @@ static void none(void) {
         CHECK(pobj_answer(&object, POBJ_OPEN, &step) == POBJ_REFUSED && pobj_next(&object, &step) == POBJ_REFUSED);
         CHECK(pobj_body_ended(&object, POBJ_COMPLETED, 0, 0, &step) == POBJ_REFUSED);
         CHECK(pobj_finalize(&object, &step) == POBJ_REFUSED && pobj_cancel(&object, 0, 1, 0) == POBJ_CANCEL_REFUSED);
+        refuses_steps_in_one(&step);
         CHECK(!pobj_limit(&object, 0, 1) && pobj_count(&object, 0) == 0);
         CHECK(step.caller == before.caller && step.key == before.key && step.number == before.number && object.at == NULL);
         pobj_free(&object);
@@ -513,12 +525,159 @@ static void rounds(int times) {
     }
 }
 
+/* The same by steps in one. */
+static void rounds_in_one(int times) {
+    for (int i = 0; i < times; i++) {
+        CHECK(is_rest(pobj_ready(&object)) && is_rest(pobj_served(&object, 1, 0, 0, POBJ_COMPLETED, 0, 0, &step)));
+        CHECK(pobj_wait(&object, 2, 1, 0, &step) && is(pobj_next(&object, &step), POBJ_EVALUATE, 1));
+        CHECK(is_of(pobj_answer(&object, POBJ_OPEN, &step), POBJ_RUN, 2));
+        CHECK(is_rest(pobj_body_ended(&object, POBJ_COMPLETED, 0, 0, &step)));
+        CHECK(pobj_turn_away(&object, 3, 1, POBJ_DUE));
+    }
+}
+
 static void memory(void) {
     begin();
     rounds(1000);
     size_t before = mallinfo2().uordblks + mallinfo2().hblkhd;
     rounds(2000000 / 3);
+    rounds_in_one(2000000 / 3);
     CHECK(mallinfo2().uordblks + mallinfo2().hblkhd <= before);
+    pobj_free(&object);
+}
+
+/* pobj_ready says whether there is room for one more call, and changes nothing else. */
+static void ready(void) {
+    begin();
+    CHECK(is_rest(pobj_ready(&object)) && issue(0, 1, 0) == QUEUED && is_rest(pobj_ready(&object)));
+    CHECK(pobj_count(&object, 1) == 1 && issue(1, 1, 0) == QUEUED && cancel(0, 0) == POBJ_CANCEL_MADE);
+    next();
+    carry_out(pobj_finalize(&object, &step));
+    CHECK(pobj_ready(&object) == POBJ_REFUSED && calls[1].state == PROGRAM_ERROR);
+    pobj_free(&object);
+    forget();
+    CHECK(pobj_make_fixed(&object, ENTRIES, 2) && issue(0, 1, 0) == QUEUED);
+    CHECK(is_rest(pobj_ready(&object)) && is_rest(pobj_ready(&object)) && issue(1, 1, 0) == QUEUED);
+    step.caller = 99;
+    CHECK(pobj_ready(&object) == POBJ_NO_MEMORY && pobj_ready(&object) == POBJ_NO_MEMORY && step.caller == 99);
+    CHECK(pobj_served(&object, 2, 0, 0, POBJ_REQUEUED, 1, 0, &step) == POBJ_NO_MEMORY && step.caller == 99);
+    CHECK(pobj_count(&object, 1) == 2 && cancel(1, 0) == POBJ_CANCEL_MADE);
+    next();
+    CHECK(is_rest(pobj_ready(&object)) && cancel(0, 1) == POBJ_CANCEL_MADE);
+    pobj_free(&object);
+}
+
+/* Issues a call whose body has ended, and carries out what is next. Returns what has become of the call then. */
+static int serve(
+    uint64_t caller, uint64_t entry, pobj_marks marks, pobj_body_end how, uint64_t target, pobj_marks target_marks) {
+    calls[caller].state = NONE;
+    CHECK(is_rest(pobj_ready(&object)));
+    carry_out(pobj_served(&object, caller, entry, marks, how, target, target_marks, &step));
+    return calls[caller].state;
+}
+
+/* Calls that are issued when their bodies have ended. Then come the queued calls: their barriers, or their ends by a failure. */
+static void served(void) {
+    begin();
+    for (uint64_t entry = 0; entry < ENTRIES; entry++) {
+        CHECK(is_rest(pobj_served(&object, 1, entry, 0, POBJ_COMPLETED, 0, 0, &step)));
+        CHECK(is_rest(pobj_served(&object, 1, entry, POBJ_DUE, POBJ_FAILED, ENTRIES, 0, &step)));
+        CHECK(is_rest(pobj_served(&object, 1, entry, POBJ_WITHOUT_ABORT, POBJ_REQUEUED_ELSEWHERE, 9, 0, &step)));
+    }
+    CHECK(issue(0, 1, 0) == QUEUED && issue(1, 2, 0) == QUEUED);
+    CHECK(is(pobj_served(&object, 2, 0, 0, POBJ_COMPLETED, 0, 0, &step), POBJ_EVALUATE, 1));
+    refuses_all_but(ANSWER);
+    CHECK(is(pobj_answer(&object, POBJ_CLOSED, &step), POBJ_EVALUATE, 2) && is_rest(pobj_answer(&object, POBJ_CLOSED, &step)));
+    CHECK(is(pobj_served(&object, 2, 0, 0, POBJ_REQUEUED_ELSEWHERE, 0, 0, &step), POBJ_EVALUATE, 1));
+    CHECK(is_of(pobj_answer(&object, POBJ_OPEN, &step), POBJ_RUN, 0));
+    carry_out(pobj_body_ended(&object, POBJ_COMPLETED, 0, 0, &step));
+    CHECK(issue(0, 0, 0) == QUEUED && pobj_count(&object, 2) == 1);
+    CHECK(is_of(pobj_served(&object, 2, 0, 0, POBJ_FAILED, 0, 0, &step), POBJ_PROGRAM_ERROR, 1));
+    carry_out(ended_so(1, PROGRAM_ERROR));
+    CHECK(calls[0].state == PROGRAM_ERROR && ended == 2 && is_rest(pobj_next(&object, &step)));
+    pobj_free(&object);
+}
+
+/* Such calls that are requeued within the object. */
+static void served_and_requeued(void) {
+    begin();
+    CHECK(serve(0, 0, 0, POBJ_REQUEUED, 1, 0) == QUEUED);
+    CHECK(cancel(0, 0) == POBJ_CANCEL_KEPT && cancel(0, 1) == POBJ_CANCEL_KEPT);
+    CHECK(serve(1, 0, 0, POBJ_REQUEUED_WITH_ABORT, 1, 0) == QUEUED && cancel(1, 1) == POBJ_CANCEL_MADE);
+    next();
+    CHECK(serve(2, 0, 0, POBJ_REQUEUED_WITH_ABORT, 1, POBJ_DUE) == CANCELLED);
+    CHECK(serve(3, 0, POBJ_DUE, POBJ_REQUEUED_WITH_ABORT, 1, 0) == CANCELLED);
+    CHECK(serve(4, 0, 0, POBJ_REQUEUED_WITH_ABORT, 1, POBJ_ABORTED) == CANCELLED);
+    CHECK(serve(5, 0, POBJ_WITHOUT_ABORT | POBJ_ABORTED, POBJ_REQUEUED_WITH_ABORT, 1, 0) == CANCELLED);
+    CHECK(serve(6, 0, POBJ_DUE, POBJ_REQUEUED, 1, POBJ_DUE | POBJ_ABORTED) == QUEUED && pobj_count(&object, 1) == 2);
+    CHECK(pobj_limit(&object, 1, 2) && serve(7, 0, 0, POBJ_REQUEUED, 1, 0) == PROGRAM_ERROR);
+    entries[2].permits = 1;
+    CHECK(serve(8, 0, POBJ_DUE, POBJ_REQUEUED_WITH_ABORT, 2, 0) == COMPLETED);
+    ended = 0;
+    permit(1, 2);
+    CHECK(ended == 2 && order[0] == 0 && order[1] == 6 && cancel(0, 0) == POBJ_CANCEL_UNKNOWN);
+    pobj_free(&object);
+}
+
+/* Such calls that are refused, which changes nothing: no such entry, target or body end, or an abort. */
+static void not_served(void) {
+    const uint64_t no_entries[] = {ENTRIES, 65535, UINT64_MAX}, no_ends[] = {5, 256, UINT64_MAX};
+    pobj_step scrap = {11, 12, 13};
+    begin();
+    CHECK(issue(0, 1, 0) == QUEUED && is_rest(pobj_ready(&object)));
+    for (int i = 0; i < 3; i++) {
+        CHECK(pobj_served(&object, 1, no_entries[i], 0, POBJ_COMPLETED, 0, 0, &scrap) == POBJ_REFUSED);
+        CHECK(pobj_served(&object, 1, 0, 0, POBJ_REQUEUED, no_entries[i], 0, &scrap) == POBJ_REFUSED);
+        CHECK(pobj_served(&object, 1, 0, 0, POBJ_REQUEUED_WITH_ABORT, no_entries[i], 0, &scrap) == POBJ_REFUSED);
+        CHECK(pobj_served(&object, 1, 0, 0, (pobj_body_end)no_ends[i], 0, 0, &scrap) == POBJ_REFUSED);
+    }
+    for (pobj_body_end how = POBJ_COMPLETED; how <= POBJ_REQUEUED_ELSEWHERE; how++) {
+        CHECK(pobj_served(&object, 1, 0, POBJ_ABORTED, how, 0, 0, &scrap) == POBJ_REFUSED);
+        CHECK(pobj_served(&object, 1, 0, POBJ_ABORTED | POBJ_DUE, how, 0, 0, &scrap) == POBJ_REFUSED);
+    }
+    CHECK(scrap.caller == 11 && scrap.key == 12 && scrap.number == 13);
+    CHECK(pobj_count(&object, 1) == 1 && serve(1, 0, 0, POBJ_COMPLETED, 0, 0) == NONE && cancel(0, 0) == POBJ_CANCEL_MADE);
+    pobj_free(&object);
+}
+
+/* Calls that wait alone, and calls that can't. */
+static void waits(void) {
+    begin();
+    CHECK(pobj_wait(&object, 7, 1, 0, &step) && step.caller == 7 && step.number >= 1 && pobj_count(&object, 1) == 1);
+    refuses_all_but(commands);
+    CHECK(!pobj_wait(&object, 8, 1, 0, &step) && !pobj_wait(&object, 8, 2, 0, &step) && step.caller == 7);
+    CHECK(is(pobj_next(&object, &step), POBJ_EVALUATE, 1) && is_rest(pobj_answer(&object, POBJ_CLOSED, &step)));
+    CHECK(pobj_cancel(&object, step.key, step.number, 1) == POBJ_CANCEL_MADE);
+    next();
+    CHECK(!pobj_wait(&object, 8, 1, POBJ_DUE, &step) && !pobj_wait(&object, 8, 1, POBJ_ABORTED, &step));
+    CHECK(!pobj_wait(&object, 8, ENTRIES, 0, &step) && !pobj_wait(&object, 8, UINT64_MAX, 0, &step) && step.caller == 7);
+    CHECK(pobj_limit(&object, 2, 1) && pobj_wait(&object, 8, 2, POBJ_WITHOUT_ABORT, &step) && pobj_count(&object, 2) == 1);
+    CHECK(pobj_cancel(&object, step.key, step.number, 0) == POBJ_CANCEL_KEPT);
+    set_body(2, POBJ_REQUEUED_WITH_ABORT, 1, 0);
+    permit(2, 1);
+    CHECK(calls[8].state == CANCELLED && is_rest(pobj_next(&object, &step)));
+    CHECK(pobj_wait(&object, 9, 2, POBJ_WITHOUT_ABORT | POBJ_ABORTED, &step));
+    permit(2, 1);
+    CHECK(calls[9].state == CANCELLED);
+    pobj_free(&object);
+    CHECK(pobj_make_fixed(&object, ENTRIES, 0) && !pobj_wait(&object, 1, 0, 0, &step) && issue(1, 0, 0) == NO_MEMORY);
+    pobj_free(&object);
+}
+
+/* Calls that are turned away, and calls that can't be. */
+static void turned_away(void) {
+    begin();
+    CHECK(pobj_limit(&object, 1, 1) && pobj_turn_away(&object, 7, 1, POBJ_DUE) && pobj_turn_away(&object, 7, 1, POBJ_DUE));
+    CHECK(pobj_count(&object, 1) == 0 && is_rest(pobj_next(&object, &step)));
+    refuses_all_but(commands);
+    CHECK(!pobj_turn_away(&object, 7, ENTRIES, POBJ_DUE) && !pobj_turn_away(&object, 7, UINT64_MAX, POBJ_DUE));
+    CHECK(!pobj_turn_away(&object, 7, 1, 0) && issue(7, 1, 0) == QUEUED);
+    CHECK(!pobj_turn_away(&object, 8, 1, POBJ_DUE) && !pobj_turn_away(&object, 8, 2, POBJ_DUE) && pobj_count(&object, 1) == 1);
+    CHECK(issue(8, 1, POBJ_DUE) == PROGRAM_ERROR && issue(8, 2, POBJ_DUE) == CANCELLED && cancel(7, 1) == POBJ_CANCEL_MADE);
+    next();
+    CHECK(!pobj_turn_away(&object, 7, 1, POBJ_DUE | POBJ_ABORTED) && issue(7, 1, POBJ_DUE | POBJ_ABORTED) == CANCELLED);
+    CHECK(!pobj_turn_away(&object, 7, 1, POBJ_DUE | POBJ_WITHOUT_ABORT));
+    CHECK(issue(7, 1, POBJ_DUE | POBJ_WITHOUT_ABORT) == QUEUED && pobj_count(&object, 1) == 1);
     pobj_free(&object);
 }
 
@@ -540,6 +699,12 @@ int main(void) {
     finalization();
     sizes();
     none();
+    ready();
+    served();
+    served_and_requeued();
+    not_served();
+    waits();
+    turned_away();
     many_requeues();
     memory();
     printf("engine: passed\n");

@@ -31,8 +31,16 @@ uint64_t swap(pobj_marks marks, pobj_barrier barrier, pobj_body_end how, bool is
     return pobj_answer(&object, pobj_cancel(&object, 0, 1, 0), &step);
 #elif MISTAKE == 9
     return pobj_cancel(&object, 0, 1, 0) == pobj_action_of(7);
+#elif MISTAKE == 23
+    return pobj_served(&object, 1, 0, how, marks, 0, POBJ_NO_MARKS, &step);
+#elif MISTAKE == 24
+    return pobj_wait(&object, 1, 0, POBJ_CLOSED, &step);
+#elif MISTAKE == 25
+    return pobj_turn_away(&object, 1, 0, barrier);
 #else
-    return pobj_issue(&object, 1, 0, both, chosen, &step) + pobj_body_ended(&object, how, 0, marks, &step);
+    return pobj_issue(&object, 1, 0, both, chosen, &step) + pobj_body_ended(&object, how, 0, marks, &step) +
+        pobj_served(&object, 1, 0, both, how, 0, marks, &step) + pobj_wait(&object, 1, 0, marks, &step) +
+        pobj_turn_away(&object, 1, 0, both);
 #endif
 }
 

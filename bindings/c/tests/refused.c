@@ -100,6 +100,14 @@ static void rests(uint64_t answer) {
     CHECK(pobj_action_of(answer) == POBJ_REST);
 }
 
+/* Cancels the step's call, which has just been queued, once its protected action is over. */
+static void withdraw(void) {
+    pobj_step ticket = step;
+    rests(close(pobj_answer(&object, POBJ_CLOSED, &step)));
+    CHECK(pobj_cancel(&object, ticket.key, ticket.number, 1) == POBJ_CANCEL_MADE);
+    rests(close(pobj_next(&object, &step)));
+}
+
 /* Makes a call that is served at once, one that is requeued and then cancelled, and a conditional one: none stays. */
 static void pass(uint64_t caller) {
     uint64_t before = queued();
@@ -107,13 +115,57 @@ static void pass(uint64_t caller) {
     rests(close(pobj_body_ended(&object, POBJ_COMPLETED, 0, 0, &step)));
     CHECK(pobj_action_of(issue_at_last(caller, 1, 0, POBJ_OPEN)) == POBJ_RUN);
     CHECK(pobj_action_of(pobj_body_ended(&object, POBJ_REQUEUED_WITH_ABORT, 2, 0, &step)) == POBJ_QUEUED);
-    pobj_step ticket = step;
-    rests(close(pobj_answer(&object, POBJ_CLOSED, &step)));
-    CHECK(pobj_cancel(&object, ticket.key, ticket.number, 1) == POBJ_CANCEL_MADE);
-    rests(close(pobj_next(&object, &step)));
+    withdraw();
     CHECK(pobj_action_of(close(issue_at_last(caller, 2, POBJ_DUE, POBJ_CLOSED))) == POBJ_CANCELLED && step.caller == caller);
     rests(close(pobj_next(&object, &step)));
     CHECK(queued() == before);
+}
+
+/* Makes room for a call. If its memory is refused, nothing has changed, and it is asked for again. */
+static void ready_at_last(void) {
+    uint64_t before = queued();
+    unsigned granted = refusals;
+    uint64_t answer = pobj_ready(&object);
+    if (pobj_action_of(answer) == POBJ_NO_MEMORY) {
+        CHECK(refusals == granted + 1 && queued() == before);
+        answer = pobj_ready(&object);
+    }
+    rests(answer);
+}
+
+/* Issues a call that its body has requeued. pobj_ready made room for it, so this takes no memory. */
+static uint64_t served_and_requeued(uint64_t caller) {
+    unsigned granted = refusals;
+    long before = left;
+    left = 0;
+    uint64_t answer = pobj_served(&object, caller, 1, 0, POBJ_REQUEUED_WITH_ABORT, 2, 0, &step);
+    left = before;
+    CHECK(refusals == granted);
+    return answer;
+}
+
+/* Queues a call alone, and cancels it. If its memory is refused, nothing has changed, and it is queued then. */
+static void wait_at_last(uint64_t caller) {
+    unsigned granted = refusals;
+    if (!pobj_wait(&object, caller, 2, 0, &step)) {
+        CHECK(refusals == granted + 1 && queued() == 0);
+        CHECK(pobj_wait(&object, caller, 2, 0, &step));
+    }
+    CHECK(queued() == 1 && pobj_cancel(&object, step.key, step.number, 1) == POBJ_CANCEL_MADE);
+    rests(close(pobj_next(&object, &step)));
+}
+
+/* Makes the calls of `pass` by steps in one. If no other call is queued, one more waits first. */
+static void pass_in_one(uint64_t caller) {
+    uint64_t before = queued();
+    if (before == 0)
+        wait_at_last(caller);
+    ready_at_last();
+    rests(close(pobj_served(&object, caller, 0, 0, POBJ_COMPLETED, 0, 0, &step)));
+    ready_at_last();
+    CHECK(pobj_action_of(served_and_requeued(caller)) == POBJ_QUEUED);
+    withdraw();
+    CHECK(pobj_turn_away(&object, caller, 2, POBJ_DUE) == (before == 0) && queued() == before);
 }
 
 /* Serves all calls, those of each entry in the order in which they were queued. */
@@ -131,13 +183,13 @@ static void serve(uint64_t callers) {
 }
 
 /* Carries out the whole run with the n-th allocation refused. Returns whether there was such an allocation. */
-static bool refuse(long n, size_t fixed) {
+static bool refuse(long n, size_t fixed, void (*passes)(uint64_t caller)) {
     unsigned before = refusals;
     left = n;
     make_at_last(fixed);
     CHECK(pobj_limit(&object, 1, 2 * CALLERS));
     for (uint64_t caller = 0; caller < CALLERS; caller++) {
-        pass(CALLERS);
+        passes(CALLERS);
         rests(close(issue_at_last(caller, entry_of(caller), caller % 2 == 0 ? POBJ_WITHOUT_ABORT : 0, POBJ_CLOSED)));
         CHECK(queued() == caller + 1);
     }
@@ -147,9 +199,9 @@ static bool refuse(long n, size_t fixed) {
     return refusals > before;
 }
 
-static long refuse_each(size_t fixed) {
+static long refuse_each(size_t fixed, void (*passes)(uint64_t caller)) {
     long n = 0;
-    while (refuse(n, fixed))
+    while (refuse(n, fixed, passes))
         n++;
     return n;
 }
@@ -217,7 +269,8 @@ static long refuse_each_of_threads(void) {
 }
 
 int main(void) {
-    CHECK(refuse_each(0) > 2 && refuse_each(CALLERS + 1) > 0 && refuse_each_of_threads() > 7);
+    CHECK(refuse_each(0, pass) > 2 && refuse_each(CALLERS + 1, pass) > 0);
+    CHECK(refuse_each(0, pass_in_one) > 2 && refuse_each(CALLERS + 1, pass_in_one) > 0 && refuse_each_of_threads() > 7);
     printf("refused: passed\n");
     return 0;
 }

@@ -116,6 +116,7 @@ all_of() {
     return
   fi
   row "$compiler, $word: tests/engine.c" test_of engine "$at-engine" "$compiler" "${flags[@]}"
+  row "$compiler, $word: tests/both_ways.c" test_of both_ways "$at-both" "$compiler" "${flags[@]}"
   row "$compiler, $word: tests/refused.c" test_of refused "$at-refused" "$compiler" "${flags[@]}" "$refusing"
 }
 

@@ -430,6 +430,45 @@ static void aborts(void) {
     finish();
 }
 
+/* A body whose own caller is aborted while it runs, and which then requeues its call as it is told. */
+static int abort_own(pobj_call *call) {
+    int (*const *next)(pobj_call *call) = call->parameters;
+    CHECK(pobj_abort(call) == POBJ_CANCEL_REFUSED);
+    return (*next)(call);
+}
+
+/* Makes a call whose body is that of abort_own, and then this one. */
+static pobj_outcome abort_meanwhile(int (*next)(pobj_call *call), uint64_t entry) {
+    pobj_call record = {0};
+    return pobj_entry_call(a, entry, &next, &record);
+}
+
+static int complete(pobj_call *call) {
+    (void)call;
+    return POBJ_COMPLETED;
+}
+
+static int move_back(pobj_call *call) {
+    return pobj_requeue_elsewhere_with_abort(call, call->object, PASS);
+}
+
+/* An abort that comes while a body runs counts once its call is requeued with abort. */
+static void aborted_meanwhile(void) {
+    enum { AT_ONCE = 1, LATER };
+    static const pobj_entry three[] = {{"pass", passes, complete}, {"at once", NULL, abort_own}, {"later", holds, abort_own}};
+    struct gate gate = {POBJ_OPEN, POBJ_OPEN, b};
+    begin();
+    pobj_protected_destroy(a);
+    CHECK(pobj_protected_make(a, &gate, three, 3));
+    for (uint64_t entry = AT_ONCE; entry <= LATER; entry++) {
+        CHECK(abort_meanwhile(complete, entry) == POBJ_CALL_COMPLETED && abort_meanwhile(raise_7, entry) == POBJ_CALL_ERROR);
+        CHECK(abort_meanwhile(requeue_with_abort, entry) == POBJ_CALL_ABORTED);
+        CHECK(abort_meanwhile(move_back, entry) == POBJ_CALL_ABORTED);
+        CHECK(abort_meanwhile(move_with_abort, entry) == POBJ_CALL_ABORTED);
+    }
+    finish();
+}
+
 static void abort_inside(pobj_protected *object, void *record) {
     (void)object;
     CHECK(pobj_abort(record) == POBJ_CANCEL_REFUSED);
@@ -509,7 +548,7 @@ static void moved_by_others(void) {
     CHECK(has_passed(&callers[0]));
     let_go(a, POBJ_CLOSED);
     let_pass(b, POBJ_CLOSED);
-    start_waiting(&callers[1], a, HOLD_AND_MOVE, short_time, a, HOLD_AND_MOVE);
+    start_waiting(&callers[1], a, HOLD_AND_MOVE, short_time * 25, a, HOLD_AND_MOVE);
     let_go(a, POBJ_OPEN);
     CHECK(outcome_of(&callers[1]) == POBJ_CALL_EXPIRED);
     let_go(a, POBJ_CLOSED);
@@ -572,6 +611,27 @@ static void family(void) {
     pobj_protected_destroy(a);
 }
 
+/* A barrier that asks how many calls are queued on its entry: the call that arrives is queued, and then counts too (9.9). */
+static bool has_calls(pobj_protected *object) {
+    const uint64_t *enough = object->data;
+    return pobj_entry_count(object, object->evaluated) >= *enough;
+}
+
+static void counting(void) {
+    static const pobj_entry counted[] = {{"counted", has_calls, pass}};
+    struct caller caller;
+    uint64_t enough = 1;
+    CHECK(pobj_protected_make(a, &enough, counted, 1));
+    CHECK(try_call(a, 0, conditional) == POBJ_CALL_COMPLETED && try_call(a, 0, short_time) == POBJ_CALL_COMPLETED);
+    CHECK(try_call(a, 0, untimed) == POBJ_CALL_COMPLETED && pobj_entry_count(a, 0) == 0);
+    enough = 2;
+    CHECK(try_call(a, 0, conditional) == POBJ_CALL_EXPIRED && try_call(a, 0, short_time) == POBJ_CALL_EXPIRED);
+    start_waiting(&caller, a, 0, untimed, a, 0);
+    CHECK(try_call(a, 0, conditional) == POBJ_CALL_EXPIRED && has_passed(&caller));
+    CHECK(pobj_protected_finalize(a));
+    pobj_protected_destroy(a);
+}
+
 /* The finalization of an object ends the calls of all who wait on it. */
 static void sleepers(void) {
     static struct caller callers[THREADS];
@@ -599,11 +659,13 @@ void test_operations(void) {
     program_errors();
     times();
     aborts();
+    aborted_meanwhile();
     abort_from_inside();
     requeues();
     moves();
     moved_by_others();
     memory();
     family();
+    counting();
     sleepers();
 }
