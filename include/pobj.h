@@ -62,7 +62,8 @@ typedef enum pobj_action {
                            ends; then do as for POBJ_EVALUATE with the answer's entry, which may not be the one it waits on */
     POBJ_CANCELLED,     /* step->caller's call is cancelled: wake it, then pobj_next (9.5.3, 9.7.2, 9.7.3) */
     POBJ_PROGRAM_ERROR, /* raise Program_Error in step->caller: wake it, then pobj_next (9.4, 9.5.3, D.7) */
-    POBJ_NO_MEMORY,     /* from pobj_issue only: there is no memory for one more call, and nothing has changed */
+    POBJ_NO_MEMORY,     /* there is no memory for one more call, and nothing has changed: from pobj_issue, and from pobj_ready
+                           and pobj_served */
     POBJ_REFUSED        /* the object doesn't wait for this step, and nothing has changed */
 } pobj_action;
 
@@ -151,8 +152,9 @@ uint64_t pobj_finalize(pobj_object *object, pobj_step *step);
    history as they are. */
 
 /* Makes room for one more call, before the client runs the body of an open entry for a call that it hasn't issued yet. If the
-   answer is POBJ_REST, pobj_served accepts a call of any entry, whatever its body does, and takes no memory. POBJ_NO_MEMORY:
-   there is no memory, and nothing has changed. POBJ_REFUSED: the object doesn't wait for a command, or is finalized. */
+   answer is POBJ_REST, pobj_served accepts a call of any entry, whatever its body does, and takes no memory, as long as no other
+   call is issued before. POBJ_NO_MEMORY: there is no memory, and nothing has changed. POBJ_REFUSED: the object doesn't wait for a
+   command, or is finalized. A call that is marked as aborted goes to pobj_issue instead. */
 uint64_t pobj_ready(pobj_object *object);
 
 /* A command: pobj_issue with POBJ_OPEN, and pobj_body_ended. The client has evaluated the barrier, which was open, and has run
@@ -168,7 +170,7 @@ bool pobj_wait(pobj_object *object, uint64_t caller, uint64_t entry, pobj_marks 
 
 /* A command: pobj_issue and pobj_answer, both with POBJ_CLOSED, and pobj_next, for a call that is due while no call is queued.
    The barrier has to be closed however many calls are queued. True: the call is cancelled, and the object is at rest. False:
-   nothing has changed, and pobj_issue says why. */
+   nothing has changed, and pobj_issue says why. It takes no memory. */
 bool pobj_turn_away(pobj_object *object, uint64_t caller, uint64_t entry, pobj_marks marks);
 
 /* Returns how many calls are queued on the entry (9.9), or 0 if there is no such entry. Takes constant time. The object is
