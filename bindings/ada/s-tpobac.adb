@@ -217,7 +217,8 @@ package body System.Tasking.Protected_Objects.Actions is
       return Boolean'Pos
         (Object.Entry_Bodies (Index).Barrier (Object.Compiler_Info, E));
    exception
-      when others =>
+      when Occurrence : others =>
+         Note_Barrier (Occurrence);
          return Raised;
    end Barrier_Of;
 
@@ -447,6 +448,7 @@ package body System.Tasking.Protected_Objects.Actions is
          when Now_Broken =>
             Trace (Object, Call, Traces.Broken);
             Call.Exception_To_Raise := Program_Error'Identity;
+            Name_Barrier (Call);
             End_Call (Self_ID, Object, Call, Done);
             return pobj_next (Engine_Of (Object.all), Told'Address);
 
@@ -470,6 +472,8 @@ package body System.Tasking.Protected_Objects.Actions is
       while Now /= Rest loop
          Now := Next_Answer (Self_ID, Object, Now, Told);
       end loop;
+
+      Forget_Barrier;
    end Carry_Out;
 
    -----------------

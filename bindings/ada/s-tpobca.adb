@@ -43,8 +43,14 @@ package body System.Tasking.Protected_Objects.Callers is
    pragma Warnings (On);
 
    With_Occurrence : constant := Null_Entry;
-   --  The entry of a call that has ended by an exception of a body: its
-   --  Uninterpreted_Data is the occurrence, until the caller takes it.
+   --  The entry of a call that has ended by an exception of a body or of a
+   --  barrier: its Uninterpreted_Data is the occurrence, until the caller
+   --  takes it.
+
+   Of_Barrier : Occurrence_Access := null;
+   pragma Thread_Local_Storage (Of_Barrier);
+   --  The occurrence by which this task's protected action ends all calls, if
+   --  a barrier raised one and there was memory for it.
 
    procedure Lock_Object_Of
      (Call   : Entry_Call_Link;
@@ -414,6 +420,40 @@ package body System.Tasking.Protected_Objects.Callers is
          Free (Kept);
       end if;
    end Take_Occurrence;
+
+   ------------------
+   -- Note_Barrier --
+   ------------------
+
+   procedure Note_Barrier (Source : Exception_Occurrence) is
+   begin
+      Of_Barrier := Save_Occurrence (Source);
+   exception
+      when others =>
+         Of_Barrier := null;
+   end Note_Barrier;
+
+   ------------------
+   -- Name_Barrier --
+   ------------------
+
+   procedure Name_Barrier (Call : Entry_Call_Link) is
+   begin
+      if Of_Barrier /= null then
+         Keep_Occurrence (Call, Of_Barrier.all);
+      end if;
+   end Name_Barrier;
+
+   --------------------
+   -- Forget_Barrier --
+   --------------------
+
+   procedure Forget_Barrier is
+   begin
+      if Of_Barrier /= null then
+         Free (Of_Barrier);
+      end if;
+   end Forget_Barrier;
 
    -----------------
    -- Set_Message --

@@ -79,8 +79,19 @@ package System.Tasking.Protected_Objects.Callers is
    --  if there is one. The call has ended, the task leaves it, and no abort
    --  may come.
 
+   procedure Note_Barrier (Source : Ada.Exceptions.Exception_Occurrence);
+   --  Keeps the occurrence of the exception that a barrier raised, by which
+   --  this task's protected action ends all calls (9.5.3).
+
+   procedure Name_Barrier (Call : Entry_Call_Link);
+   --  If a barrier raised an exception, its message goes with the call, which
+   --  ends by Program_Error: the caller sees where the fault is.
+
+   procedure Forget_Barrier;
+   --  The protected action has ended the calls
+
    procedure Set_Message (Call : Entry_Call_Link);
    --  Clears the message of the exception that the call's caller raises now,
-   --  unless a body raised it: one of the runtime's own has no message.
+   --  unless a body or a barrier raised it: one of the runtime's own has none.
 
 end System.Tasking.Protected_Objects.Callers;

@@ -221,7 +221,7 @@ for name in abort_after_refused_call refused_trigger trigger_never_called delay_
   timed_call_to_task_after_abort \
   requeue_to_object_inside message_of_trigger requeue_by_task_to_ended_task requeue_by_task_to_finalized_object \
   acceptor_aborted acceptor_aborted_at_requeue \
-  priority_after_requeue finalized_as_time_comes ceiling_alone ceiling_above \
+  priority_after_requeue finalized_as_time_comes ceiling_alone ceiling_above message_of_barrier \
   priority_queuing queues_with_limits ended_once ended_once_by_task own_message deferred_call expired_in_finalize \
   abort_before_call abort_before_open_entry abort_before_requeue_to_task abort_before_open_accept abort_at_open_trigger \
   abort_while_trigger_is_served trigger_requeued_to_task conditional_call_to_task; do
