@@ -217,8 +217,8 @@ package body System.Tasking.Protected_Objects.Actions is
       return Boolean'Pos
         (Object.Entry_Bodies (Index).Barrier (Object.Compiler_Info, E));
    exception
-      when Occurrence : others =>
-         Note_Barrier (Occurrence);
+      when others =>
+         Note_Barrier;
          return Raised;
    end Barrier_Of;
 

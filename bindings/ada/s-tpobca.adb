@@ -425,9 +425,10 @@ package body System.Tasking.Protected_Objects.Callers is
    -- Note_Barrier --
    ------------------
 
-   procedure Note_Barrier (Source : Exception_Occurrence) is
+   procedure Note_Barrier is
    begin
-      Of_Barrier := Save_Occurrence (Source);
+      Of_Barrier :=
+        Save_Occurrence (STPO.Self.Common.Compiler_Data.Current_Excep);
    exception
       when others =>
          Of_Barrier := null;

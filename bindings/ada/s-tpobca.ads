@@ -79,9 +79,9 @@ package System.Tasking.Protected_Objects.Callers is
    --  if there is one. The call has ended, the task leaves it, and no abort
    --  may come.
 
-   procedure Note_Barrier (Source : Ada.Exceptions.Exception_Occurrence);
-   --  Keeps the occurrence of the exception that a barrier raised, by which
-   --  this task's protected action ends all calls (9.5.3).
+   procedure Note_Barrier;
+   --  Keeps the occurrence of the exception that a barrier has just raised, by
+   --  which this task's protected action ends all calls (9.5.3).
 
    procedure Name_Barrier (Call : Entry_Call_Link);
    --  If a barrier raised an exception, its message goes with the call, which
