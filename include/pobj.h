@@ -152,9 +152,9 @@ uint64_t pobj_finalize(pobj_object *object, pobj_step *step);
    history as they are. */
 
 /* Makes room for one more call, before the client runs the body of an open entry for a call that it hasn't issued yet. If the
-   answer is POBJ_REST, pobj_served accepts a call of any entry, whatever its body does, and takes no memory, as long as no other
-   call is issued before. POBJ_NO_MEMORY: there is no memory, and nothing has changed. POBJ_REFUSED: the object doesn't wait for a
-   command, or is finalized. A call that is marked as aborted goes to pobj_issue instead. */
+   answer is POBJ_REST, pobj_served accepts a call of any entry, whatever its body does, and takes no memory, as long as no
+   other call is issued before. POBJ_NO_MEMORY: there is no memory, and nothing has changed. POBJ_REFUSED: the object doesn't
+   wait for a command, or is finalized. A call that is marked as aborted goes to pobj_issue instead. */
 uint64_t pobj_ready(pobj_object *object);
 
 /* A command: pobj_issue with POBJ_OPEN, and pobj_body_ended. The client has evaluated the barrier, which was open, and has run
@@ -162,6 +162,17 @@ uint64_t pobj_ready(pobj_object *object);
    such entry, the call is marked as aborted and may be cancelled, or pobj_ready is refused too. */
 uint64_t pobj_served(pobj_object *object, uint64_t caller, uint64_t entry, pobj_marks marks, pobj_body_end how, uint64_t target,
     pobj_marks target_marks, pobj_step *step);
+
+/* A command: pobj_issue with POBJ_OPEN, pobj_body_ended with a requeue within the object, pobj_answer with POBJ_OPEN, and
+   pobj_body_ended with POBJ_COMPLETED, while no other call is queued (pobj_is_idle). The client has run both bodies. The second
+   barrier has to be open however many calls are queued: one that hasn't asked pobj_count is. `how` is POBJ_REQUEUED or
+   POBJ_REQUEUED_WITH_ABORT. True: the call is completed, and the object is at rest. False: nothing has changed, and the client
+   tells the steps one by one, as for a call that is marked as due or aborted at its requeue. It takes no memory. */
+bool pobj_served_twice(pobj_object *object, uint64_t caller, uint64_t entry, pobj_marks marks, pobj_body_end how,
+    uint64_t target, pobj_marks target_marks);
+
+/* Returns whether the object waits for a command, and no call is queued. */
+bool pobj_is_idle(pobj_object *object);
 
 /* A command: pobj_issue and pobj_answer, both with POBJ_CLOSED, for a call that isn't due while no call is queued. The barrier
    has to be closed however many calls are queued: one that hasn't asked pobj_count is. True: the call is queued, *step has its

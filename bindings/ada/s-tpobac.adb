@@ -162,6 +162,26 @@ package body System.Tasking.Protected_Objects.Actions is
    --  Runs the body of an open entry for a call that arrives, and tells the
    --  engine how it ended.
 
+   function Is_Open_Alone
+     (Object   : Protection_Entries_Access;
+      Call     : Entry_Call_Link;
+      E, Index : Protected_Entry_Index) return Boolean;
+   pragma Inline (Is_Open_Alone);
+   --  Whether the call, which its body has requeued to this entry of the
+   --  object, is served there at once: no other call is queued, and the entry
+   --  is open however many are.
+
+   procedure Serve_Again
+     (Self_ID  : Task_Id;
+      Object   : Protection_Entries_Access;
+      Call     : Entry_Call_Link;
+      First    : Protected_Entry_Index;
+      Marks    : Word;
+      Moved    : Word;
+      E, Index : Protected_Entry_Index);
+   --  Runs the body of the entry to which the call's first body has requeued
+   --  it, and tells the engine of both.
+
    procedure Wait
      (Self_ID : Task_Id;
       Object  : Protection_Entries_Access;
@@ -545,6 +565,21 @@ package body System.Tasking.Protected_Objects.Actions is
       end if;
 
       How := Run_Body (Self_ID, Object, Call, E, Index);
+
+      if Is_Within (How) then
+         declare
+            To : constant Protected_Entry_Index :=
+                   Protected_Entry_Index (Call.E);
+            At_Body : constant Protected_Entry_Index := Index_Of (Object, To);
+         begin
+            if Is_Open_Alone (Object, Call, To, At_Body) then
+               Serve_Again
+                 (Self_ID, Object, Call, E, Marks, How, To, At_Body);
+               return;
+            end if;
+         end;
+      end if;
+
       Answer := pobj_served
         (Engine_Of (Object.all), To_Word (Call), Word (E - 1), Marks, How,
          Target_Of (How, Call), Marks_After (How, Call), Told'Address);
@@ -553,6 +588,73 @@ package body System.Tasking.Protected_Objects.Actions is
          Carry_Out (Self_ID, Object, Answer, Told);
       end if;
    end Serve;
+
+   -------------------
+   -- Is_Open_Alone --
+   -------------------
+
+   function Is_Open_Alone
+     (Object   : Protection_Entries_Access;
+      Call     : Entry_Call_Link;
+      E, Index : Protected_Entry_Index) return Boolean is
+   begin
+      if Attempted (Call) /= 0
+        or else pobj_is_idle (Engine_Of (Object.all)) = 0
+      then
+         return False;
+      end if;
+
+      Nested_Actions.Has_Counted := False;
+      return Barrier_Of (Object, E, Index) = Open
+        and then not Nested_Actions.Has_Counted;
+   end Is_Open_Alone;
+
+   -----------------
+   -- Serve_Again --
+   -----------------
+
+   procedure Serve_Again
+     (Self_ID  : Task_Id;
+      Object   : Protection_Entries_Access;
+      Call     : Entry_Call_Link;
+      First    : Protected_Entry_Index;
+      Marks    : Word;
+      Moved    : Word;
+      E, Index : Protected_Entry_Index)
+   is
+      Told : aliased Step;
+      How  : Word;
+   begin
+      Trace (Object, Call, Traces.Queued);
+      How := Run_Body (Self_ID, Object, Call, E, Index);
+
+      --  If this body hasn't completed the call, the engine is told step by
+      --  step.
+
+      if How /= Completed
+        or else pobj_served_twice
+                  (Engine_Of (Object.all), To_Word (Call), Word (First - 1),
+                   Marks, Moved, Word (E - 1), 0) = 0
+      then
+         if Action_Of
+              (pobj_served
+                 (Engine_Of (Object.all), To_Word (Call), Word (First - 1),
+                  Marks, Moved, Word (E - 1), 0, Told'Address)) /= Now_Queued
+           or else Action_Of
+                     (pobj_answer
+                        (Engine_Of (Object.all), Open, Told'Address)) /= Run
+         then
+            Stop;
+         end if;
+
+         Carry_Out
+           (Self_ID, Object,
+            pobj_body_ended
+              (Engine_Of (Object.all), How, Target_Of (How, Call),
+               Marks_After (How, Call), Told'Address),
+            Told);
+      end if;
+   end Serve_Again;
 
    ----------
    -- Wait --

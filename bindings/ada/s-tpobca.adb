@@ -427,6 +427,7 @@ package body System.Tasking.Protected_Objects.Callers is
 
    procedure Note_Barrier is
    begin
+      Forget_Barrier;
       Of_Barrier :=
         Save_Occurrence (STPO.Self.Common.Compiler_Data.Current_Excep);
    exception

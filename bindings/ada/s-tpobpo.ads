@@ -125,6 +125,15 @@ package System.Tasking.Protected_Objects.Pobj is
       Told                       : System.Address) return Word;
    pragma Import (C, pobj_served);
 
+   function pobj_served_twice
+     (Object                    : Engine;
+      Caller, E, Marks          : Word;
+      How, Target, Target_Marks : Word) return Flag;
+   pragma Import (C, pobj_served_twice);
+
+   function pobj_is_idle (Object : Engine) return Flag;
+   pragma Import (C, pobj_is_idle);
+
    function pobj_wait
      (Object           : Engine;
       Caller, E, Marks : Word;

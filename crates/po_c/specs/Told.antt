@@ -1,6 +1,6 @@
 -- SPDX-License-Identifier: MIT
 -- What the functions of include/pobj.h return, and what that says about the object (this project's own).
-use Rattle.std.specs.Prelude.{ℕ, ◌≡◌, ◌==◌, ◌+◌, ◌*◌, ◌/◌, ◌%◌, Bool, not, Option, Some, None, IsSome, nat_lt, if◌then◌else◌}
+use Rattle.std.specs.Prelude.{ℕ, ◌≡◌, ◌==◌, ◌+◌, ◌*◌, ◌/◌, ◌%◌, ◌||◌, Bool, not, Option, Some, None, IsSome, nat_lt, if◌then◌else◌}
 use Rattle.po_calls.specs.declared.call.Deadline.TheVariants.{Never, At}
 use Rattle.po_engine.specs.declared.arriving.Arriving.{Arriving}
 use Rattle.po_driven.specs.DrivenView.{DrivenView}
@@ -12,6 +12,7 @@ use Rattle.po_driven.specs.declared.words.BodyEnd.{BodyEnd}
 use Rattle.po_driven.specs.declared.words.BodyEnd.TheVariants.{Completed, Failed, Requeued, RequeuedElsewhere}
 use Rattle.po_driven.specs.declared.words.Cancellation.{Cancellation}
 use Rattle.po_driven.specs.declared.words.NamedCall.{NamedCall}
+use Rattle.po_driven.specs.declared.words.Requeue.{Requeue}
 use Rattle.po_driven.specs.declared.words.Cancellation.TheVariants.{Made, Kept, Unknown, Refused as IsRefused}
 
 -- What a function does to the object in a handle, if there is one before and after it.
@@ -75,6 +76,15 @@ abbrev pub body_end_named : ℕ → ℕ → ℕ → BodyEnd
 body_end_named how entry marks =
     if how == 0 then Completed else (if how == 4 then RequeuedElsewhere else (if how == 1 then Failed else
     Requeued (record { target = if nat_lt how 4 then entry_named entry else 65535; with_abort = how == 3; aborted = has_mark marks 4; due = has_mark marks 1 })))
+
+-- how a body requeued its call within the object: 2 without and 3 with abort; any other number names no entry
+abbrev pub requeue_named : ℕ → ℕ → ℕ → Requeue
+requeue_named how entry marks = record {
+  target = if how == 2 || how == 3 then entry_named entry else 65535;
+  with_abort = how == 3;
+  aborted = has_mark marks 4;
+  due = has_mark marks 1;
+}
 
 abbrev pub is_not_zero : ℕ → Bool
 is_not_zero n = not (n == 0)

@@ -10,12 +10,13 @@
 //! Begin with include/pobj.h and `pobj_issue` here; specs/Told.antt says what each number means.
 #![tactic(auto)]
 
-ghost use Rattle.std.specs.Prelude.{◌≡◌, ◌<◌, None, Some, MatchBool, count_by, slice_set, true, false, ◌≤◌};
-ghost use Rattle.po_c.specs.Told.{FromTo, KeepsObject, LeavesTold, Cancelling, is_not_zero, Answers, entry_named, arriving_named, barrier_named, body_end_named, number_of_action, number_of_cancellation};
+ghost use Rattle.std.specs.Prelude.{◌≡◌, ◌<◌, [], None, Some, MatchBool, count_by, slice_set, true, false, ◌≤◌};
+ghost use Rattle.po_c.specs.Told.{FromTo, KeepsObject, LeavesTold, Cancelling, is_not_zero, Answers, entry_named, arriving_named, barrier_named, body_end_named, number_of_action, number_of_cancellation, requeue_named};
 ghost use Rattle.po_driven.specs.declared.action.Action.TheVariants.{Refused};
+ghost use Rattle.po_driven.specs.declared.phase.Phase.TheVariants.{Resting};
 ghost use Rattle.po_driven.specs.declared.words.BodyEnd.TheVariants.{Completed};
 ghost use Rattle.po_driven.specs.declared.words.Cancellation.TheVariants.{Refused as IsRefused};
-ghost use Rattle.po_driven.specs.Passing.{MakesReady, Serves, TurnsAway, Waits};
+ghost use Rattle.po_driven.specs.Passing.{MakesReady, Serves, ServesTwice, TurnsAway, Waits};
 ghost use Rattle.po_driven.specs.Steps.{Attempts, EndsBody, Evaluates, Finalizes, GoesOn, Issues};
 ghost use Rattle.po_engine.specs.WaitingCalls.{is_on};
 ghost use Rattle.po_driven.specs.DrivenView.{DrivenView, at_opening};
@@ -26,7 +27,7 @@ mod loose;
 mod numbers;
 
 use handle::Handle;
-use numbers::{answer_of, arriving_of, barrier_of, body_end_of, entry_of, number_of, refused};
+use numbers::{answer_of, arriving_of, barrier_of, body_end_of, entry_of, number_of, refused, requeue_of};
 use po_driven::{Cancellation, DrivenObject, NamedCall, Ticket};
 use std::alloc::Global;
 
@@ -316,6 +317,49 @@ fn served(
 {
     let end = body_end_of(how, target, target_marks);
     answer_of(object.served(arriving_of(caller, entry, marks), end, step))
+}
+
+/// Takes a call of this caller whose barrier was open, whose body has requeued it to an open entry of the object, and whose body
+/// there has completed it, while no other call is queued.
+#[unsafe(no_mangle)]
+pub extern "C" fn pobj_served_twice(
+    alloc: Global,
+    handle: &mut Handle,
+    caller: u64,
+    entry: u64,
+    marks: u64,
+    how: u64,
+    target: u64,
+    target_marks: u64,
+) -> bool
+    ensures made { KeepsObject handle.old.object handle.new.object }
+    ensures no_object { handle.old.object ≡ None → result ≡ false }
+    ensures answer { FromTo handle.old.object handle.new.object (λ old new.
+        ServesTwice (arriving_named caller entry marks) (requeue_named how target target_marks) old new result) }
+{
+    let Some(mut object) = handle.take(alloc) else {
+        return false;
+    };
+    let arriving = arriving_of(caller, entry, marks);
+    let is_told = object.served_twice(arriving, requeue_of(how, target, target_marks));
+    *handle = Handle::of(object);
+    is_told
+}
+
+/// Returns whether the object waits for a command, and no call is queued.
+#[unsafe(no_mangle)]
+pub extern "C" fn pobj_is_idle(alloc: Global, handle: &mut Handle) -> bool
+    ensures same { handle.new.object ≡ handle.old.object }
+    ensures no_object { handle.old.object ≡ None → result ≡ false }
+    ensures idle { (d : DrivenView) → handle.old.object ≡ Some d → result ≡ true → (d.phase ≡ Resting) × (d.calls.object.state.waiting ≡ []) }
+    ensures not_idle { (d : DrivenView) → handle.old.object ≡ Some d → d.phase ≡ Resting → d.calls.object.state.waiting ≡ [] → result ≡ true }
+{
+    let Some(object) = handle.take(alloc) else {
+        return false;
+    };
+    let is_idle = object.is_idle();
+    *handle = Handle::of(object);
+    is_idle
 }
 
 /// Queues a call of this caller that arrives alone and isn't due, and whose barrier is closed however many calls are queued.

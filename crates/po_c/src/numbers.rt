@@ -3,7 +3,7 @@
 
 ghost use Rattle.std.specs.Prelude.{◌≡◌, ◌<◌, ◌+◌, ◌*◌};
 ghost use Rattle.po_driven.specs.declared.action.Action.TheVariants.{Refused};
-ghost use Rattle.po_c.specs.Told.{number_of_action, barrier_named, entry_named, number_of_cancellation, has_mark as is_marked, arriving_named, body_end_named};
+ghost use Rattle.po_c.specs.Told.{number_of_action, barrier_named, entry_named, number_of_cancellation, has_mark as is_marked, arriving_named, body_end_named, requeue_named};
 
 use po_driven::{Action, Arriving, Barrier, BodyEnd, Cancellation, Deadline, Requeue};
 
@@ -102,6 +102,19 @@ pub fn body_end_of(how: u64, entry: u64, marks: u64) -> BodyEnd
             aborted: has_mark(marks, 4),
             due: has_mark(marks, 1),
         }),
+    }
+}
+
+/// Returns how C says that a body requeued its call within the object: 2 without and 3 with abort. Any other number names no entry.
+#[inline(always)]
+pub fn requeue_of(how: u64, entry: u64, marks: u64) -> Requeue
+    ensures { result ≡ requeue_named how entry marks }
+{
+    Requeue {
+        target: if how == 2 || how == 3 { entry_of(entry) } else { 65535 },
+        with_abort: how == 3,
+        aborted: has_mark(marks, 4),
+        due: has_mark(marks, 1),
     }
 }
 

@@ -46,12 +46,12 @@ entered_alone limit s x none room =
     rw full (ap (λ xs. xs ++ x ∷ []) none)
 
 -- the entries below that of the only call have no queued call
-below_alone : (x : Call ℕ) (waiting : List (Call ℕ)) → waiting ≡ x ∷ [] → ToldBelow [] x.entry waiting
+pub below_alone : (x : Call ℕ) (waiting : List (Call ℕ)) → waiting ≡ x ∷ [] → ToldBelow [] x.entry waiting
 below_alone x waiting is =
     let P : Call ℕ → Type 0 = λ y. y.entry < x.entry → told [] y.entry ≡ true in
     subst (λ xs. All P xs) (sym is) (All-push P [] x (All-nil P) (λ lt. absurd (omega (arith, lt))))
 
-asked_same : (e k : ℕ) → Asked e ≡ Asked k → e ≡ k
+pub asked_same : (e k : ℕ) → Asked e ≡ Asked k → e ≡ k
 asked_same e k h = cc
 
 module _ (d new : DrivenView) (a : Arriving ℕ) (alone : ArrivesAlone a d) where
@@ -106,7 +106,7 @@ module _ (d new : DrivenView) (a : Arriving ℕ) (alone : ArrivesAlone a d) wher
         };
       }
 
-last_number : (tickets : List (Option ℕ)) (n : ℕ) → number_at (tickets ++ Some n ∷ []) (length tickets) ≡ Some n
+pub last_number : (tickets : List (Option ℕ)) (n : ℕ) → number_at (tickets ++ Some n ∷ []) (length tickets) ≡ Some n
 last_number [] n = refl
 last_number (o ∷ tickets) n = last_number tickets n
 

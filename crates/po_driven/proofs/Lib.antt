@@ -9,3 +9,4 @@ mod Passing
 mod Rests
 mod Spots
 mod Traces
+mod Twice

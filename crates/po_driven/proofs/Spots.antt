@@ -102,6 +102,13 @@ joined a b x h number st ha p =
           (ap₂ (times_in n) st ha ∙ omega (arith, p.each n, ap (times_in_service n) h, in_range n a.state.next x number p.low, sum_by-push (λ y. cond (has_number n y) 1 0) a.state.waiting x));
     }
 
+-- the call in service, with its number, is queued
+pub rejoined : (a b : StateView ℕ ℕ) (x y : Call ℕ) → a.serving ≡ Some x → y.number ≡ x.number → b.state ≡ queue a.state y → b.serving ≡ None → IsThereOnce a → IsThereOnce b
+rejoined a b x y h number st ha p = moved a b (queue a.state y) None st ha refl (λ n. omega (arith, ap (times_in_service n) h, sum_by-push (λ z. cond (has_number n z) 1 0) a.state.waiting y, same_spot n x y number)) p
+  where
+    same_spot : (n : ℕ) (x y : Call ℕ) → y.number ≡ x.number → one_if n y ≡ one_if n x
+    same_spot n x y number = ap (λ k. one_if n (record y { number = k })) number
+
 pub took : (a b : StateView ℕ ℕ) (test : Call ℕ → Bool) (o : Option (Call ℕ)) → a.serving ≡ None → find test a.state.waiting ≡ o → b.state ≡ take_out a.state test → b.serving ≡ o → IsThereOnce a → IsThereOnce b
 took a b test o h f st ha p = moved a b (take_out a.state test) o st ha refl (λ n. spots-take n a.state a.serving test o h f) p
 

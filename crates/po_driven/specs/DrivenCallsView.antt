@@ -87,6 +87,10 @@ passed t a end hs = record {
   happened = t.happened ++ hs;
 }
 
+-- the same after a call that its body requeued within the object, where it arrived once more
+abbrev pub passed_twice : DrivenCallsView → Arriving ℕ → End ℕ → List Happening → DrivenCallsView
+passed_twice t a end hs = record (passed t a end hs) { place = t.place + 2 }
+
 -- Whether the memory is fixed never changes, and if it is, neither does the number of calls that it is for.
 pub record KeepsRoom (old new : StateView ℕ ℕ) : Type 0 where
   pub fixed : new.is_fixed ≡ old.is_fixed

@@ -6,7 +6,7 @@ use Rattle.po_engine.specs.declared.arriving.Arriving.{Arriving}
 use Rattle.po_engine.specs.Driving.{new_call}
 use Rattle.po_engine.specs.Tickets.{uncollected}
 use Rattle.po_engine.specs.WaitingCalls.{is_due}
-use Rattle.po_driven.specs.Answering.{is_withdrawn}
+use Rattle.po_driven.specs.Answering.{is_cancelled, is_withdrawn}
 use Rattle.po_driven.specs.DrivenView.{DrivenView, IsDriven, KeepsAll, KeepsSetup, MayIssue}
 use Rattle.po_driven.specs.Noted.{IsNoRequeue}
 use Rattle.po_driven.specs.Steps.{EndsBody, Evaluates, GoesOn, Issues}
@@ -15,8 +15,9 @@ use Rattle.po_driven.specs.declared.action.Action.TheVariants.{Rest, Run, Queued
 use Rattle.po_driven.specs.declared.phase.Phase.TheVariants.{Resting}
 use Rattle.po_driven.specs.declared.words.Barrier.TheVariants.{Closed, Open}
 use Rattle.po_driven.specs.declared.words.BodyEnd.{BodyEnd}
-use Rattle.po_driven.specs.declared.words.BodyEnd.TheVariants.{Requeued}
+use Rattle.po_driven.specs.declared.words.BodyEnd.TheVariants.{Completed, Requeued}
 use Rattle.po_driven.specs.declared.words.NamedCall.{NamedCall}
+use Rattle.po_driven.specs.declared.words.Requeue.{Requeue}
 
 -- A call is accepted even if its body has run already: the object waits for a command and isn't finalized, and a number is left,
 -- and places for an arrival and a requeue.
@@ -83,6 +84,38 @@ pub record Serves (a : Arriving ℕ) (end : BodyEnd) (step : NamedCall) (old new
   -- only a requeue within the object takes room
   pub needs_none : IsNoRequeue end → action ≢ NoMemory
   pub through : IsTaken action → ServesBetween a end step old new action
+
+-- A call may have been served, requeued by its body to an entry of the object, and served there: no other call is queued, so a
+-- requeue to an open entry is served at once. It isn't due, nor cancelled at the requeue (9.5.3, 9.5.4).
+pub record MayServeTwice (a : Arriving ℕ) (r : Requeue) (d : DrivenView) : Type 0 where
+  pub served : WasServed a Completed d
+  pub target : r.target < d.calls.object.state.unit
+  pub alone : d.calls.object.state.waiting ≡ []
+  pub quiet : r.due ≡ false
+  pub kept : is_cancelled r (new_call d.calls.object.state.next a) ≡ false
+
+-- A call with an open barrier was issued, its body has requeued it, the client was asked for the barrier of its new entry, which
+-- was open, and the body there has completed it. Then the object was at rest.
+pub record ServesTwiceBetween (a : Arriving ℕ) (r : Requeue) (old new : DrivenView) : Type 0 where
+  pub first : DrivenView
+  pub queued : DrivenView
+  pub second : DrivenView
+  pub told : NamedCall
+  pub ticket : NamedCall
+  pub named : NamedCall
+  pub driven : IsDriven first × IsDriven queued × IsDriven second
+  pub issues : Issues a Open told old first (Run a.entry)
+  pub requeues : EndsBody (Requeued r) ticket first queued (Queued r.target)
+  pub answers : Evaluates Open named queued second (Run r.target)
+  pub ends : EndsBody Completed named second new Rest
+
+-- A call is told of that was served, requeued by its body to an open entry of the object, and completed there (9.5.2 to 9.5.4).
+pub record ServesTwice (a : Arriving ℕ) (r : Requeue) (old new : DrivenView) (is_told : Bool) : Type 0 where
+  pub kept : is_told ≡ false → new ≡ old
+  pub setup : KeepsSetup old new
+  pub accepted : MayServeTwice a r old → is_told ≡ true
+  pub may : is_told ≡ true → MayServeTwice a r old
+  pub through : is_told ≡ true → ServesTwiceBetween a r old new
 
 -- A call arrives alone: it is accepted, no call is queued, and it isn't cancelled before its barrier is looked at.
 pub record ArrivesAlone (a : Arriving ℕ) (d : DrivenView) : Type 0 where

@@ -13,7 +13,7 @@ ghost use Rattle.po_unit.specs.declared.outcome.Outcome.TheVariants.{Requeue as 
 ghost use Rattle.po_calls.specs.declared.end.End.TheVariants.{Cancelled as IsCancelled, Completed};
 ghost use Rattle.po_driven.specs.AtRest.{IsAtRest};
 ghost use Rattle.po_driven.specs.Happening.{cancellation_of, end_oldest, make_due as due};
-ghost use Rattle.po_driven.specs.DrivenCallsView.{IsReady, IsTraced, KeepsRoom, MayPass, opening_calls, passed};
+ghost use Rattle.po_driven.specs.DrivenCallsView.{IsReady, IsTraced, KeepsRoom, MayPass, opening_calls, passed, passed_twice};
 ghost use Rattle.po_driven.specs.declared.happening.Happening.TheVariants.{Served, Arrived, Selected, Ended, RequeuedElsewhere, Due, Requeued, Broken, Cancelled, Marked, Finalized};
 
 use crate::client_unit::ClientUnit;
@@ -216,6 +216,39 @@ impl DrivenCalls {
             .happened
             .then(&Happening::Served(arriving))
             .then(&Happening::RequeuedElsewhere);
+    }
+
+    /// Accepts a call with an open barrier while none is queued, whose body has requeued it to an open entry, and whose body there
+    /// has completed it: what `accept_open`, `requeue`, `select` and `end` do, one after the other. The call takes no room.
+    #[inline(always)]
+    pub fn accept_served_twice(
+        &mut self,
+        arriving: Arriving<u64>,
+        target: u16,
+        with_abort: bool,
+        longest: Option<u64>,
+    )
+        requires may { MayPass self.old }
+        requires place { self.old.place + 1 < u128.MAX }
+        requires alone { self.old.object.state.waiting ≡ [] }
+        requires open { is_full longest 0 ≡ false }
+        requires kept { (with_abort ≡ true) → (arriving.aborted ≡ false) }
+        ensures { self.new ≡ passed_twice self.old arriving (Completed arriving.value) (Served arriving ∷ Requeued (RequeueTo target with_abort arriving.value) longest ∷ Selected target ∷ Ended (Completed arriving.value) ∷ []) }
+    {
+        let outcome = Outcome::Requeue {
+            target,
+            with_abort,
+            value: arriving.value,
+        };
+        let end = End::Completed(arriving.value);
+        self.state.end_at_once(arriving, end);
+        self.place += 2;
+        self.happened = self
+            .happened
+            .then(&Happening::Served(arriving))
+            .then(&Happening::Requeued(outcome, longest))
+            .then(&Happening::Selected(target))
+            .then(&Happening::Ended(end));
     }
 
     /// Accepts a call with a closed barrier while none is queued, and cancels it: what `accept_closed` and `cancel` do, one after

@@ -172,6 +172,14 @@ impl DrivenObject {
         self.break_one(step)
     }
 
+    /// Returns whether the object waits for a command, and no call is queued.
+    pub fn is_idle(&self) -> bool
+        ensures yes { result ≡ true → (self.now.phase ≡ Resting) × (self.now.calls.object.state.waiting ≡ []) }
+        ensures no { self.now.phase ≡ Resting → self.now.calls.object.state.waiting ≡ [] → result ≡ true }
+    {
+        self.phase == Phase::Resting && self.calls.state().is_idle()
+    }
+
     /// Returns how many calls are queued on the entry (9.9), or 0 if there is no such entry.
     pub fn count(&self, e: u16) -> u64
         ensures exact { e < self.now.calls.object.state.unit → result ≡ count_by (is_on e) self.now.calls.object.state.waiting }

@@ -4,7 +4,7 @@
 ghost use Rattle.std.specs.Prelude.{◌≡◌, ◌≢◌, ◌<◌, true, false};
 ghost use Rattle.po_engine.specs.Tickets.{uncollected};
 ghost use Rattle.po_driven.specs.DrivenView.{KeepsAll, KeepsSetup, LeavesNamed};
-ghost use Rattle.po_driven.specs.Passing.{ArrivesAlone, HasTarget, IsTaken, MakesReady, MayServe, Serves, ServesBetween, TurnsAway, Waits, WasServed, is_due_in};
+ghost use Rattle.po_driven.specs.Passing.{ArrivesAlone, HasTarget, IsTaken, MakesReady, MayServe, MayServeTwice, Serves, ServesBetween, ServesTwice, TurnsAway, Waits, WasServed, is_due_in};
 ghost use Rattle.po_driven.specs.Answering.{is_withdrawn as withdrawn};
 ghost use Rattle.po_driven.specs.declared.action.Action.TheVariants.{NoMemory, Refused};
 ghost use Rattle.po_driven.specs.declared.words.BodyEnd.TheVariants.{Completed, Failed, RequeuedElsewhere};
@@ -13,7 +13,7 @@ ghost use Rattle.po_driven.specs.declared.words.NamedCall.{NamedCall};
 use crate::action::Action;
 use crate::driven_object::DrivenObject;
 use crate::phase::Phase;
-use crate::words::{Barrier, BodyEnd, NamedCall};
+use crate::words::{Barrier, BodyEnd, NamedCall, Requeue};
 use po_calls::{Deadline, End};
 use po_engine::Arriving;
 use po_history::Trace;
@@ -173,6 +173,37 @@ impl DrivenObject {
         };
         self.recall_invariant();
         self.body_ended(end, step)
+    }
+
+    /// Returns whether the call, if it was served and its body has requeued it so, is queued alone at an entry that exists, neither
+    /// due nor cancelled.
+    fn moves_alone(&self, arriving: Arriving<u64>, requeue: Requeue) -> bool
+        ensures yes { result ≡ true → WasServed arriving Completed self.now → MayServeTwice arriving requeue self.now }
+        ensures no { MayServeTwice arriving requeue self.now → result ≡ true }
+    {
+        let is_cancelled = requeue.with_abort && (requeue.aborted || arriving.aborted);
+        requeue.target < self.entries()
+            && self.calls.state().is_idle()
+            && !requeue.due
+            && !is_cancelled
+    }
+
+    /// Takes a call whose barrier was open, whose body has requeued it to an open entry of the object, and whose body there has
+    /// completed it: `issue`, `body_ended`, `answer` and `body_ended` in one. Then the object is at rest. Returns false, and changes
+    /// nothing, if another call is queued, or if the call would be due or cancelled at its requeue. It takes no room (9.5.4).
+    #[inline(always)]
+    pub fn served_twice(&mut self, arriving: Arriving<u64>, requeue: Requeue) -> bool
+        ensures { ServesTwice arriving requeue self.old self.new result }
+    {
+        self.recall_invariant();
+        if !self.accepts_served(arriving) || !self.moves_alone(arriving, requeue) {
+            return false;
+        }
+        let longest = self.longest(requeue.target);
+        self.calls
+            .accept_served_twice(arriving, requeue.target, requeue.with_abort, longest);
+        self.closed = Trace::new();
+        true
     }
 
     /// Returns whether the call arrives alone.
