@@ -85,7 +85,7 @@ package System.Tasking.Protected_Objects.Callers is
 
    procedure Name_Barrier (Call : Entry_Call_Link);
    --  If a barrier raised an exception, its message goes with the call, which
-   --  ends by Program_Error: the caller sees where the fault is.
+   --  ends by Program_Error: so the caller sees the fault's line.
 
    procedure Forget_Barrier;
    --  The protected action has ended the calls

@@ -1,5 +1,5 @@
 --  A barrier raises an exception: all calls on the object end by Program_Error (9.5.3), with the message of the barrier's exception,
---  which says where the fault is.
+--  which names the fault.
 
 with Ada.Exceptions; use Ada.Exceptions;
 with Ada.Strings.Fixed;

@@ -36,4 +36,8 @@ bool pobj_wait(void) { return false; }
 
 bool pobj_turn_away(void) { return false; }
 
+bool pobj_served_twice(void) { return false; }
+
+bool pobj_is_idle(void) { return false; }
+
 uint64_t pobj_count(void) { return 0; }

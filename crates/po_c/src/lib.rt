@@ -27,7 +27,9 @@ mod loose;
 mod numbers;
 
 use handle::Handle;
-use numbers::{answer_of, arriving_of, barrier_of, body_end_of, entry_of, number_of, refused, requeue_of};
+use numbers::{
+    answer_of, arriving_of, barrier_of, body_end_of, entry_of, number_of, refused, requeue_of,
+};
 use po_driven::{Cancellation, DrivenObject, NamedCall, Ticket};
 use std::alloc::Global;
 

@@ -111,7 +111,11 @@ pub fn requeue_of(how: u64, entry: u64, marks: u64) -> Requeue
     ensures { result ≡ requeue_named how entry marks }
 {
     Requeue {
-        target: if how == 2 || how == 3 { entry_of(entry) } else { 65535 },
+        target: if how == 2 || how == 3 {
+            entry_of(entry)
+        } else {
+            65535
+        },
         with_abort: how == 3,
         aborted: has_mark(marks, 4),
         due: has_mark(marks, 1),

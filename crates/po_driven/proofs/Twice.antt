@@ -1,5 +1,5 @@
 -- A call that is served, requeued by its body to an open entry of the object, and completed there, while no other is queued.
-use Rattle.std.proofs.Common.{ℕ, ◌≡◌, ◌∙◌, ◌+◌, ◌<◌, List, [], ◌∷◌, ◌++◌, length, Bool, true, false, not, ◌&&◌, ◌||◌, if◌then◌else◌, Option, None, Some, ap, ap₂, refl, sym, subst, arith, append-nil}
+use Rattle.std.proofs.Common.{ℕ, ◌≡◌, ◌∙◌, ◌<◌, [], ◌∷◌, ◌++◌, length, Bool, true, false, ◌&&◌, ◌||◌, if◌then◌else◌, Option, None, Some, ap, ap₂, refl, sym, subst, arith}
 use Rattle.std.proofs.lemmas.List.Elements.{All-nil}
 use Rattle.po_unit.specs.declared.outcome.Outcome.TheVariants.{Requeue as RequeueTo}
 use Rattle.po_calls.specs.declared.call.Call.{Call}
@@ -10,17 +10,14 @@ use Rattle.po_engine.specs.Step.{is_full}
 use Rattle.po_engine.specs.Tickets.{is_number}
 use Rattle.po_engine.specs.WaitingCalls.{has_number, is_on}
 use Rattle.po_engine.proofs.Absent.{eq_self}
-use Rattle.po_driven.specs.Answering.{MayRequeue, Moves, is_cancelled}
+use Rattle.po_driven.specs.Answering.{MayRequeue, Moves}
 use Rattle.po_driven.specs.DrivenCallsView.{passed_twice}
 use Rattle.po_driven.specs.DrivenView.{DrivenView, IsDriven}
 use Rattle.po_driven.specs.Noted.{longest_on}
 use Rattle.po_driven.specs.Passing.{MayServeTwice, ServesTwiceBetween}
-use Rattle.po_driven.specs.declared.action.Action.{Action}
 use Rattle.po_driven.specs.declared.action.Action.TheVariants.{Run, Queued}
-use Rattle.po_driven.specs.declared.happening.Happening.{Happening}
 use Rattle.po_driven.specs.declared.happening.Happening.TheVariants.{Due, Ended, Requeued as WasRequeued, Selected, Served}
 use Rattle.po_driven.specs.declared.phase.Phase.TheVariants.{Asked, Resting, Running}
-use Rattle.po_driven.specs.declared.words.BodyEnd.{BodyEnd}
 use Rattle.po_driven.specs.declared.words.BodyEnd.TheVariants.{Requeued}
 use Rattle.po_driven.specs.declared.words.NamedCall.{NamedCall}
 use Rattle.po_driven.specs.declared.words.Requeue.{Requeue}
@@ -89,7 +86,8 @@ module _ (d new : DrivenView) (a : Arriving ℕ) (r : Requeue) (may : MayServeTw
     told = named a;
     ticket = ticket;
     named = named a;
-    driven = (running_driven d a is idle,
+    driven = (
+      running_driven d a is idle,
       record {
         traced = second_queue_traced d.calls a r.target r.with_abort limit is.traced idle may.alone room kept;
         waits = record {
@@ -100,7 +98,7 @@ module _ (d new : DrivenView) (a : Arriving ℕ) (r : Requeue) (may : MayServeTw
       record {
         traced = second_body_traced d.calls a r.target r.with_abort limit is.traced idle may.alone room kept;
         waits = record { limits = is.waits.limits; awaits = refl };
-      }
+      },
     );
     issues = issues_open d a (may_issue d a.entry may.served.may may.served.entry) may.served.stays;
     requeues = record {
@@ -114,8 +112,10 @@ module _ (d new : DrivenView) (a : Arriving ℕ) (r : Requeue) (may : MayServeTw
       names = λ no. absurd no;
       unmoved = λ q e no. absurd (no (may_requeue q e));
       moves = λ q x e in_service. moves_on q x e in_service;
-      ticket = (ap (is_number d.calls.object.state.next) (last_number d.calls.object.tickets d.calls.object.state.next) ∙ eq_self d.calls.object.state.next,
-        found_last (has_number d.calls.object.state.next) d.calls.object.state.waiting moved (eq_self d.calls.object.state.next));
+      ticket = (
+        ap (is_number d.calls.object.state.next) (last_number d.calls.object.tickets d.calls.object.state.next) ∙ eq_self d.calls.object.state.next,
+        found_last (has_number d.calls.object.state.next) d.calls.object.state.waiting moved (eq_self d.calls.object.state.next),
+      );
       full = λ q e. tt;
       looks_on = λ some e. absurd (cc);
       leaves = λ some e. absurd (cc);

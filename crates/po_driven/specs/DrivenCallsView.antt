@@ -87,7 +87,7 @@ passed t a end hs = record {
   happened = t.happened ++ hs;
 }
 
--- the same after a call that its body requeued within the object, where it arrived once more
+-- the same after a call that its body requeued within the object: it arrived twice
 abbrev pub passed_twice : DrivenCallsView → Arriving ℕ → End ℕ → List Happening → DrivenCallsView
 passed_twice t a end hs = record (passed t a end hs) { place = t.place + 2 }
 

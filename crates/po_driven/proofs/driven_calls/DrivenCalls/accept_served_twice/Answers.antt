@@ -15,9 +15,9 @@ invariant_of-self c =
     let requeued = Requeued (RequeueTo target with_abort a.value) c.args.longest in
     let hs = Served a ∷ requeued ∷ Selected target ∷ Ended (Completed a.value) ∷ [] in
     let noted = c.then-self-inside.ensures ∙ ap (λ l. l ++ Ended (Completed a.value) ∷ []) (c.then-3.ensures ∙ ap (λ l. l ++ Selected target ∷ []) (c.then-2.ensures ∙ ap (λ l. l ++ requeued ∷ []) c.then.ensures))
-        ∙ ap (λ l. (l ++ Selected target ∷ []) ++ Ended (Completed a.value) ∷ []) (append_assoc i.happened.items (Served a ∷ []) (requeued ∷ []))
-        ∙ ap (λ l. l ++ Ended (Completed a.value) ∷ []) (append_assoc i.happened.items (Served a ∷ requeued ∷ []) (Selected target ∷ []))
-        ∙ append_assoc i.happened.items (Served a ∷ requeued ∷ Selected target ∷ []) (Ended (Completed a.value) ∷ []) in
+    ∙ ap (λ l. (l ++ Selected target ∷ []) ++ Ended (Completed a.value) ∷ []) (append_assoc i.happened.items (Served a ∷ []) (requeued ∷ []))
+    ∙ ap (λ l. l ++ Ended (Completed a.value) ∷ []) (append_assoc i.happened.items (Served a ∷ requeued ∷ []) (Selected target ∷ []))
+    ∙ append_assoc i.happened.items (Served a ∷ requeued ∷ Selected target ∷ []) (Ended (Completed a.value) ∷ []) in
     subst (λ o. IsTraced (record { object = o; place = i.place + 2; happened = c.then-self-inside.result.items })) (sym c.end_at_once.ensures)
     (subst (λ l. IsTraced (record { object = (passed_twice old a (Completed a.value) hs).object; place = i.place + 2; happened = l })) (sym noted)
     (twice_traced old a target with_abort c.args.longest c.self.invariant idle alone c.requires.open c.requires.kept))

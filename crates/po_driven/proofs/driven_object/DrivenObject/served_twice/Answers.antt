@@ -1,4 +1,4 @@
-use Rattle.std.proofs.Common.{ℕ, ◌≡◌, ◌∙◌, ◌∷◌, [], Option, ap, refl}
+use Rattle.std.proofs.Common.{ℕ, ◌∙◌, ◌∷◌, [], Option, ap, refl}
 use Rattle.po_unit.specs.declared.outcome.Outcome.TheVariants.{Requeue as RequeueTo}
 use Rattle.po_calls.specs.declared.end.End.TheVariants.{Completed}
 use Rattle.po_driven.specs.DrivenCallsView.{DrivenCallsView, passed_twice}
