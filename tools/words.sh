@@ -18,7 +18,7 @@ rows() {
   ada --linked PROGRAM          Says whether a linked Ada program runs over pobj or on GNAT's own runtime
   ada --sources DIR             Puts the units of GNAT's that pobj changes into DIR, to be read
   c DEST                        Makes a folder with the library for C, its headers and examples
-  trace FILE                    Shows what the objects of an Ada program did
+  trace [--all|--waits] FILE    Shows what the objects of an Ada program did, or only what waits
   build [run|check|stress|all]  Proves and builds programs; until then an answer is a trial of a minute
   dist                          Makes an archive of all, for machines without the toolchain
 ROWS
