@@ -27,7 +27,7 @@ struct arrival {
 static struct side in_one, by_steps;
 static bool is_queued[CALLERS];
 static uint64_t random_bits = 0x9e3779b97f4a7c15;
-static uint64_t served[ENDS], waited, turned_away, refused, without_memory; /* how often */
+static uint64_t served[ENDS], served_twice[ENDS], waited, turned_away, refused, without_memory; /* how often */
 
 static uint64_t below(uint64_t limit) {
     random_bits ^= random_bits << 13;
@@ -163,10 +163,44 @@ static void pass(const struct arrival *call) {
     carry_out(same(issue(&in_one, call), other));
 }
 
+/* Returns whether the answer is this action, of this entry and of this call. */
+static bool is(uint64_t what, pobj_action action, uint64_t entry, const struct arrival *call) {
+    return pobj_action_of(what) == action && pobj_entry_of(what) == entry && by_steps.step.caller == call->caller;
+}
+
+/* Takes the steps that serve a call alone, requeue it, and serve it there. */
+static void pass_twice_by_steps(const struct arrival *call) {
+    CHECK(is(issue(&by_steps, call), POBJ_RUN, call->entry, call));
+    CHECK(is(body_ended(&by_steps, call), POBJ_QUEUED, call->target, call));
+    keep(&by_steps);
+    CHECK(is(answer(&by_steps, POBJ_OPEN), POBJ_RUN, call->target, call));
+    uint64_t what = pobj_body_ended(&by_steps.object, POBJ_COMPLETED, 0, POBJ_NO_MARKS, &by_steps.step);
+    CHECK(pobj_action_of(what) == POBJ_REST);
+}
+
+/* Returns whether the body requeues the call within the object, neither due nor cancelled then. */
+static bool moves(const struct arrival *call) {
+    bool is_aborted = ((call->marks | call->target_marks) & POBJ_ABORTED) != 0, is_due = (call->target_marks & POBJ_DUE) != 0;
+    return !is_due && (call->how == POBJ_REQUEUED || (call->how == POBJ_REQUEUED_WITH_ABORT && !is_aborted));
+}
+
+/* A call whose barrier is open, and that of its target too, however many calls are queued. Returns whether it is served. */
+static bool pass_twice(const struct arrival *call) {
+    bool is_cancelled = (call->marks & POBJ_ABORTED) && !(call->marks & POBJ_WITHOUT_ABORT);
+    bool passes = pobj_served_twice(
+        &in_one.object, call->caller, call->entry, call->marks, call->how, call->target, call->target_marks);
+    CHECK(passes == (count_of(is_queued) == 0 && !is_cancelled && moves(call)));
+    if (passes) {
+        pass_twice_by_steps(call);
+        served_twice[call->how]++;
+    }
+    return passes;
+}
+
 /* Takes the steps that queue a call alone, or turn it away. */
 static void stop_by_steps(const struct arrival *call) {
     uint64_t what = issue(&by_steps, call);
-    CHECK(pobj_action_of(what) == POBJ_QUEUED && pobj_entry_of(what) == call->entry && by_steps.step.caller == call->caller);
+    CHECK(is(what, POBJ_QUEUED, call->entry, call));
     keep(&by_steps);
     what = answer(&by_steps, POBJ_CLOSED);
     if (call->marks & POBJ_DUE) {
@@ -210,6 +244,8 @@ static void arrive(void) {
     call.entry = below(ENTRIES);
     call.marks = some_marks();
     call.barrier = some_barrier();
+    if (call.barrier == POBJ_OPEN && below(4) > 0 && pass_twice(&call))
+        return;
     if (call.barrier == POBJ_OPEN)
         pass(&call);
     else if (call.barrier == POBJ_CLOSED)
@@ -253,6 +289,7 @@ static void counts_are_same(void) {
         count += pobj_count(&in_one.object, entry);
     }
     CHECK(count == count_of(is_queued));
+    CHECK(pobj_is_idle(&in_one.object) == (count == 0) && pobj_is_idle(&by_steps.object) == (count == 0));
 }
 
 static bool make(struct side *side, size_t calls) {
@@ -279,6 +316,7 @@ int main(void) {
         play(i % 2 == 0 ? 0 : 1 + i % CALLERS);
     for (int how = 0; how < ENDS; how++)
         CHECK(served[how] > GAMES);
+    CHECK(served_twice[POBJ_REQUEUED] > GAMES && served_twice[POBJ_REQUEUED_WITH_ABORT] > GAMES);
     CHECK(waited > GAMES && turned_away > GAMES && refused > GAMES && without_memory > GAMES);
     printf("both_ways: passed\n");
     return 0;

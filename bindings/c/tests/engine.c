@@ -165,8 +165,10 @@ enum { ISSUE = 1, ANSWER = 2, ENDED = 4, NEXT = 8, CANCEL = 16, FINALIZE = 32, R
 /* Checks that each of the steps in one is refused. */
 static void refuses_steps_in_one(pobj_step *scrap) {
     CHECK(pobj_ready(&object) == POBJ_REFUSED);
-    for (pobj_body_end how = POBJ_COMPLETED; how <= POBJ_REQUEUED_ELSEWHERE; how++)
+    for (pobj_body_end how = POBJ_COMPLETED; how <= POBJ_REQUEUED_ELSEWHERE; how++) {
         CHECK(pobj_served(&object, 99, 0, 0, how, 0, 0, scrap) == POBJ_REFUSED);
+        CHECK(!pobj_served_twice(&object, 99, 0, 0, how, 0, 0));
+    }
     for (pobj_marks marks = POBJ_NO_MARKS; marks <= 7; marks++)
         CHECK(!pobj_wait(&object, 99, 0, marks, scrap) && !pobj_turn_away(&object, 99, 0, marks));
 }
@@ -487,7 +489,7 @@ static void none(void) {
         CHECK(pobj_body_ended(&object, POBJ_COMPLETED, 0, 0, &step) == POBJ_REFUSED);
         CHECK(pobj_finalize(&object, &step) == POBJ_REFUSED && pobj_cancel(&object, 0, 1, 0) == POBJ_CANCEL_REFUSED);
         refuses_steps_in_one(&step);
-        CHECK(!pobj_limit(&object, 0, 1) && pobj_count(&object, 0) == 0);
+        CHECK(!pobj_limit(&object, 0, 1) && pobj_count(&object, 0) == 0 && !pobj_is_idle(&object));
         CHECK(step.caller == before.caller && step.key == before.key && step.number == before.number && object.at == NULL);
         pobj_free(&object);
         CHECK(object.at == NULL && pobj_make(&object, ENTRIES));
@@ -532,7 +534,7 @@ static void rounds_in_one(int times) {
         CHECK(pobj_wait(&object, 2, 1, 0, &step) && is(pobj_next(&object, &step), POBJ_EVALUATE, 1));
         CHECK(is_of(pobj_answer(&object, POBJ_OPEN, &step), POBJ_RUN, 2));
         CHECK(is_rest(pobj_body_ended(&object, POBJ_COMPLETED, 0, 0, &step)));
-        CHECK(pobj_turn_away(&object, 3, 1, POBJ_DUE));
+        CHECK(pobj_turn_away(&object, 3, 1, POBJ_DUE) && pobj_served_twice(&object, 4, 0, 0, POBJ_REQUEUED, 1, 0));
     }
 }
 
@@ -640,6 +642,80 @@ static void not_served(void) {
     pobj_free(&object);
 }
 
+/* An object is idle if it waits for a command, and no call is queued. To ask it changes nothing. */
+static void idle(void) {
+    begin();
+    CHECK(pobj_is_idle(&object) && is(pobj_issue(&object, 0, 0, 0, POBJ_OPEN, &step), POBJ_RUN, 0) && !pobj_is_idle(&object));
+    CHECK(is(pobj_body_ended(&object, POBJ_REQUEUED, 1, 0, &step), POBJ_QUEUED, 1) && !pobj_is_idle(&object));
+    CHECK(is(pobj_answer(&object, POBJ_OPEN, &step), POBJ_RUN, 1) && step.caller == 0 && !pobj_is_idle(&object));
+    CHECK(is_rest(pobj_body_ended(&object, POBJ_COMPLETED, 0, 0, &step)) && pobj_is_idle(&object));
+    CHECK(issue(0, 2, 0) == QUEUED && !pobj_is_idle(&object));
+    CHECK(is(pobj_next(&object, &step), POBJ_EVALUATE, 2) && !pobj_is_idle(&object));
+    CHECK(is_rest(pobj_answer(&object, POBJ_CLOSED, &step)) && !pobj_is_idle(&object));
+    CHECK(cancel(0, 1) == POBJ_CANCEL_MADE && pobj_count(&object, 2) == 0 && !pobj_is_idle(&object));
+    CHECK(is_rest(pobj_next(&object, &step)) && pobj_is_idle(&object) && issue(0, 1, 0) == QUEUED);
+    CHECK(is_of(pobj_finalize(&object, &step), POBJ_PROGRAM_ERROR, 0) && !pobj_is_idle(&object));
+    CHECK(is_rest(pobj_next(&object, &step)) && pobj_is_idle(&object) && object.at != NULL);
+    pobj_free(&object);
+    CHECK(!pobj_is_idle(&object));
+}
+
+static bool serve_twice(uint64_t entry, pobj_marks marks, pobj_body_end how, uint64_t target, pobj_marks target_marks) {
+    return pobj_served_twice(&object, 99, entry, marks, how, target, target_marks);
+}
+
+/* Calls that two bodies have served. Each leaves the object at rest, and no call queued. */
+static void served_twice(void) {
+    begin();
+    CHECK(pobj_limit(&object, 1, 1));
+    for (uint64_t i = 0; i < ENTRIES * ENTRIES; i++) {
+        CHECK(serve_twice(i / ENTRIES, 0, POBJ_REQUEUED, i % ENTRIES, 0));
+        CHECK(serve_twice(i / ENTRIES, 0, POBJ_REQUEUED_WITH_ABORT, i % ENTRIES, 0) && pobj_is_idle(&object));
+    }
+    refuses_all_but(commands);
+    for (pobj_body_end how = POBJ_REQUEUED; how <= POBJ_REQUEUED_WITH_ABORT; how++) {
+        CHECK(serve_twice(0, POBJ_DUE, how, 1, 0) && serve_twice(0, POBJ_WITHOUT_ABORT, how, 1, 0));
+        CHECK(serve_twice(0, POBJ_DUE | POBJ_WITHOUT_ABORT, how, 1, 0));
+    }
+    CHECK(serve_twice(0, 0, POBJ_REQUEUED, 1, POBJ_ABORTED));
+    CHECK(serve_twice(0, POBJ_WITHOUT_ABORT | POBJ_ABORTED, POBJ_REQUEUED, 1, POBJ_ABORTED));
+    CHECK(is_rest(pobj_next(&object, &step)) && issue(0, 1, 0) == QUEUED && pobj_count(&object, 1) == 1);
+    pobj_free(&object);
+    CHECK(pobj_make_fixed(&object, ENTRIES, 0) && serve_twice(0, 0, POBJ_REQUEUED, 1, 0) && issue(0, 1, 0) == NO_MEMORY);
+    pobj_free(&object);
+}
+
+/* Checks that a call that two bodies have served isn't taken in one step, however it is requeued. */
+static void refuses_twice(uint64_t entry, pobj_marks marks, uint64_t target, pobj_marks target_marks) {
+    CHECK(!serve_twice(entry, marks, POBJ_REQUEUED, target, target_marks));
+    CHECK(!serve_twice(entry, marks, POBJ_REQUEUED_WITH_ABORT, target, target_marks));
+}
+
+/* Such calls that aren't taken in one step, which changes nothing. */
+static void not_served_twice(void) {
+    const uint64_t no_entries[] = {ENTRIES, 65535, UINT64_MAX}, no_requeues[] = {0, 1, 4, 5, 256, UINT64_MAX};
+    begin();
+    for (int i = 0; i < 3; i++) {
+        refuses_twice(no_entries[i], 0, 1, 0);
+        refuses_twice(0, 0, no_entries[i], 0);
+    }
+    for (int i = 0; i < 6; i++)
+        CHECK(!serve_twice(0, 0, (pobj_body_end)no_requeues[i], 1, 0));
+    refuses_twice(0, POBJ_ABORTED, 1, 0);
+    refuses_twice(0, POBJ_ABORTED | POBJ_DUE, 1, 0);
+    refuses_twice(0, 0, 1, POBJ_DUE);
+    CHECK(!serve_twice(0, 0, POBJ_REQUEUED_WITH_ABORT, 1, POBJ_ABORTED));
+    CHECK(!serve_twice(0, POBJ_WITHOUT_ABORT | POBJ_ABORTED, POBJ_REQUEUED_WITH_ABORT, 1, 0) && pobj_is_idle(&object));
+    CHECK(issue(0, 2, 0) == QUEUED);
+    for (uint64_t entry = 0; entry < ENTRIES; entry++)
+        refuses_twice(entry, 0, 2, 0);
+    CHECK(pobj_count(&object, 2) == 1 && cancel(0, 1) == POBJ_CANCEL_MADE);
+    refuses_twice(0, 0, 1, 0);
+    CHECK(is_rest(pobj_next(&object, &step)) && serve_twice(0, 0, POBJ_REQUEUED, 1, 0) && is_rest(pobj_finalize(&object, &step)));
+    refuses_twice(0, 0, 1, 0);
+    pobj_free(&object);
+}
+
 /* Calls that wait alone, and calls that can't. */
 static void waits(void) {
     begin();
@@ -703,6 +779,9 @@ int main(void) {
     served();
     served_and_requeued();
     not_served();
+    idle();
+    served_twice();
+    not_served_twice();
     waits();
     turned_away();
     many_requeues();

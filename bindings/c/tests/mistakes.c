@@ -37,10 +37,14 @@ uint64_t swap(pobj_marks marks, pobj_barrier barrier, pobj_body_end how, bool is
     return pobj_wait(&object, 1, 0, POBJ_CLOSED, &step);
 #elif MISTAKE == 25
     return pobj_turn_away(&object, 1, 0, barrier);
+#elif MISTAKE == 26
+    return pobj_served_twice(&object, 1, 0, how, marks, 0, POBJ_NO_MARKS);
+#elif MISTAKE == 27
+    return pobj_served_twice(&object, 1, 0, POBJ_NO_MARKS, marks, 0, how);
 #else
     return pobj_issue(&object, 1, 0, both, chosen, &step) + pobj_body_ended(&object, how, 0, marks, &step) +
         pobj_served(&object, 1, 0, both, how, 0, marks, &step) + pobj_wait(&object, 1, 0, marks, &step) +
-        pobj_turn_away(&object, 1, 0, both);
+        pobj_turn_away(&object, 1, 0, both) + pobj_served_twice(&object, 1, 0, both, how, 0, marks) + pobj_is_idle(&object);
 #endif
 }
 

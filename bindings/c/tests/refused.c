@@ -133,15 +133,27 @@ static void ready_at_last(void) {
     rests(answer);
 }
 
-/* Issues a call that its body has requeued. pobj_ready made room for it, so this takes no memory. */
-static uint64_t served_and_requeued(uint64_t caller) {
+/* Returns whether this can be done while every allocation is refused. It may not even ask for one. */
+static bool without_memory(bool (*is_done)(uint64_t caller), uint64_t caller) {
     unsigned granted = refusals;
     long before = left;
     left = 0;
-    uint64_t answer = pobj_served(&object, caller, 1, 0, POBJ_REQUEUED_WITH_ABORT, 2, 0, &step);
+    bool done = is_done(caller);
     left = before;
     CHECK(refusals == granted);
-    return answer;
+    return done;
+}
+
+/* Issues a call that its body has requeued. pobj_ready made room for it. */
+static bool serve_and_requeue(uint64_t caller) {
+    return pobj_action_of(pobj_served(&object, caller, 1, 0, POBJ_REQUEUED_WITH_ABORT, 2, 0, &step)) == POBJ_QUEUED;
+}
+
+/* Issues a call that two bodies have served, for which there needs to be no room. */
+static bool serve_twice(uint64_t caller) {
+    bool is_idle = pobj_is_idle(&object);
+    CHECK(pobj_served_twice(&object, caller, 1, 0, POBJ_REQUEUED_WITH_ABORT, 2, 0) == is_idle);
+    return is_idle;
 }
 
 /* Queues a call alone, and cancels it. If its memory is refused, nothing has changed, and it is queued then. */
@@ -155,15 +167,16 @@ static void wait_at_last(uint64_t caller) {
     rests(close(pobj_next(&object, &step)));
 }
 
-/* Makes the calls of `pass` by steps in one. If no other call is queued, one more waits first. */
+/* Makes the calls of `pass` by steps in one. If no other call is queued, one more is served twice first, and one waits. */
 static void pass_in_one(uint64_t caller) {
     uint64_t before = queued();
+    CHECK(without_memory(serve_twice, caller) == (before == 0) && queued() == before);
     if (before == 0)
         wait_at_last(caller);
     ready_at_last();
     rests(close(pobj_served(&object, caller, 0, 0, POBJ_COMPLETED, 0, 0, &step)));
     ready_at_last();
-    CHECK(pobj_action_of(served_and_requeued(caller)) == POBJ_QUEUED);
+    CHECK(without_memory(serve_and_requeue, caller));
     withdraw();
     CHECK(pobj_turn_away(&object, caller, 2, POBJ_DUE) == (before == 0) && queued() == before);
 }
