@@ -167,7 +167,8 @@ uint64_t pobj_served(pobj_object *object, uint64_t caller, uint64_t entry, pobj_
    pobj_body_ended with POBJ_COMPLETED, while no other call is queued (pobj_is_idle). The client has run both bodies. The second
    barrier has to be open however many calls are queued: one that hasn't asked pobj_count is. `how` is POBJ_REQUEUED or
    POBJ_REQUEUED_WITH_ABORT. True: the call is completed, and the object is at rest. False: nothing has changed, and the client
-   tells the steps one by one, as for a call that is marked as due or aborted at its requeue. It takes no memory. */
+   tells the steps one by one: so of a call that is marked as due at its requeue, or as aborted at one with abort. It takes no
+   memory. */
 bool pobj_served_twice(pobj_object *object, uint64_t caller, uint64_t entry, pobj_marks marks, pobj_body_end how,
     uint64_t target, pobj_marks target_marks);
 
