@@ -598,14 +598,10 @@ package body System.Tasking.Protected_Objects.Actions is
       Call     : Entry_Call_Link;
       E, Index : Protected_Entry_Index) return Boolean is
    begin
-      if Attempted (Call) /= 0
-        or else pobj_is_idle (Engine_Of (Object.all)) = 0
-      then
-         return False;
-      end if;
-
       Nested_Actions.Has_Counted := False;
-      return Barrier_Of (Object, E, Index) = Open
+      return Attempted (Call) = 0
+        and then pobj_is_idle (Engine_Of (Object.all)) /= 0
+        and then Barrier_Of (Object, E, Index) = Open
         and then not Nested_Actions.Has_Counted;
    end Is_Open_Alone;
 
@@ -628,8 +624,7 @@ package body System.Tasking.Protected_Objects.Actions is
       Trace (Object, Call, Traces.Queued);
       How := Run_Body (Self_ID, Object, Call, E, Index);
 
-      --  If this body hasn't completed the call, the engine is told step by
-      --  step.
+      --  Of any other end the engine is told step by step
 
       if How /= Completed
         or else pobj_served_twice

@@ -10,8 +10,7 @@
 
    Threads call its entries, and an entry call waits while its barrier is closed. A mutex guards the object. The thread that
    holds it carries out all that has become possible, the bodies of other callers too, and after the unlock it wakes exactly
-   the callers whose calls have ended. Each waiting caller has a condition variable of its own. A call that isn't timed first
-   yields the processor some times.
+   the callers whose calls have ended. Each has a condition variable, and if its call isn't timed, yields some times before.
 
    Barriers, bodies, procedures and functions run under the mutex, in whichever thread carries them out. They must end by
    returning: not by longjmp, a C++ exception or the cancellation of their thread. They make no entry call, which is
@@ -20,8 +19,7 @@
 
    A barrier reads only its own object. Bodies, procedures and functions may also run procedures and functions of other
    objects, and ask for counts there, as long as all threads lock objects in the same order. A requeue to another object
-   counts in this order: the thread that carries it out locks that object while it is inside all its others. Two threads that
-   lock two objects in opposite orders may wait for each other for ever; the thread sanitizer (-fsanitize=thread) reports it.
+   counts in this order: its thread locks that object while inside its others. -fsanitize=thread reports opposite orders.
 
    All code is in this header; it needs pobj.h and the library. It is C11 or C++17 with the atomics of GCC and Clang, for
    POSIX.1-2008. Under -std=c11, define _POSIX_C_SOURCE as 200809L before the first header. Names that begin with
@@ -34,7 +32,6 @@
 #include <pthread.h>
 #include <sched.h>
 #include <stdbool.h>
-#include <stddef.h>
 #include <stdint.h>
 #include <stdlib.h>
 #include <time.h>
@@ -48,7 +45,6 @@ typedef struct pobj_call pobj_call;
 
 /* Of a function whose answer a program mustn't drop. */
 #define POBJ_THREADS_HEED __attribute__((warn_unused_result))
-
 /* Of a function on the way of every call: in a frame of its own, each would cost more than what it does. */
 #define POBJ_THREADS_IN_PLACE __attribute__((always_inline))
 
@@ -391,9 +387,7 @@ static inline uint64_t pobj_threads_do(pobj_threads_action *action, uint64_t ans
         return pobj_threads_cancelled(action);
     case POBJ_PROGRAM_ERROR:
         return pobj_threads_unserved(action, POBJ_CALL_PROGRAM_ERROR);
-    case POBJ_REST:
-    case POBJ_NO_MEMORY:
-    case POBJ_REFUSED:
+    case POBJ_REST: case POBJ_NO_MEMORY: case POBJ_REFUSED:
     default: /* a step of this header is refused only if something has written into the object */
         abort();
     }
@@ -456,8 +450,7 @@ static inline bool pobj_threads_wait(pobj_threads_action *action, pobj_call *cal
     return true;
 }
 
-/* Cancels the call if it is due, and queues it otherwise: its barrier is closed, and asked for no count. Returns false, and
-   changes nothing, if a call is queued already, if this one is aborted, or if there is no memory. */
+/* Cancels the call if it is due, or else queues it: its barrier is closed and asked for no count. False: nothing is changed. */
 static inline bool pobj_threads_stop(pobj_threads_action *action, pobj_call *call, uint64_t entry, pobj_marks marks) {
     return call->due ? pobj_threads_turn_away(action, call, entry, marks) : pobj_threads_wait(action, call, entry, marks);
 }
@@ -473,8 +466,7 @@ static inline void pobj_threads_accept(
         pobj_threads_drive(action, answer);
 }
 
-/* Carries out the call, whose barrier has this value, in as few steps as possible. If it may have to wait, first makes what its
-   caller sleeps on. */
+/* Carries out the call, whose barrier has this value, in few steps. If it may wait, first makes what its caller sleeps on. */
 POBJ_THREADS_IN_PLACE static inline void pobj_threads_carry_out(
     pobj_threads_action *action, pobj_call *call, uint64_t entry, pobj_marks marks, pobj_barrier barrier) {
     bool is_withdrawn = (marks & (POBJ_ABORTED | POBJ_WITHOUT_ABORT)) == POBJ_ABORTED;
