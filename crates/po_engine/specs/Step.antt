@@ -1,6 +1,6 @@
 -- SPDX-License-Identifier: MIT
 -- What an event needs, and the state that it leads to.
-use Rattle.std.specs.Prelude.{ℕ, count_by, ◌≡◌, ◌<◌, ◌+◌, ◌==◌, max, List, [], ◌∷◌, ◌++◌, map, Bool, true, false, not, ◌&&◌, Result, Ok, Err, Option, Some, None, find, IsSome, if◌then◌else◌}
+use Rattle.std.specs.Prelude.{ℕ, count_by, nat_le, ◌≡◌, ◌<◌, ◌+◌, max, List, [], ◌∷◌, ◌++◌, map, Bool, true, false, not, ◌&&◌, Result, Ok, Err, Option, Some, None, find, IsSome, if◌then◌else◌}
 use Rattle.po_unit.specs.Meaning.{Meaning}
 use Rattle.po_unit.specs.declared.outcome.Outcome.{Outcome}
 use Rattle.po_unit.specs.declared.outcome.Outcome.TheVariants.{Complete, Raise, Requeue}
@@ -17,7 +17,7 @@ use Rattle.po_engine.specs.ObjectState.{ObjectState, counts_in, barrier_in, IsQu
 -- whether a queue of `n` calls is full under this limit (D.7, Max_Entry_Queue_Length, here for an object)
 abbrev pub is_full : Option ℕ → ℕ → Bool
 is_full None n = false
-is_full (Some most) n = n == most
+is_full (Some most) n = nat_le most n
 
 module _ {S V : Type 0} where
   -- a call that isn't queued ends
@@ -48,6 +48,13 @@ module _ {S V : Type 0} where
       if with_abort && x.aborted
       then end_call s x Cancelled
       else enter limit s (record x { entry = target; value = v; without_abort = not with_abort })
+
+  -- whether that state has the call on a queue
+  abbrev pub is_queued_again : Option ℕ → ObjectState S V → Call V → Outcome V → Bool
+  is_queued_again limit s x (Complete v) = false
+  is_queued_again limit s x (Raise k) = false
+  is_queued_again limit s x (Requeue target with_abort v) =
+      not (with_abort && x.aborted) && not (is_full limit (count_by (is_on target) s.waiting))
 
   -- the body of a call that isn't queued runs, and the call is concluded (9.5.2, 9.5.3)
   abbrev pub run_body : Meaning S V → Option ℕ → ObjectState S V → Call V → ObjectState S V
