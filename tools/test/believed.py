@@ -23,7 +23,7 @@ GLUE = (
         ("bindings/ada/make.sh", "bindings/ada/change.awk"),
         "#",
     ),
-    ("C: include/pobj.h, which says to C what the library has", ("include/pobj.h",), "//"),
+    ("C: include/pobj.h, which declares the library to C", ("include/pobj.h",), "//"),
     ("C: pobj_threads.h, protected objects for threads over it (bindings/c)", ("bindings/c/pobj_threads.h",), "//"),
 )
 # The calls of an object whose answers are of its one history.
@@ -205,7 +205,7 @@ def unproved():
     """The rows of what stands in crates/ and is to be believed, or would be."""
     code, proofs = ("//", "*/src/*.rt"), ("--", "*/specs/*.antt", "*/proofs/**/*.antt")
     yield "functions that C calls, with the attribute `unsafe(no_mangle)`", counted(found_in(r"#\[unsafe\(", *code))
-    yield "lines with `unsafe`, but for such attributes", counted(found_in(r"(?<!\[)\bunsafe\b", *code))
+    yield "lines with `unsafe`, except such attributes", counted(found_in(r"(?<!\[)\bunsafe\b", *code))
     yield "blocks that declare functions of C, whose contracts would be assumed", counted(found_in(r"\bextern \"C\" \{", *code))
     yield "axioms, in definitions and proofs", counted(found_in(r"\baxiom\b", *proofs))
     yield "holes, the sign `?` in the place of a proof", counted(found_in(r"\?", *proofs))
