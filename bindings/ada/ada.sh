@@ -38,7 +38,7 @@ take_words() {
   esac
 }
 
-# Prints the word as a shell has to be given it.
+# Prints the word, quoted for a shell.
 quoted() {
   case $1 in
     *[!A-Za-z0-9_./+=@%:,-]*) printf "'%s'" "$1" ;;

@@ -1,6 +1,6 @@
 /* SPDX-License-Identifier: MIT */
-/* Random commands on two objects: one takes the steps in one, the other the steps that they are made of. Both give the same
-   answers, name the same calls, count the same, and answer the same about their own tickets. */
+/* Random commands on two objects: one takes several steps by one function, the other takes each step by itself. Both give the
+   same answers, name the same calls, count the same, and answer the same about their own tickets. */
 #include "pobj.h"
 #include "check.h"
 
@@ -137,7 +137,8 @@ static uint64_t count_of(const bool is_one[CALLERS]) {
     return count;
 }
 
-/* Checks that the step is refused on the side that takes the steps in one, and changes nothing that can be seen. */
+/* Checks that the step is refused on the side that takes several steps by one function, and changes nothing that can be seen.
+   */
 static void is_not_served(const struct arrival *call) {
     const pobj_step before = in_one.step;
     CHECK(serve(call) == POBJ_REFUSED && is_same(&in_one.step, &before));
