@@ -99,8 +99,8 @@ most_at_once() {
     END { print most < 1 ? 1 : most }' /proc/meminfo
 }
 
-# Starts to build the crates of `todo` that depend on no other one of it. Each has a session of its own, so that all its processes
-# can be told to stop.
+# Starts to build the crates of `todo` that depend on no other crate of `todo`. Each has a session of its own, so that all its
+# processes can be told to stop.
 begin_crates() {
   local crate
   for crate in "${todo[@]}"; do

@@ -20,7 +20,7 @@ build_library() {
   say "the library is built in $(since)"
 }
 
-# Builds the library if it isn't fresh. Only then it waits while another call builds.
+# Builds the library if it isn't fresh. Only then does it wait while another call builds.
 need_library() {
   ! is_library_fresh || return 0
   wait_for_turn
@@ -90,7 +90,7 @@ put_ada() {
   cp -r "$top"/bindings/ada/*.* "$top"/bindings/ada/{changes,parts,tests/hangs.adb} "$1/share/pobj/ada/"
 }
 
-# Puts into the folder what is read: a README of its own, the licence, the pages, and the scripts of examples.
+# Puts into the folder what users read: a README of its own, the licence, the pages, and the scripts of examples.
 put_pages() {
   mkdir -p "$1/docs/pictures"
   sed "s,@version@,$(version)," "$top/tools/archive.md" >"$1/README.md"

@@ -6,7 +6,7 @@
 most_input=67108864
 most_seconds=60
 
-# Ends, and says why a trial can't serve, and what does.
+# Says why a trial can't serve, and what can, and ends.
 refuse_trial() {
   say "$1, which a trial of the sources can't serve: '$(build_words "$program")' proves and builds the program, which can"
   exit 5

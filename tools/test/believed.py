@@ -10,7 +10,7 @@ sys.dont_write_bytecode = True
 
 import walk
 
-# What no proof covers, beside the toolchain: a line of the table, the files, and the mark of their comments.
+# What no proof covers, besides the toolchain: a line of the table, the files, and the mark of their comments.
 GLUE = (
     (
         "Ada: the packages of the runtime, and what goes into GNAT's (bindings/ada)",
@@ -36,7 +36,7 @@ COMMANDS = {
     "object_core.rt": ("issue", "procedure", "function", "cancel", "tick", "finalize", "collect", "end_of"),
     "recorded_core.rt": ("cancel_number", "cut"),
 }
-# The types whose views say what a core with a record, or without one, is to a contract; and the ghost items that say it.
+# The types whose views say how contracts see a core, with a record or without one; and the ghost items that say it.
 VIEWED = ("Core", "Recorded", "Unrecorded")
 VIEWS = ("Value", "view", "base", "events")
 PROGRAMS = ("pobj_run", "pobj_check", "pobj_stress", "po_c")
@@ -73,7 +73,7 @@ def premise():
 
 
 def views_in(lines):
-    """The lines of an item that say what a value is to a contract."""
+    """The lines of an item that say how contracts see a value."""
     found, inside = [], False
     for line in lines:
         begun = re.match(r"    ghost (\w+) =", line)
@@ -85,7 +85,7 @@ def views_in(lines):
 
 
 def all_views():
-    """By each type of crates/*/src that has a view its file and the lines of the view."""
+    """For each type of crates/*/src that has a view, its file and the lines of the view."""
     found = {}
     for path in sorted(walk.CRATES.glob("po_*/src/**/*.rt")):
         for lines in walk.blocks(path.read_text()):
@@ -101,7 +101,7 @@ def fields_of(path, name):
 
 
 def views():
-    """The views of a core and of all that stands in it: how many they are, their lines, and the definitions that they cite."""
+    """The views of a core and of all that it contains: how many they are, their lines, and the definitions that they cite."""
     there, found, left = all_views(), {}, list(VIEWED)
     while left:
         name = left.pop()
@@ -166,13 +166,13 @@ def glue():
 
 
 def needs():
-    """By each crate of crates.txt what it stands on."""
+    """For each crate of crates.txt, what it depends on."""
     lines = (line.partition(":") for line in (walk.TOP / "crates.txt").read_text().splitlines() if line and line[0] != "#")
     return {head.split()[0]: deps.split() for head, _, deps in lines}
 
 
 def libraries():
-    """The rows of the kit's libraries: those that programs and the library for C stand on, and the others."""
+    """The rows of the kit's libraries: those that the programs and the library for C depend on, and the others."""
     lines = needs()
     below, left = set(), list(PROGRAMS)
     while left:

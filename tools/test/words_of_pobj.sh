@@ -64,7 +64,7 @@ missing_there() {
   answers_there 4 err "can't be opened: Is a directory" run -- "$scratch"
 }
 
-# A script that is named is what the program reads, by the built one and by a trial.
+# If the command line names a script, the program reads that script, whether it is built or run by a trial.
 named_there() {
   local script=$scratch/script
   printf '# A buffer.\nunit\tbufer 2\n' >"$script"
@@ -97,7 +97,7 @@ faults_there() {
   if grep -q "line 2 is" "$scratch/err"; then fail "a fault is explained though nobody reads along"; else pass; fi
 }
 
-# The kit is found in its folder, and another one than the named is warned of.
+# The kit is found in its folder, and a line warns if it isn't the kit that is named.
 kits_there() {
   act_as "cat >/dev/null; echo 'run=ended status=0 proved=no' >&2; exit"
   mkdir "$scratch/build/kit"
