@@ -31,7 +31,7 @@ take_words() {
       ;;
     1?*) ;;
     *)
-      say "it takes the folder for the runtime, or --check, with the folder if that is already made, or --linked and a program," \
+      say "it takes a folder for the runtime; or --check, and a runtime folder if one is made; or --linked and a program;" \
         "or --sources and a folder"
       exit 2
       ;;

@@ -61,7 +61,7 @@ pub enum CloseError<
     S: Hook = NoHook,
 > {
     /// 1: a seat doesn't have exactly one of the passes.
-    #[error("seat {seat} hasn't exactly one of the passes that were given back")]
+    #[error("seat {seat} doesn't have exactly one of the passes that were given back")]
     PassMissing {
         /// The lowest such seat.
         seat: u16,
