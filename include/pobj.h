@@ -181,8 +181,8 @@ bool pobj_is_idle(pobj_object *object);
 bool pobj_wait(pobj_object *object, uint64_t caller, uint64_t entry, pobj_marks marks, pobj_step *step);
 
 /* A command: pobj_issue and pobj_answer, both with POBJ_CLOSED, and pobj_next, for a call that is due while no call is queued.
-   The barrier has to be closed however many calls are queued. True: the call is cancelled, and the object is at rest. False:
-   nothing has changed, and pobj_issue says why. It takes no memory. */
+   The barrier has to be closed whatever the number of queued calls. True: the call is cancelled, and the object is at rest.
+   False: nothing has changed, and pobj_issue says why. It takes no memory. */
 bool pobj_turn_away(pobj_object *object, uint64_t caller, uint64_t entry, pobj_marks marks);
 
 /* Returns how many calls are queued on the entry (9.9), or 0 if there is no such entry. Takes constant time. The object is

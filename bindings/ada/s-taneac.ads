@@ -40,8 +40,8 @@ package System.Tasking.Nested_Actions is
    Has_Counted : Boolean := False;
    pragma Thread_Local_Storage (Has_Counted);
    --  Whether this task has asked for a 'Count (9.9) since this was cleared: a
-   --  barrier that hasn't asked for one has the same value however many calls
-   --  are queued.
+   --  barrier that hasn't asked for one has the same value whatever the number
+   --  of queued calls.
 
    Later : Entry_Call_Link := null;
    pragma Thread_Local_Storage (Later);

@@ -185,7 +185,7 @@ static bool moves(const struct arrival *call) {
     return !is_due && (call->how == POBJ_REQUEUED || (call->how == POBJ_REQUEUED_WITH_ABORT && !is_aborted));
 }
 
-/* A call whose barrier is open, and that of its target too, however many calls are queued. Returns whether it is served. */
+/* A call whose barrier is open, as is that of its target whatever the number of queued calls. Returns whether it is served. */
 static bool pass_twice(const struct arrival *call) {
     bool is_cancelled = (call->marks & POBJ_ABORTED) && !(call->marks & POBJ_WITHOUT_ABORT);
     bool passes = pobj_served_twice(
@@ -220,7 +220,7 @@ static bool stop_in_one(const struct arrival *call) {
     return waits;
 }
 
-/* A call whose barrier is closed, however many calls are queued. */
+/* A call whose barrier is closed whatever the number of queued calls. */
 static void stop(const struct arrival *call) {
     bool is_due = (call->marks & POBJ_DUE) != 0, stays = (call->marks & POBJ_WITHOUT_ABORT) != 0;
     bool is_aborted = (call->marks & POBJ_ABORTED) != 0;
