@@ -24,7 +24,7 @@ LENGTH = 4
 FAILED = "FAILED"
 SAID = {"****": FAILED, "!!!!": "TENTATIVE", "++++": "NOT APPLICABLE", "====": "PASSED"}
 GOOD = {"PASSED", "NOT APPLICABLE", "TENTATIVE"}
-# How often a test is run that says that it has failed: in some tests tasks race each other.
+# How often a test that says that it has failed is run: in some tests tasks race each other.
 RUNS = 3
 # The folder for what each test wrote in each way.
 WRITTEN = acats_source.OUT / "written"
@@ -98,7 +98,7 @@ class Tester:
         WRITTEN.mkdir(parents=True)
 
     def results(self, test):
-        """Returns what a test says in each way."""
+        """Returns what a test says, run in each way."""
         name, _, paths = test
         said, programs_of = {}, {}
         for way, (linking, carry_out) in self.ways.items():

@@ -27,7 +27,7 @@ LIMIT = 120
 # How long a task is given to take note of something, in milliseconds: at first, and if the programs then differ or the
 # machine was too slow.
 STEPS = (20, 100, 400)
-# The status of the Ada program if that wasn't long enough.
+# The status of the Ada program if it was given too little time.
 TOO_LATE = 3
 
 

@@ -19,6 +19,6 @@ list_crates pobj_run
 ! is_fresh pobj_run || exit 3
 find_kit
 command -v rt >/dev/null || exit 6
-say "pobj isn't built, so this is an unproved trial of its sources: a minute or two. './pobj build' proves and builds it"
+say "pobj isn't built, so this is an unproved trial of its sources, which takes a minute or two; './pobj build' proves and builds it"
 cd "$top/crates/pobj_run"
 exec rt try --seconds "$most_seconds" --cases "$1/cases" -- run >"$1/answers" 2>"$1/said"

@@ -5,7 +5,7 @@
 
    Under its lock, a client begins with one of four commands: pobj_issue (an entry call), pobj_next (after the body of a
    procedure, 9.5.1), pobj_cancel (an attempt to cancel a queued call) or pobj_finalize. It then does what each step answers.
-   For calls that nothing keeps waiting, three further commands do several steps in one.
+   Four further commands do several steps in one, for calls of open entries and for calls that arrive while none is queued.
    When the answer is POBJ_REST the protected action is over, and the client leaves its lock. At that point no body runs, and
    for each queued call the client has answered that its barrier is closed, after the last change of anything that a barrier
    may read (9.5.3). So a barrier may read the object's own data and pobj_count, and nothing else that changes.
@@ -50,7 +50,7 @@ typedef struct {
 } pobj_step;
 
 /* Each enumeration is a type of its own, so that two swapped arguments are diagnosed: C++ refuses them. In C, gcc from version
-   10 and clang warn under -Wextra (-Wenum-conversion), but not of a plain number in the wrong place. The attribute mode(DI)
+   10 and clang warn under -Wextra (-Wenum-conversion), but not about a plain number in the wrong place. The attribute mode(DI)
    makes a type 64 bits wide, as the library's arguments are. */
 
 /* What the client is to do next. */
@@ -148,8 +148,8 @@ pobj_cancellation pobj_cancel(pobj_object *object, size_t key, uint64_t number, 
    answered POBJ_REFUSED (9.4). */
 uint64_t pobj_finalize(pobj_object *object, pobj_step *step);
 
-/* Steps in one, for calls that nothing keeps waiting. Each does what the steps that it is made of do, and is noted in the
-   history as they are. */
+/* Several steps in one, for calls of open entries and for calls that arrive while none is queued. Each function does what its
+   steps do one by one, and the history has these steps. */
 
 /* Makes room for one more call, before the client runs the body of an open entry for a call that it hasn't issued yet. If the
    answer is POBJ_REST, pobj_served accepts a call of any entry, whatever its body does, and takes no memory, as long as no
@@ -165,10 +165,10 @@ uint64_t pobj_served(pobj_object *object, uint64_t caller, uint64_t entry, pobj_
 
 /* A command: pobj_issue with POBJ_OPEN, pobj_body_ended with a requeue within the object, pobj_answer with POBJ_OPEN, and
    pobj_body_ended with POBJ_COMPLETED, while no other call is queued (pobj_is_idle). The client has run both bodies. The second
-   barrier has to be open however many calls are queued: one that hasn't asked pobj_count is. `how` is POBJ_REQUEUED or
-   POBJ_REQUEUED_WITH_ABORT. True: the call is completed, and the object is at rest. False: nothing has changed, and the client
-   tells the steps one by one: so of a call that is marked as due at its requeue, or as aborted at one with abort. It takes no
-   memory. */
+   barrier has to be open whatever the number of queued calls, as it is if it hasn't called pobj_count. `how` is POBJ_REQUEUED
+   or POBJ_REQUEUED_WITH_ABORT. True: the call is completed, and the object is at rest. False: nothing has changed, and the
+   client reports the steps one by one. So it is for a call that is marked as due at its requeue, or as aborted at a requeue
+   with abort. It takes no memory. */
 bool pobj_served_twice(pobj_object *object, uint64_t caller, uint64_t entry, pobj_marks marks, pobj_body_end how,
     uint64_t target, pobj_marks target_marks);
 
@@ -176,13 +176,13 @@ bool pobj_served_twice(pobj_object *object, uint64_t caller, uint64_t entry, pob
 bool pobj_is_idle(pobj_object *object);
 
 /* A command: pobj_issue and pobj_answer, both with POBJ_CLOSED, for a call that isn't due while no call is queued. The barrier
-   has to be closed however many calls are queued: one that hasn't asked pobj_count is. True: the call is queued, *step has its
-   ticket, and the object is at rest. False: nothing has changed, and pobj_issue says why. */
+   has to be closed whatever the number of queued calls, as it is if it hasn't called pobj_count. True: the call is queued,
+   *step has its ticket, and the object is at rest. False: nothing has changed, and pobj_issue says why. */
 bool pobj_wait(pobj_object *object, uint64_t caller, uint64_t entry, pobj_marks marks, pobj_step *step);
 
 /* A command: pobj_issue and pobj_answer, both with POBJ_CLOSED, and pobj_next, for a call that is due while no call is queued.
-   The barrier has to be closed however many calls are queued. True: the call is cancelled, and the object is at rest. False:
-   nothing has changed, and pobj_issue says why. It takes no memory. */
+   The barrier has to be closed whatever the number of queued calls. True: the call is cancelled, and the object is at rest.
+   False: nothing has changed, and pobj_issue says why. It takes no memory. */
 bool pobj_turn_away(pobj_object *object, uint64_t caller, uint64_t entry, pobj_marks marks);
 
 /* Returns how many calls are queued on the entry (9.9), or 0 if there is no such entry. Takes constant time. The object is

@@ -99,8 +99,8 @@ most_at_once() {
     END { print most < 1 ? 1 : most }' /proc/meminfo
 }
 
-# Starts to build the crates of `todo` that depend on no other one of it. Each has a session of its own, so that all its processes
-# can be told to stop.
+# Starts to build the crates of `todo` that depend on no other crate of `todo`. Each has a session of its own, so that all its
+# processes can be told to stop.
 begin_crates() {
   local crate
   for crate in "${todo[@]}"; do
@@ -250,7 +250,7 @@ end_program() {
 build_programs() {
   local program
   list_crates "$@"
-  say "proves and builds $*, the first time in $(minutes_of "$@") minutes on 4 processors (here are $(nproc))"
+  say "proves and builds $*, the first time in $(minutes_of "$@") minutes on 4 processors (this machine has $(nproc))"
   say "$log has all that the toolchain says"
   for program; do
     begin_program "$program"
@@ -265,7 +265,7 @@ build_programs() {
 wait_for_turn() {
   exec 9<"$top/pobj"
   if command -v flock >/dev/null && ! flock -n 9; then
-    say "another call builds; this one waits. $log says how far that is"
+    say "another call of pobj is building, so this one waits; $log says how far that is"
     SECONDS=0
     until flock -w "$beat" 9; do
       say "still waiting, $(since)"

@@ -17,5 +17,5 @@ find_kit() {
 check_kit() {
   local found
   found=$(rt version 2>/dev/null) || true
-  [ "${found%% *}" = "$kit" ] || echo "${0##*/}: warning: rt belongs to ${found:-an unknown kit}, and README.md names $kit" >&2
+  [ "${found%% *}" = "$kit" ] || echo "${0##*/}: warning: rt belongs to ${found:-an unknown kit}, but README.md names $kit" >&2
 }

@@ -20,7 +20,7 @@ build_library() {
   say "the library is built in $(since)"
 }
 
-# Builds the library if it isn't fresh. Only then it waits while another call builds.
+# Builds the library if it isn't fresh. Only then does it wait while another call builds.
 need_library() {
   ! is_library_fresh || return 0
   wait_for_turn
@@ -50,7 +50,7 @@ put_library() {
 # Makes the folder for the library. Ends if there can be none, or if it has something that isn't pobj's.
 make_folder() {
   if [ -e "$1" ] && [ ! -d "$1/share/pobj" ] && [ -n "$(ls -A "$1")" ]; then
-    say "$1 is there, and isn't a folder that pobj c made"
+    say "$1 exists, and isn't a folder that pobj c made"
     exit 4
   fi
   if ! mkdir -p "$1" 2>/dev/null; then
@@ -90,7 +90,7 @@ put_ada() {
   cp -r "$top"/bindings/ada/*.* "$top"/bindings/ada/{changes,parts,tests/hangs.adb} "$1/share/pobj/ada/"
 }
 
-# Puts into the folder what is read: a README of its own, the licence, the pages, and the scripts of examples.
+# Puts into the folder what users read: a README of its own, the licence, the pages, and the scripts of examples.
 put_pages() {
   mkdir -p "$1/docs/pictures"
   sed "s,@version@,$(version)," "$top/tools/archive.md" >"$1/README.md"
@@ -125,5 +125,5 @@ dist() {
   put_all "$room/$name"
   (cd "$room" && find "$name" | LC_ALL=C sort | tar -c --no-recursion --mtime=@0 --owner=0 --group=0 --numeric-owner -T - | gzip -n >"$top/$name.tar.gz")
   rm -rf "$room"
-  say "$name.tar.gz has the programs, the library, the runtime for Ada, the pages and their sums"
+  say "$name.tar.gz has the programs, the library, the runtime for Ada, the pages, and checksums"
 }

@@ -6,9 +6,9 @@
 most_input=67108864
 most_seconds=60
 
-# Ends, and says why a trial can't serve, and what does.
+# Says why a trial can't serve, and what can, and ends.
 refuse_trial() {
-  say "$1, which a trial of the sources can't serve: '$(build_words "$program")' proves and builds the program, which can"
+  say "$1: a trial of the sources can't take that. '$(build_words "$program")' proves and builds the program, which can"
   exit 5
 }
 
@@ -17,8 +17,8 @@ announce_trial() {
   local why="the program isn't built" path
   path_of "$program"
   [ ! -x "$path" ] || why="a source is newer than the program"
-  say "$why, so this is an unproved trial of the sources: about a minute"
-  say "'$(build_words "$program")' proves and builds it: $(minutes_of "$program") minutes on 4 processors (here are $(nproc)), then milliseconds a call"
+  say "$why, so this is an unproved trial of the sources, which takes about a minute"
+  say "'$(build_words "$program")' proves and builds it, in $(minutes_of "$program") minutes on 4 processors (this machine has $(nproc)); then an answer takes milliseconds"
 }
 
 # Ends the trial if it still runs, and removes what was kept for it.

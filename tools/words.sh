@@ -19,8 +19,8 @@ rows() {
   ada --sources DIR             Puts the units of GNAT's that pobj changes into DIR, to be read
   c DEST                        Makes a folder with the library for C, its headers and examples
   trace [--all|--waits] FILE    Shows what the objects of an Ada program did, or only what waits
-  build [run|check|stress|all]  Proves and builds programs; until then an answer is a trial of a minute
-  dist                          Makes an archive of all, for machines without the toolchain
+  build [run|check|stress|all]  Proves and builds programs; until then a trial answers, in a minute
+  dist                          Makes an archive of everything, for machines without the toolchain
 ROWS
 }
 
@@ -52,7 +52,7 @@ The statuses:
   5  a build fails, or a trial gives no answer
   6  the toolchain or Python isn't there
 
-docs/SCRIPTS.md describes scripts, docs/ADA.md and docs/C.md what is for programs in Ada and C.
+docs/SCRIPTS.md describes scripts; docs/ADA.md and docs/C.md are for programs in Ada and C.
 REST
 }
 
@@ -75,7 +75,7 @@ refuse_word() {
   if [ -n "$near" ]; then
     say "no command '$word'; did you mean '$near'?"
   else
-    say "no command '$word'; there are $(printf '%s' "$commands" | awk '{ gsub(/ /, ", "); print }'): --help says what each does"
+    say "no command '$word'; the commands are $(printf '%s' "$commands" | awk '{ gsub(/ /, ", "); print }'); --help says what each does"
   fi
   exit 2
 }
@@ -172,7 +172,7 @@ draw() {
   program=$1
   shift
   if ! command -v python3 >/dev/null; then
-    say "a picture is drawn by Python 3, and the command python3 isn't found"
+    say "drawing a picture needs Python 3, and the command python3 isn't found"
     exit 6
   fi
   exec python3 "$parts/picture/picture.py" "$program" "$@"

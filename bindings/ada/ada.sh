@@ -31,14 +31,14 @@ take_words() {
       ;;
     1?*) ;;
     *)
-      say "it takes the folder for the runtime, or --check, with the folder if that is already made, or --linked and a program," \
+      say "it takes a folder for the runtime; or --check, and a runtime folder if one is made; or --linked and a program;" \
         "or --sources and a folder"
       exit 2
       ;;
   esac
 }
 
-# Prints the word as a shell has to be given it.
+# Prints the word, quoted for a shell.
 quoted() {
   case $1 in
     *[!A-Za-z0-9_./+=@%:,-]*) printf "'%s'" "$1" ;;

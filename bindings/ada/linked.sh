@@ -25,7 +25,7 @@ by_gnat() {
   exit 1
 }
 
-# What the loader takes for GNAT's tasking library, or nothing if the program isn't linked with it.
+# The file that the loader takes as GNAT's tasking library, or nothing if the program isn't linked with it.
 library=$(LC_ALL=C ldd "$1" 2>/dev/null | awk '$1 ~ /^libgnarl/ { print $2 == "=>" ? $3 : $1 }')
 if has_engine "$1"; then
   say "$1 runs over pobj, which is linked into it"

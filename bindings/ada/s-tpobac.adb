@@ -33,7 +33,7 @@ package body System.Tasking.Protected_Objects.Actions is
      (Object : Protection_Entries_Access;
       E      : Protected_Entry_Index) return Protected_Entry_Index;
    pragma Inline (Index_Of);
-   --  Where barrier and body of the entry are in Entry_Bodies
+   --  The place of the entry's barrier and body in Entry_Bodies
 
    function Barrier_Of
      (Object   : Protection_Entries_Access;
@@ -98,8 +98,8 @@ package body System.Tasking.Protected_Objects.Actions is
    function Requeue_Of
      (Object : Protection_Entries_Access;
       Call   : Entry_Call_Link) return Word;
-   --  How the body ended that has requeued the call. If it goes to another
-   --  object or to a task, puts it off.
+   --  Returns how the body that has requeued the call ended. If the call goes
+   --  to another object or to a task, puts it off.
 
    function Run_Body
      (Self_ID  : Task_Id;
@@ -169,7 +169,7 @@ package body System.Tasking.Protected_Objects.Actions is
    pragma Inline (Is_Open_Alone);
    --  Whether the call, which its body has requeued to this entry of the
    --  object, is served there at once: no other call is queued, and the entry
-   --  is open however many are.
+   --  is open whatever the number of queued calls.
 
    procedure Serve_Again
      (Self_ID  : Task_Id;
@@ -180,15 +180,15 @@ package body System.Tasking.Protected_Objects.Actions is
       Moved    : Word;
       E, Index : Protected_Entry_Index);
    --  Runs the body of the entry to which the call's first body has requeued
-   --  it, and tells the engine of both.
+   --  it, and reports both bodies to the engine.
 
    procedure Wait
      (Self_ID : Task_Id;
       Object  : Protection_Entries_Access;
       Call    : Entry_Call_Link;
       Marks   : Word);
-   --  Queues a call that arrives and isn't due. Its barrier is closed however
-   --  many calls are queued: if none is, it isn't evaluated again.
+   --  Queues a call that arrives and isn't due. Its barrier is closed whatever
+   --  the number of queued calls. If there are none, it isn't evaluated again.
 
    procedure Turn_Away
      (Self_ID : Task_Id;
@@ -301,7 +301,7 @@ package body System.Tasking.Protected_Objects.Actions is
    is
       Own_State : Entry_Call_State
         with Import, Address => Call.State'Address;
-      --  Stored as no other task reads it: not atomically
+      --  Not stored atomically, as no other task reads it
 
    begin
       if Call.Self = Self_ID and then Call.Mode /= Asynchronous_Call then
@@ -624,7 +624,7 @@ package body System.Tasking.Protected_Objects.Actions is
       Trace (Object, Call, Traces.Queued);
       How := Run_Body (Self_ID, Object, Call, E, Index);
 
-      --  Of any other end the engine is told step by step
+      --  Any other end is reported to the engine step by step
 
       if How /= Completed
         or else pobj_served_twice

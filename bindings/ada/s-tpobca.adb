@@ -103,22 +103,22 @@ package body System.Tasking.Protected_Objects.Callers is
 
    --  GNARL leaves a level under the task's own lock, as others abort the task
    --  under that lock (s-tasini, Locked_Abort_To_Level). The call is simple,
-   --  conditional or timed, and this task ended it itself: only then Prev is
-   --  the call. Then the lock isn't needed, whatever others write or read in
-   --  between:
+   --  conditional or timed, and this task ended it itself: only then is Prev
+   --  the call itself. Such a level is left without the lock. What others may
+   --  write or read in between does no harm:
 
    --  Pending_ATC_Level, Pending_Action: an abort that is seen here is left to
-   --  GNARL. One that comes later isn't to the level just outside the call's,
-   --  as only triggers, delays and the task itself abort to that. So it is to
-   --  one further out, which is below the level before and after the step, and
-   --  GNARL would change neither field. The abort is raised when aborts are
-   --  undeferred.
+   --  GNARL. One that comes later can't be to the level just outside the
+   --  call's, as only triggers, delays and the task itself abort to that
+   --  level. So it is to a level further out, which is below the task's level
+   --  both before and after this step, and GNARL would change neither field.
+   --  The abort is raised when aborts are undeferred.
 
    --  ATC_Nesting_Level: an aborting task reads it, to mark the call of the
-   --  level. If that sees the level that is left here, it marks a call that
-   --  has ended, or the next one on this level. The next one is aborted too,
-   --  as the task can't leave the level that the abort is to: it leaves those
-   --  of triggers and delays under its lock.
+   --  level. If that task sees the level that is left here, it marks a call
+   --  that has ended, or the next call on this level. The next call is aborted
+   --  too, as the task can't leave the level that the abort is to: it leaves
+   --  levels of triggers and delays under its lock.
 
    --  Cancellation_Attempted: it is written before Pending_ATC_Level. The
    --  engine may have cancelled the call for it before the rest of the abort
@@ -129,7 +129,7 @@ package body System.Tasking.Protected_Objects.Callers is
    --  way while Pending_ATC_Level names no level.
 
    --  The lock itself: a task that ends another's call holds it a moment
-   --  longer, and the caller mustn't come to its end, and be freed, before.
+   --  longer. Until then the caller mustn't come to its end and be freed.
 
    function Leaves_Unlocked
      (Self_ID : Task_Id;
@@ -215,8 +215,8 @@ package body System.Tasking.Protected_Objects.Callers is
 
    begin
       --  A task that ends the call needs the caller's lock for that. So while
-      --  this has the caller's lock, and the call hasn't ended, the object is
-      --  there.
+      --  this task has the caller's lock, and the call hasn't ended, the
+      --  object is there.
 
       loop
          STPO.Write_Lock (Self_ID);

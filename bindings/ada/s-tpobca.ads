@@ -92,6 +92,7 @@ package System.Tasking.Protected_Objects.Callers is
 
    procedure Set_Message (Call : Entry_Call_Link);
    --  Clears the message of the exception that the call's caller raises now,
-   --  unless a body or a barrier raised it: one of the runtime's own has none.
+   --  unless a body or a barrier raised it: an exception of the runtime's own
+   --  has no message.
 
 end System.Tasking.Protected_Objects.Callers;

@@ -280,9 +280,9 @@ private
    Known_Exceptions : Known;
    pragma Volatile (Known_Tasks);
    pragma Volatile (Known_Exceptions);
-   --  What has its line of text in the record, the latest with each
-   --  remainder, or 0, as the loader leaves it. Another one with the same
-   --  remainder may let a line be written again.
+   --  What has its line of text in the record: for each remainder the latest
+   --  one, or 0, as the loader leaves it. If two have the same remainder, a
+   --  line may be written more than once.
 
    --  The beginning of the record
 

@@ -89,8 +89,8 @@ class Record:
 # What reads a file.
 
 def slots_of(data, first, numbers, ring):
-    """Each slot of these numbers, of a ring of that many or of none: its number, its place, and what it has, or None if it isn't
-    complete."""
+    """Each slot with one of these numbers, in a ring of that many slots or in none: its number, its place, and what it has, or
+    None if it isn't complete."""
     for number in numbers:
         place = first + SLOT.size * (number % ring if ring else number)
         if place + SLOT.size > len(data):

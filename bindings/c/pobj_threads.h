@@ -43,9 +43,9 @@
 typedef struct pobj_protected pobj_protected;
 typedef struct pobj_call pobj_call;
 
-/* Of a function whose answer a program mustn't drop. */
+/* Marks a function whose answer a program mustn't drop. */
 #define POBJ_THREADS_HEED __attribute__((warn_unused_result))
-/* Of a function on the way of every call: in a frame of its own, each would cost more than what it does. */
+/* Marks a function that every call runs through. With a stack frame of its own it would cost more than what it does. */
 #define POBJ_THREADS_IN_PLACE __attribute__((always_inline))
 
 /* How a call ended. */
@@ -67,9 +67,9 @@ typedef enum {
 typedef struct {
     const char *name;                        /* for the reader */
     bool (*barrier)(pobj_protected *object); /* whether it is open, or what pobj_raise_barrier returns; NULL: always open */
-    int (*body)(pobj_call *call);            /* what its last pobj_raise or requeue returned, or POBJ_COMPLETED without one; or,
-                                                without a requeue, POBJ_FAILED, if the data can't be relied upon: its own call
-                                                is completed, with the error if pobj_raise was called before, all queued calls
+    int (*body)(pobj_call *call);            /* returns what its last pobj_raise or requeue returned, or POBJ_COMPLETED if it called
+                                                none; without a requeue also POBJ_FAILED, if the data can't be relied upon: its own
+                                                call is completed, with the error if pobj_raise was called before, all queued calls
                                                 end by POBJ_CALL_PROGRAM_ERROR, and later ones are taken as before */
 } pobj_entry;
 

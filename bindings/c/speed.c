@@ -1,7 +1,7 @@
 /* SPDX-License-Identifier: MIT */
-/* What calls cost here, by the library, and there, the same work by a mutex and condition variables alone. A row has the
-   nanoseconds of one call, or of one item of a buffer, here and there: medians of 41 short rounds, which take turns, so that they
-   hold on a busy machine too. */
+/* What calls cost by the library, and the same work by a mutex and condition variables alone. A row has the nanoseconds of one
+   call, or of one item of a buffer, each way: medians of 41 short rounds, which take turns, so that they hold on a busy machine
+   too. */
 #define _POSIX_C_SOURCE 200809L
 
 #include "pobj_threads.h"

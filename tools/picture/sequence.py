@@ -33,7 +33,7 @@ STEPS = [
     (A, OBJECT, "takes the lock to change, fetches the end of its call, and files the receipt"),
     (A, A, "returns the answer"),
 ]
-# Who holds the lock, and who sleeps, from which step to which one.
+# Who holds the lock, and who sleeps, from which step to which.
 LOCKED = [(A, 1, 4), (B, 7, 10), (A, 12, 12), (A, 13, 13)]
 SLEEPS = [(A, 6, 11)]
 # In pixels: the middle of the first lane, the distance of two lanes, the height of a step, and the upper edge of the first step.

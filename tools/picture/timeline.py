@@ -61,7 +61,7 @@ def places_of(call):
 
 
 def ranges(numbers):
-    """Returns the numbers of calls in short: neighbours as a range."""
+    """Returns the numbers of calls in short form: consecutive ones as a range."""
     runs = []
     for number in numbers:
         if runs and number == runs[-1][1] + 1:
@@ -233,7 +233,7 @@ class Band:
         return stay[1] < self.stop and (stay[2] is None or stay[2] >= self.start)
 
     def lines(self, came, left):
-        """Returns in words from which line to which one a stay lasts."""
+        """Returns in words from which line to which a stay lasts."""
         first = f"from line {self.whole.columns[came].line}"
         return f"{first} to the end" if left is None else f"{first} to line {self.whole.columns[left].line}"
 

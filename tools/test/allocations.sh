@@ -25,10 +25,10 @@ run_shares() {
   wait "${pids[@]}"
 }
 
-# Runs the program test_memory with each of its allocations refused in turn, of which it makes fewer than $most. The program first
-# makes an allocation for each byte of its input, and the one with the number $most is always refused: so the input's length decides
-# which of the allocations that count this is. Each run has to print what it prints with all its memory, except that memory ran out
-# once. The last run is the one whose refused allocation comes after all that count.
+# Runs the program test_memory with each of its allocations refused in turn; it makes fewer than $most. The allocation with the
+# number $most is always the one that is refused. But first the program makes an allocation for each byte of its input, so the
+# input's length decides which of the allocations that count is refused. Each run has to print what it prints with all its
+# memory, except that memory ran out once. In the last run the refused allocation comes after all that count.
 refused_memory() {
   local most=440 work=$scratch/allocations n name
   mkdir -p "$work/outputs"

@@ -10,7 +10,7 @@ sys.dont_write_bytecode = True
 
 import walk
 
-# What no proof covers, beside the toolchain: a line of the table, the files, and the mark of their comments.
+# What no proof covers, besides the toolchain: a line of the table, the files, and the mark of their comments.
 GLUE = (
     (
         "Ada: the packages of the runtime, and what goes into GNAT's (bindings/ada)",
@@ -23,7 +23,7 @@ GLUE = (
         ("bindings/ada/make.sh", "bindings/ada/change.awk"),
         "#",
     ),
-    ("C: include/pobj.h, which says to C what the library has", ("include/pobj.h",), "//"),
+    ("C: include/pobj.h, which declares the library to C", ("include/pobj.h",), "//"),
     ("C: pobj_threads.h, protected objects for threads over it (bindings/c)", ("bindings/c/pobj_threads.h",), "//"),
 )
 # The calls of an object whose answers are of its one history.
@@ -36,7 +36,7 @@ COMMANDS = {
     "object_core.rt": ("issue", "procedure", "function", "cancel", "tick", "finalize", "collect", "end_of"),
     "recorded_core.rt": ("cancel_number", "cut"),
 }
-# The types whose views say what a core with a record, or without one, is to a contract; and the ghost items that say it.
+# The types whose views say how contracts see a core, with a record or without one; and the ghost items that say it.
 VIEWED = ("Core", "Recorded", "Unrecorded")
 VIEWS = ("Value", "view", "base", "events")
 PROGRAMS = ("pobj_run", "pobj_check", "pobj_stress", "po_c")
@@ -73,7 +73,7 @@ def premise():
 
 
 def views_in(lines):
-    """The lines of an item that say what a value is to a contract."""
+    """The lines of an item that say how contracts see a value."""
     found, inside = [], False
     for line in lines:
         begun = re.match(r"    ghost (\w+) =", line)
@@ -85,7 +85,7 @@ def views_in(lines):
 
 
 def all_views():
-    """By each type of crates/*/src that has a view its file and the lines of the view."""
+    """For each type of crates/*/src that has a view, its file and the lines of the view."""
     found = {}
     for path in sorted(walk.CRATES.glob("po_*/src/**/*.rt")):
         for lines in walk.blocks(path.read_text()):
@@ -101,7 +101,7 @@ def fields_of(path, name):
 
 
 def views():
-    """The views of a core and of all that stands in it: how many they are, their lines, and the definitions that they cite."""
+    """The views of a core and of all that it contains: how many they are, their lines, and the definitions that they cite."""
     there, found, left = all_views(), {}, list(VIEWED)
     while left:
         name = left.pop()
@@ -166,13 +166,13 @@ def glue():
 
 
 def needs():
-    """By each crate of crates.txt what it stands on."""
+    """For each crate of crates.txt, what it depends on."""
     lines = (line.partition(":") for line in (walk.TOP / "crates.txt").read_text().splitlines() if line and line[0] != "#")
     return {head.split()[0]: deps.split() for head, _, deps in lines}
 
 
 def libraries():
-    """The rows of the kit's libraries: those that programs and the library for C stand on, and the others."""
+    """The rows of the kit's libraries: those that the programs and the library for C depend on, and the others."""
     lines = needs()
     below, left = set(), list(PROGRAMS)
     while left:
@@ -205,7 +205,7 @@ def unproved():
     """The rows of what stands in crates/ and is to be believed, or would be."""
     code, proofs = ("//", "*/src/*.rt"), ("--", "*/specs/*.antt", "*/proofs/**/*.antt")
     yield "functions that C calls, with the attribute `unsafe(no_mangle)`", counted(found_in(r"#\[unsafe\(", *code))
-    yield "lines with `unsafe`, but for such attributes", counted(found_in(r"(?<!\[)\bunsafe\b", *code))
+    yield "lines with `unsafe`, except such attributes", counted(found_in(r"(?<!\[)\bunsafe\b", *code))
     yield "blocks that declare functions of C, whose contracts would be assumed", counted(found_in(r"\bextern \"C\" \{", *code))
     yield "axioms, in definitions and proofs", counted(found_in(r"\baxiom\b", *proofs))
     yield "holes, the sign `?` in the place of a proof", counted(found_in(r"\?", *proofs))

@@ -41,7 +41,7 @@ make_repository() {
 }
 
 # `pobj picture` draws what a trial answers, and what ran before a fault, whose line it names as the script has it. It draws nothing if
-# there is no command or no such file, if the words are others, or if the run has another status.
+# there is no command or no such file, if the words are wrong, or if the run has another status.
 pictures_there() {
   local script=$scratch/build/script answers
   ln -s "$(python3 -c 'import sys; print(sys.executable)')" "$scratch/build/bin/python3"
@@ -102,7 +102,7 @@ make_crates() {
   chmod +x "$work/bin/nproc"
 }
 
-# Makes the mock of the toolchain: in the folder of each crate it does what the text says, and then builds it.
+# Makes the mock of the toolchain: for each crate it carries out the text in the crate's folder, and then builds the crate.
 build_as() {
   rm -f "$scratch/began" "$scratch/child"
   cat >"$scratch/build/bin/rt" <<END
@@ -185,7 +185,8 @@ until grep -q \$other $scratch/began || [ \$look -eq 100 ]; do look=\$((look + 1
   left_clean
 }
 
-# The toolchain that acts: its trial of several scripts answers each with its own text, and ends one that has a fault with 1.
+# A mock of the toolchain: its trial of several scripts answers each with the script's own text, and gives status 1 to one that
+# has a fault.
 answer_cases() {
   cat >"$scratch/build/bin/rt" <<'END'
 #!/bin/sh

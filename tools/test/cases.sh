@@ -82,7 +82,7 @@ scripts_by_programs() {
   broken examples/buffer.pobj /dev/full "write failed"
 }
 
-# Draws the pictures of the pages from what the built program answers.
+# Draws the pages' pictures from the built program's answers.
 pictures_by_programs() {
   local file script
   for file in docs/pictures/*.out; do

@@ -73,7 +73,7 @@ class Changes(Folder):
         return done.returncode, done.stdout, done.stderr.replace(f"{self.folder}/", "")
 
     def makes(self, changes, *pairs):
-        """Sees that the changes replace in the unit the first text of each pair by its second one."""
+        """Checks that the changes replace in the unit the first text of each pair by its second one."""
         wanted = UNIT
         for old, new in pairs:
             self.assertEqual(wanted.count(old), 1, old)
@@ -81,7 +81,7 @@ class Changes(Folder):
         self.assertEqual(self.run_on_unit(changes), (0, wanted, ""))
 
     def says(self, changes, status, *said):
-        """Sees that the changes aren't made, and that this is said."""
+        """Checks that the changes aren't made, and that this is said."""
         self.assertEqual(self.run_on_unit(changes), (status, "", "".join(f"pobj ada: bakery.adb.edit:{line}\n" for line in said)))
 
     def test_adds_clauses_in_their_order(self):
@@ -177,7 +177,7 @@ class Sources(Folder):
         self.assertEqual([path.name for path in self.made.iterdir()], ["mine"])
 
     def ends(self, *said):
-        """Sees that this is said, and nothing is made."""
+        """Checks that this is said, and nothing is made."""
         self.assertEqual(self.make(), (4, "".join(f"pobj ada: {line}\n" for line in said)))
         self.assertEqual(list(self.folder.glob("made*")), [])
 

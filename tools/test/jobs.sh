@@ -23,7 +23,7 @@ say_now() {
   fi
 }
 
-# How far a job is, by its number of steps, "many" if it isn't known, and the files with its steps so far.
+# Says how far a job is, from its number of steps ("many" if that isn't known) and the files that list its steps so far.
 steps_of() {
   local total=$1 made
   shift
@@ -67,7 +67,7 @@ end_beat() {
   clear_line
 }
 
-# What the lines that say what runs call a job.
+# The name that a job has in the lines that say what runs.
 name_of() {
   local kind=${1%% *}
   echo "${kind//_/ }$([ "$kind" = "$1" ] || echo " of ${1#* }")"
@@ -86,7 +86,7 @@ check() {
   note_kind "${1//_/ }" $((passed - passed_before)) $((failed - failed_before))
 }
 
-# Carries out a job beside others, and shows what it writes once it has ended, but for its counts.
+# Carries out a job beside others, and once it has ended shows what it wrote, except its counts.
 check_beside() {
   local job log=$scratch/log-${1// /-}
   job=$(name_of "$1")

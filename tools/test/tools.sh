@@ -1,7 +1,7 @@
 # SPDX-License-Identifier: MIT
 # shellcheck shell=bash
-# Tests of what these tests are made of: the scripts of Python, the counts of jobs, and the lines that say what runs; and of the
-# changes of units of GNAT's. Read by `test`.
+# Tests of the parts of these tests: the scripts of Python, the counts of jobs, and the lines that say what runs. Also tests of
+# the changes of GNAT's units. Read by `test`.
 
 # Runs the tests of the scripts that count definitions, look for words, try wrong bodies, change units of GNAT's, and show records
 # of Ada programs.

@@ -30,7 +30,7 @@ BINDERS = re.compile(r"λ ([\w ]+)\.|[({]([\w ]+) :|\blet (\w+) =")
 
 
 def uses(text):
-    """What the lines `use` of the text name: by each name here the words of its path, and the name there."""
+    """What the `use` lines of the text import: for each name, the words of its path, and its name there."""
     found = {}
     for path, names in USE.findall(text):
         for name in filter(None, (it.strip() for it in names.split(","))):
@@ -51,7 +51,7 @@ def defined(words, name):
 
 
 def imports(text):
-    """By each name that the text imports, also that of a variant, the definition that it is or belongs to."""
+    """For each name that the text imports, also a variant's, the definition that it is or belongs to."""
     return {here: defined(*there) for here, there in uses(text).items() if defined(*there)}
 
 
@@ -102,7 +102,8 @@ def definitions(path):
 
 @functools.cache
 def all_types():
-    """By each name of a type of crates/*/src that is seen as it is, and not by a view of its own, the files that declare it."""
+    """For each type of crates/*/src that contracts see as it is, not by a view of its own, the files that declare a type of its
+    name."""
     found = {}
     for path in sorted(CRATES.glob("*/src/*.rt")):
         viewed = set(re.findall(r"\bModel\s+for (\w+)", path.read_text()))

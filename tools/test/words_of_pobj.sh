@@ -43,9 +43,9 @@ helps_there() {
 mistyped_there() {
   answers_there 2 err "pobj: no command 'tarce'; did you mean 'trace'?" tarce
   answers_there 2 err "did you mean '--help'?" --hlep
-  answers_there 2 err "pobj: no command 'hest'; there are run, check, " hest
-  answers_there 2 err "pobj: no command 'walk'; there are run, check, " walk
-  answers_there 2 err "pobj: no command 'a??[1m'; there are " $'a\n\e\e[1m'
+  answers_there 2 err "pobj: no command 'hest'; the commands are run, check, " hest
+  answers_there 2 err "pobj: no command 'walk'; the commands are run, check, " walk
+  answers_there 2 err "pobj: no command 'a??[1m'; the commands are " $'a\n\e\e[1m'
   answers_there 2 err "run takes one FILE" run one two
   answers_there 2 err "check takes one FILE" check --what
   answers_there 2 err "dist takes no words" dist now
@@ -64,7 +64,7 @@ missing_there() {
   answers_there 4 err "can't be opened: Is a directory" run -- "$scratch"
 }
 
-# A script that is named is what the program reads, by the built one and by a trial.
+# If the command line names a script, the program reads that script, whether it is built or run by a trial.
 named_there() {
   local script=$scratch/script
   printf '# A buffer.\nunit\tbufer 2\n' >"$script"
@@ -97,7 +97,7 @@ faults_there() {
   if grep -q "line 2 is" "$scratch/err"; then fail "a fault is explained though nobody reads along"; else pass; fi
 }
 
-# The kit is found in its folder, and another one than the named is warned of.
+# The kit is found in its folder, and a line warns if it isn't the kit that is named.
 kits_there() {
   act_as "cat >/dev/null; echo 'run=ended status=0 proved=no' >&2; exit"
   mkdir "$scratch/build/kit"
@@ -105,7 +105,7 @@ kits_there() {
   call_there 0 run
   if grep -q warning "$scratch/err"; then fail "the named kit is warned of"; else pass; fi
   sed -i 's/rattle-kit-[a-z0-9]*/rattle-kit-0 logic 1/' "$scratch/build/kit/rt"
-  answers_there 0 err "pobj: warning: rt belongs to rattle-kit-0 logic 1, and README.md names rattle-kit-" run
+  answers_there 0 err "pobj: warning: rt belongs to rattle-kit-0 logic 1, but README.md names rattle-kit-" run
   mv "$scratch/build/kit/rt" "$scratch/build/bin/rt"
 }
 
@@ -192,7 +192,7 @@ folders_there() {
   mkdir -p "$to/foreign" "$to/empty"
   echo >"$to/foreign/mine"
   call_with_tools 4 c "$to/foreign"
-  wrote_there err "$to/foreign is there, and isn't a folder that pobj c made"
+  wrote_there err "$to/foreign exists, and isn't a folder that pobj c made"
   same "$(ls "$to/foreign")" mine "a foreign folder"
   call_with_tools 4 c "$to/foreign/mine"
   call_with_tools 0 c "$to/empty"

@@ -19,8 +19,9 @@ import tempfile
 
 TOP = pathlib.Path(__file__).resolve().parent.parent.parent
 
-# A line of a check that says what is wrong at a place in a file; one that says what wasn't checked for that; one of a proof file that
-# names what isn't there; and one of a text that can't be read. `rt must-fail` tells them apart this way, except for the second.
+# Lines of a check: one says what is wrong at a place in a file; one, what wasn't checked because of that; one, that a proof
+# file names what isn't there; the last two, what the error is, and that a text can't be read. `rt must-fail` tells them apart
+# this way, except for the second.
 PLACE = re.compile(r"(?:note: )?\S+:\d+:\d+:")
 UNCHECKED = re.compile(r"which was rejected, (was|were) not checked")
 NAMING = re.compile(r"(?:note: )?(?:\./)?(proofs/[^:]+).*(?:has no field|is not in scope|has no `|was not admitted)")
@@ -196,8 +197,8 @@ def side_by_side(edits, crate):
 
 
 def settled(said, names):
-    """The functions, of these, that the prover refuses in a check, and no proof file of theirs names what isn't there. None if such a
-    file belongs to none of the functions: nobody can tell then which of them are refused for that alone."""
+    """Those of these functions that the prover refuses in a check although no proof file of theirs names what isn't there. None
+    if such a file belongs to none of the functions: then nobody can tell which of them are refused for that alone."""
     by_name = {name: [path for path in naming(said) if f"/{name.replace('::', '/')}/" in path] for name in names}
     if set(naming(said)) - {path for paths in by_name.values() for path in paths}:
         return set()
@@ -206,7 +207,8 @@ def settled(said, names):
 
 
 def check_together(edits, names, crate):
-    """Those of the edits, which are in functions of these names, that one check of all of them refuses for sure."""
+    """Those of the edits that one check of all of them refuses for sure. The names are those of the functions that each edit is
+    in."""
     texts = edited(edits, crate)
     status, said = check(crate, texts, only(names))
     if status == 2:

@@ -1,5 +1,5 @@
-/* An engine that refuses each entry call: a runtime made with it has to end the program (see run.sh). Its functions look at none
-   of what pobj.h says that they take, except pobj_make at the object. */
+/* An engine that refuses each entry call: a runtime made with it has to end the program (see run.sh). Its functions ignore the
+   parameters that pobj.h gives them, except that pobj_make uses the object. */
 #include <stdbool.h>
 #include <stdint.h>
 

@@ -108,7 +108,7 @@ records_all() {
   [ "$(wc -l <"$scratch/all")" -eq 10002 ]
 }
 
-# Whether the record has the last events if it is asked for these alone, and a number that is none is refused.
+# Whether the record has the last events if only these are asked for, and whether a wrong number of them is refused.
 records_last() {
   local said
   linked many_callers && POBJ_TRACE=$scratch/callers POBJ_TRACE_LAST=100 "$scratch/many_callers-linked" || return

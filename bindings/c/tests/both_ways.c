@@ -1,6 +1,6 @@
 /* SPDX-License-Identifier: MIT */
-/* Random commands on two objects: one takes the steps in one, the other the steps that they are made of. Both give the same
-   answers, name the same calls, count the same, and answer the same about their own tickets. */
+/* Random commands on two objects: one takes several steps by one function, the other takes each step by itself. Both give the
+   same answers, name the same calls, count the same, and answer the same about their own tickets. */
 #include "pobj.h"
 #include "check.h"
 
@@ -137,7 +137,8 @@ static uint64_t count_of(const bool is_one[CALLERS]) {
     return count;
 }
 
-/* Checks that the step is refused on the side that takes the steps in one, and changes nothing that can be seen. */
+/* Checks that the step is refused on the side that takes several steps by one function, and changes nothing that can be seen.
+   */
 static void is_not_served(const struct arrival *call) {
     const pobj_step before = in_one.step;
     CHECK(serve(call) == POBJ_REFUSED && is_same(&in_one.step, &before));
@@ -184,7 +185,7 @@ static bool moves(const struct arrival *call) {
     return !is_due && (call->how == POBJ_REQUEUED || (call->how == POBJ_REQUEUED_WITH_ABORT && !is_aborted));
 }
 
-/* A call whose barrier is open, and that of its target too, however many calls are queued. Returns whether it is served. */
+/* A call whose barrier is open, as is that of its target whatever the number of queued calls. Returns whether it is served. */
 static bool pass_twice(const struct arrival *call) {
     bool is_cancelled = (call->marks & POBJ_ABORTED) && !(call->marks & POBJ_WITHOUT_ABORT);
     bool passes = pobj_served_twice(
@@ -219,7 +220,7 @@ static bool stop_in_one(const struct arrival *call) {
     return waits;
 }
 
-/* A call whose barrier is closed, however many calls are queued. */
+/* A call whose barrier is closed whatever the number of queued calls. */
 static void stop(const struct arrival *call) {
     bool is_due = (call->marks & POBJ_DUE) != 0, stays = (call->marks & POBJ_WITHOUT_ABORT) != 0;
     bool is_aborted = (call->marks & POBJ_ABORTED) != 0;

@@ -162,7 +162,7 @@ static void actions(void) {
 
 enum { ISSUE = 1, ANSWER = 2, ENDED = 4, NEXT = 8, CANCEL = 16, FINALIZE = 32, READY = 64 };
 
-/* Checks that each of the steps in one is refused. */
+/* Checks that each function that does several steps is refused. */
 static void refuses_steps_in_one(pobj_step *scrap) {
     CHECK(pobj_ready(&object) == POBJ_REFUSED);
     for (pobj_body_end how = POBJ_COMPLETED; how <= POBJ_REQUEUED_ELSEWHERE; how++) {
@@ -173,7 +173,8 @@ static void refuses_steps_in_one(pobj_step *scrap) {
         CHECK(!pobj_wait(&object, 99, 0, marks, scrap) && !pobj_turn_away(&object, 99, 0, marks));
 }
 
-/* Checks that every step is refused but the one that the object waits for, and that refusing changes no step and no queue. */
+/* Checks that every step is refused except the one that the object waits for, and that refusing changes no step and no queue.
+   */
 static void refuses_all_but(unsigned awaited) {
     pobj_step scrap = {11, 12, 13};
     uint64_t counts[ENTRIES];
@@ -527,7 +528,7 @@ static void rounds(int times) {
     }
 }
 
-/* The same by steps in one. */
+/* The same by functions that do several steps. */
 static void rounds_in_one(int times) {
     for (int i = 0; i < times; i++) {
         CHECK(is_rest(pobj_ready(&object)) && is_rest(pobj_served(&object, 1, 0, 0, POBJ_COMPLETED, 0, 0, &step)));
@@ -642,7 +643,7 @@ static void not_served(void) {
     pobj_free(&object);
 }
 
-/* An object is idle if it waits for a command, and no call is queued. To ask it changes nothing. */
+/* An object is idle if it waits for a command, and no call is queued. Asking changes nothing. */
 static void idle(void) {
     begin();
     CHECK(pobj_is_idle(&object) && is(pobj_issue(&object, 0, 0, 0, POBJ_OPEN, &step), POBJ_RUN, 0) && !pobj_is_idle(&object));

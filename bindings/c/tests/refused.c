@@ -167,7 +167,8 @@ static void wait_at_last(uint64_t caller) {
     rests(close(pobj_next(&object, &step)));
 }
 
-/* Makes the calls of `pass` by steps in one. If no other call is queued, one more is served twice first, and one waits. */
+/* Makes the calls of `pass` by functions that do several steps. If no other call is queued, one more is served twice first, and
+   one waits. */
 static void pass_in_one(uint64_t caller) {
     uint64_t before = queued();
     CHECK(without_memory(serve_twice, caller) == (before == 0) && queued() == before);

@@ -1,4 +1,4 @@
--- Those inside are those who went in less those who came out: the law of readers and writers, for every legal history.
+-- As many are inside as went in, minus as many as came out: the law of readers and writers, for every legal history.
 use Rattle.std.proofs.Common.{◌≡◌, ℕ, zero, suc, ◌==◌, ◌<◌, ◌≤◌, ◌+◌, List, [], ◌∷◌, length, refl, subst, ap, sym, arith, Bool, true, false, ◌&&◌, nat_lt, Option, Result, Ok, if◌then◌else◌, length-append}
 use Rattle.std.specs.List.{All}
 use Rattle.std.proofs.lemmas.Bool.Decides.{nat_tests}

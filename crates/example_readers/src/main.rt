@@ -110,7 +110,7 @@ fn take_turns<R: Print + AllocGlobal>(rt: &R) -> Result<()> {
     visit(rt, &mut core)
 }
 
-/// Has threads share an object. At the end it is proved that never two writers were inside, whatever the threads did.
+/// Has threads share an object. At the end it is proved that two writers were never inside at once, whatever the threads did.
 fn share<R: Threads + Wait + AllocGlobal + Print + Copy + Send + 'static>(rt: R) -> Result<()> {
     let core = new_core(rt.alloc())?;
     let (calls, procedures) = (Blank::new(PARTS), Blank::new(PARTS));

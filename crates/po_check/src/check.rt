@@ -188,9 +188,9 @@ fn check_over<O: ScriptObject, R: Source, P: Report>(
 /// found: each fault, and each line that is sure to be refused whatever was carried out before it. Memory doesn't grow with the
 /// script.
 ///
-/// The first fault that is told is that of a run of the same bytes. If a read fails, the report was told all that there is to
-/// say about the whole lines of what was read. If the report fails, or memory runs out, it was told the first part of what
-/// there is to say, and no more.
+/// The first fault that is told is the one that ends a run of the same bytes. If a read fails, the report was told all that
+/// there is to say about the whole lines of what was read. If the report fails, or memory runs out, it was told the first part
+/// of what there is to say, and no more.
 pub fn check_script<R: Source, P: Report>(
     alloc: Global,
     reader: &mut R,

@@ -51,7 +51,7 @@ fn push_bytes(
     if word.last() == Some(&b'\r') {
         write!(
             text,
-            "line {line_number}: ends with a carriage return; lines end with a newline alone"
+            "line {line_number}: ends with a carriage return; lines end with only a newline"
         )?;
         return Ok(true);
     }
@@ -72,11 +72,14 @@ fn push_number(text: &mut String, word: &[u8], what: &str) -> Result<(), AllocEr
     if word.first() == Some(&b'-') {
         return write!(
             text,
-            " is no {what}; it is a number from 0 up, without a sign"
+            " is no {what}; a {what} is a number from 0 up, without a sign"
         );
     }
     if !is_digits(word) {
-        return write!(text, " is no {what}; it is a number of decimal digits");
+        return write!(
+            text,
+            " is no {what}; a {what} is a number of decimal digits"
+        );
     }
     if word.len() > 20 {
         return write!(text, " is no {what}; a number has at most 20 digits");
@@ -138,7 +141,7 @@ fn push_size(text: &mut String, word: &[u8]) -> Result<(), AllocError> {
         return text.push_str("a word is missing: the unit's size, a number from 1 to 1024");
     }
     push_word(text, word)?;
-    text.push_str(" is no size; this unit has a size, a number from 1 to 1024")
+    text.push_str(" is no size; the size of this unit is a number from 1 to 1024")
 }
 
 /// Adds what may follow a unit.

@@ -12,7 +12,7 @@ use po_unit::Shape;
 use std::alloc::{AllocError, Global};
 
 /// What is added to a fault before a unit is begun.
-const FORM_ALONE: &str = "; until a unit is begun, the form of what follows alone is judged";
+const FORM_ALONE: &str = "; until a unit is begun, only the form of lines is judged";
 
 /// A report that writes a line of text for each finding to a sink. It doesn't say what it was told, since no contract is about
 /// the texts.

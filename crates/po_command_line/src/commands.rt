@@ -28,8 +28,8 @@ const NOT_TEXT: &str = "the words of the command line aren't UTF-8";
 
 /// The end of the help: the script language in short.
 const SCRIPTS: &str = "\
-A script has a command a line. This one makes a buffer with room for two values, calls its
-entry Get, which has to wait, and then its entry Put, which lets it go:
+A script has one command on each line. This one makes a buffer with room for two values,
+calls its entry Get, which has to wait, and then its entry Put, which lets the first call go:
 
   unit buffer 2
   call Get 0

@@ -9,7 +9,7 @@ use thiserror::Error;
 /// Why no core is made. The unit and the shape are dropped.
 #[derive(Clone, Copy, Debug, PartialEq, Eq, Error)]
 pub enum MakeError {
-    /// The unit hasn't as many entries as its shape declares.
+    /// The unit doesn't have as many entries as its shape declares.
     #[error("the unit and its shape have different numbers of entries")]
     ShapeMismatch,
     /// Memory ran out.

@@ -16,10 +16,10 @@ pub enum Refusal {
     #[error("the object has no such entry")]
     NoSuchEntry,
     /// 2: the entry is private, so only a requeue can name it (9.4, 9.5.4).
-    #[error("the entry is private: a requeue alone can name it")]
+    #[error("the entry is private: only a requeue can name it")]
     PrivateEntry,
     /// 3: a single entry with an index, a family without one, or an index outside the family's range (9.5.2).
-    #[error("the index is missing, not wanted, or out of range")]
+    #[error("the index is missing, not allowed, or out of range")]
     BadIndex,
     /// 4: the object has no such procedure or function.
     #[error("the object has no such procedure or function")]

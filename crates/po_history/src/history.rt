@@ -25,7 +25,7 @@ pub struct History<V: Copy> {
     /// The place of the first of the events in the whole history.
     place: u64,
     events: Vec<Event<V>>,
-    /// How each call ended, if it has. The index is its number, less the first.
+    /// How each call ended, if it has. The index is its number minus the first.
     outcomes: Vec<Option<End<V>>>,
     /// For how many further events room is reserved.
     owed: usize,

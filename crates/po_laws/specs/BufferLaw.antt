@@ -14,7 +14,7 @@ values_put setup events = values_at buffer_meaning setup.max_queue 0 (opening se
 abbrev pub values_got : Setup BufferState → List (Event ℕ) → List ℕ
 values_got setup events = values_at buffer_meaning setup.max_queue 1 (opening setup) events
 
--- The values got are the first of the values put, and at most `capacity` more are put than got.
+-- The values taken out are the first of those put in, and at most `capacity` more are put in than taken out.
 pub record IsFifo (capacity : ℕ) (put got : List ℕ) : Type 0 where
   pub left : List ℕ
   pub first : put ≡ got ++ left

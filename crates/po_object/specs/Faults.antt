@@ -27,6 +27,6 @@ abbrev pub IsWhy : {S V : Type 0} → CoreView S V → Unopened → Type 0
 IsWhy core WasUsed = next_place core.object ≢ core.object.setup.first_place
 IsWhy core WithoutMemory = next_place core.object ≡ core.object.setup.first_place
 
--- The object and the passes are handed back, with the lowest seat that hasn't exactly one pass.
+-- The object and the passes are handed back, with the lowest seat that doesn't have exactly one pass.
 abbrev pub KeepsAll : {U C P F R Q S V : Type 0} → ℕ → List (PassView V) → CloseError U C P F R Q S V → Type 0
 KeepsAll seats passes (PassMissing seat object back) = (object ≡ seats) × (back.items ≡ passes) × IsMissing seats passes seat

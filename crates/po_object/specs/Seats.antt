@@ -16,7 +16,7 @@ module _ {V : Type 0} where
   abbrev pub OneEach : ℕ → List (PassView V) → Type 0
   OneEach seats passes = (s : ℕ) → s < seats → count_by (is_at s) passes ≡ 1
 
-  -- This is the lowest seat that hasn't exactly one of the passes.
+  -- This is the lowest seat that doesn't have exactly one of the passes.
   pub record IsMissing (seats : ℕ) (passes : List (PassView V)) (s : ℕ) : Type 0 where
     pub seat : s < seats
     pub missing : count_by (is_at s) passes ≢ 1

@@ -118,7 +118,7 @@ impl<
 > Object<U, C, P, F, R, Q, S> {
     /// Closes the object, if each seat has exactly one of the passes. Takes no memory.
     ///
-    /// Otherwise the error names the lowest seat that hasn't, and hands the object and the passes back.
+    /// Otherwise the error names the lowest seat that doesn't, and hands the object and the passes back.
     pub fn close(
         self,
         passes: Vec<Pass<U::Value, C, P, F, Q>>,
@@ -162,7 +162,7 @@ impl<
     Q: Receipts<U::Value>,
     S: Hook,
 > Object<U, C, P, F, R, Q, S> {
-    /// Returns the lowest seat that hasn't exactly one of the passes.
+    /// Returns the lowest seat that doesn't have exactly one of the passes.
     fn missing(&mut self, passes: &Vec<Pass<U::Value, C, P, F, Q>>) -> Option<u16>
         ensures same { self.new ≡ self.old }
         ensures some { IfSome result (λ s. IsMissing self.old passes.now.items s) }

@@ -33,7 +33,7 @@ impl<U: Unit, R: Record<U>> fmt::Debug for OpenError<U, R> {
     }
 }
 
-/// Why no object that takes no memory is opened, with all that it was to be opened with, as it was.
+/// Why no bounded object is opened, with everything that was given for it, as it was.
 #[derive(Drop, Error)]
 #[error("{fault}")]
 pub struct BoundedOpenError<U: Unit, R: Record<U> = Unrecorded<U>> {
@@ -60,8 +60,8 @@ pub enum CloseError<
     Q: Receipts<<U as Unit>::Value> = Vec<Receipt<<U as Unit>::Value>>,
     S: Hook = NoHook,
 > {
-    /// 1: a seat hasn't exactly one of the passes.
-    #[error("seat {seat} hasn't exactly one of the passes that were given back")]
+    /// 1: a seat doesn't have exactly one of the passes.
+    #[error("seat {seat} doesn't have exactly one of the passes that were given back")]
     PassMissing {
         /// The lowest such seat.
         seat: u16,

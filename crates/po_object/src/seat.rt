@@ -9,7 +9,8 @@ use crossbeam_utils::sync::Unparker;
 use std::sync::atomic::{AtomicU64, Ordering};
 use std::{hint, thread};
 
-/// How many looks a caller makes before it yields the processor at each further one. The thread that ends the call may need it.
+/// How many looks a caller makes before it yields the processor at each further look. The thread that ends the call may need
+/// the processor.
 const QUICK_LOOKS: u32 = 8;
 
 /// The flag if the seat's call waits, and its caller looks for its end.

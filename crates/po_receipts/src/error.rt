@@ -13,7 +13,7 @@ pub enum ReconcileError {
         place: u64,
     },
     /// The lowest seat whose receipts aren't those that the history gives, and the first place at which they differ.
-    #[error("the receipts of seat {seat} differ from the history at place {place} among them")]
+    #[error("the receipts of seat {seat} differ from the history, first at place {place}")]
     Mismatch {
         /// The seat.
         seat: u16,

@@ -21,7 +21,7 @@ pub(crate) struct Interpreter<O> {
     reply: String,
 }
 
-/// Returns the unit that is begun after the command.
+/// Returns which unit the script has begun, after the command.
 fn begun_after(begun: Option<UnitChoice>, command: Command) -> Option<UnitChoice>
     ensures { result ≡ begun_after begun command }
 {

@@ -2,8 +2,8 @@
 //! Sums over the values put into a buffer and the values taken out of it, kept by its callers. They check the run apart from
 //! the proofs: neither rests on the other.
 
-/// The sum of the values put, less that of the values taken out, and the exclusive or of all of them. Both are 0 if the values
-/// taken out are those put in.
+/// The sum of the values put in, minus that of the values taken out, and the exclusive or of all of them. Both are 0 if the
+/// values taken out are those put in.
 #[derive(Clone, Copy, Debug, PartialEq, Eq)]
 pub(crate) struct Balance {
     pub(crate) sum: u64,

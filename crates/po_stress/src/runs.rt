@@ -207,7 +207,7 @@ pub fn stress_watched<W: Threads + Wait + AllocGlobal + Copy + Send + 'static>(
 }
 
 /// Has `threads` threads make `calls` calls each on one object with fixed memory, closes it, and adds up how many calls its
-/// core issued and how the calls that the threads made ended. Another thread can watch how far the run has come.
+/// core issued and how the threads' calls ended. Another thread can watch how far the run has come.
 pub fn stress_bounded<W: Threads + Wait + AllocGlobal + Copy + Send + 'static>(
     rt: W,
     progress: &Arc<Progress>,

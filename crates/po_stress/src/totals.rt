@@ -11,8 +11,8 @@ use crate::piece::{Piece, write_pieces};
 use crate::report::{GOOD, MISMATCH};
 use po_streams::{IoFailed, Sink};
 
-/// The outcome of a run over an object with fixed memory: how many calls its core issued, and how the calls that its callers
-/// made ended, as they counted.
+/// The outcome of a run over an object with fixed memory: how many calls its core issued, and how its callers' calls ended, as
+/// they counted.
 #[derive(Clone, Copy, Debug, PartialEq, Eq)]
 pub struct Totals {
     /// How many calls were issued.

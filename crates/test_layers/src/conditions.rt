@@ -1,5 +1,5 @@
 // SPDX-License-Identifier: MIT
-//! Whether a caller meets the conditions of a call can be seen from what it calls with.
+//! From what it passes, a caller can see whether it meets a call's conditions.
 
 ghost use Rattle.std.specs.Prelude.{◌≡◌, ◌<◌};
 ghost use Rattle.std.specs.List.{All};

@@ -179,8 +179,8 @@ fn a_requeue_without_abort_keeps_the_mark(rt: HostRuntime) -> Result<(), Fail> {
 // A requeued call counts from its latest queueing: the second call was queued before the first one came to the third entry, so
 // the second call's entry is served first.
 //
-// Each examination evaluates, once each, the barriers of all entries on which calls are queued: there is one after the first
-// call, one after the second, and two of the first procedure and three of the second find a call. The last barrier is evaluated
+// Each examination evaluates the barriers of all entries on which calls are queued, once each. There is one after the first
+// call and one after the second; two of the first procedure and three of the second find a call. The last barrier is evaluated
 // once more, when the second call arrives.
 #[test]
 fn the_oldest_is_who_arrived_first(rt: HostRuntime) -> Result<(), Fail> {

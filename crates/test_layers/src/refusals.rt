@@ -196,8 +196,8 @@ fn refusals_have_texts(rt: HostRuntime) -> Result<(), Fail> {
     )?;
     assert_eq!(rt;
         text.as_str(),
-        "1 the object has no such entry; 2 the entry is private: a requeue alone can name it; \
-         3 the index is missing, not wanted, or out of range; 4 the object has no such procedure or function; \
+        "1 the object has no such entry; 2 the entry is private: only a requeue can name it; \
+         3 the index is missing, not allowed, or out of range; 4 the object has no such procedure or function; \
          5 no call has that number; 6 the call has ended; 7 the object is finalized; \
          8 no number is left for a call, or no place for an event; 9 out of memory; \
          10 no call of that seat is queued; 11 too many calls; \

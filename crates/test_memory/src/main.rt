@@ -3,9 +3,9 @@
 //!
 //! It prints what all of them answered, how often memory ran out, and how often something had changed when it did. Before that
 //! it takes and gives back a byte for each byte on standard input. If the allocation with a fixed number is refused, the length
-//! of the input thus chooses which of the allocations that count that is. After all of them it takes some more bytes, and
-//! prints whether it got each. By this the test knows the last allocation that counts, and that none of their refusals was
-//! passed over.
+//! of the input thus chooses which of the allocations that count is refused. After all of them it takes some more bytes, and
+//! prints whether it got each. From this the test knows which allocation that counts is the last, and that it has refused each
+//! of them.
 //!
 //! The runs of threads come last, and more than one byte is taken after them, since the number of allocations of such a run
 //! depends a little on the threads' schedule.

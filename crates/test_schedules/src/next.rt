@@ -56,8 +56,7 @@ fn touched_by(next: Next) -> Touched {
 }
 
 impl Next {
-    /// Returns whether it makes no difference which of two threads goes first with what it does
-    /// next.
+    /// Returns whether it makes no difference which of two threads does first what it does next.
     pub(crate) fn is_apart(self, other: Next) -> bool {
         match (touched_by(self), touched_by(other)) {
             (Touched::Nothing, _) | (_, Touched::Nothing) => true,

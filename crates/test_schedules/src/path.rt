@@ -110,8 +110,8 @@ impl Path {
         }
     }
 
-    /// Keeps threads that were tried before left out, until a step is taken for which it makes a difference whether it comes
-    /// before theirs.
+    /// Goes on leaving out threads that were tried before, until a step is taken for which it matters whether it comes before
+    /// theirs.
     fn keep_asleep(&mut self, turn: &Turn, next: &[Next; MOST]) {
         let taken = next_of(next, turn.chosen);
         let mut asleep = ThreadSet::new();

@@ -1,5 +1,5 @@
 // SPDX-License-Identifier: MIT
-//! Whether an object's lock and waiting places let a thread go on, so that no thread is let go on that would wait.
+//! Whether an object's lock and waiting places let a thread go on, so that only threads go on that wouldn't wait.
 
 use crate::next::Next;
 use crate::threads::ThreadSet;

@@ -12,7 +12,7 @@ pub(crate) struct Turn {
     pub(crate) tried: ThreadSet,
     /// The one that goes on.
     pub(crate) chosen: usize,
-    /// The one that went on before, if it can go on. If another is chosen, that interrupts it.
+    /// The thread that ran before, if it can go on. To choose another one is to interrupt it.
     pub(crate) interrupted: Option<usize>,
     /// How many times threads were interrupted before.
     pub(crate) interruptions: u64,

@@ -109,7 +109,7 @@ impl<P: Drop, O: Drop> Stage<P, O> {
 }
 
 impl<P: Drop, O: Shared<P> + Drop> Stage<P, O> {
-    /// Calls a single entry with the pass that is here longest, if there is one.
+    /// Calls a single entry with the pass that has been here longest, if there is one.
     pub(crate) fn call<R: Wait>(
         &mut self,
         rt: &R,
@@ -120,7 +120,7 @@ impl<P: Drop, O: Shared<P> + Drop> Stage<P, O> {
         self.object.enter(rt, pass, single(entry), value)
     }
 
-    /// Runs a procedure with the pass that is here longest, if there is one.
+    /// Runs a procedure with the pass that has been here longest, if there is one.
     pub(crate) fn run<R: Wait>(
         &mut self,
         rt: &R,
@@ -152,7 +152,7 @@ impl<P: Drop, O: Shared<P> + Drop> Stage<P, O> {
 }
 
 impl<P: Send + Drop + 'static, O: Shared<P> + Send + Sync + Drop + 'static> Stage<P, O> {
-    /// Starts a thread that does the work with the pass that is here longest, if there is one.
+    /// Starts a thread that does the work with the pass that has been here longest, if there is one.
     pub(crate) fn start<R: Threads + Wait + Copy + Send + 'static>(
         &mut self,
         rt: R,

@@ -15,7 +15,7 @@ pub(crate) const LOOKS: u32 = 10_000;
 /// How long it sleeps between two of these looks, in milliseconds.
 pub(crate) const PAUSE: u64 = 1;
 
-/// The line from which threads start together, and how many of their calls had the answer that they should have.
+/// The line from which threads start together, and how many of their calls got the right answer.
 #[derive(Drop)]
 pub(crate) struct Team {
     pub(crate) line: Barrier,
@@ -31,12 +31,12 @@ impl Team {
         }
     }
 
-    /// Counts a call that had the answer that it should have.
+    /// Counts a call that got the right answer.
     pub(crate) fn count(&self) {
         self.answered.fetch_add(1, Ordering::SeqCst);
     }
 
-    /// Returns how many calls had the answer that they should have.
+    /// Returns how many calls got the right answer.
     pub(crate) fn answered(&self) -> u64 {
         self.answered.load(Ordering::SeqCst)
     }
