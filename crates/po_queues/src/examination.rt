@@ -17,7 +17,7 @@ use po_unit::Unit;
 ///
 /// Only the barriers of entries with a queued key are evaluated, each at most once. A test shows that, since no clause counts
 /// calls. Takes no memory.
-// Never inlined, so that its caller is small enough to be.
+// Never inlined, so that its caller is small enough to be inlined.
 #[inline(never)]
 pub fn examine<U: Unit>(unit: &U, queues: &Queues, order: Order, last: Option<u16>) -> Selection
     requires { U.meaning.entries unit.now ≡ queues.now.total }

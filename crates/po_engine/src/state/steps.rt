@@ -339,8 +339,8 @@ impl<U: Unit> State<U> {
         (call, self.calls.add(call))
     }
 
-    /// Gives a call that the client has served or turned away its number, and ends it, in a command of its own. It takes no room
-    /// and gets no ticket.
+    /// Gives its number to a call that the client has served or turned away, and ends the call, in a command of its own. The call
+    /// takes no room and gets no ticket.
     #[inline(always)]
     pub fn end_at_once(&mut self, arriving: Arriving<U::Value>, end: End<U::Value>)
         requires serving { self.old.serving ≡ None }
