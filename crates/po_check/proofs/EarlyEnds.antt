@@ -14,7 +14,7 @@ use Rattle.po_check.specs.declared.verdict.Verdict.{Verdict}
 use Rattle.po_script.specs.Facts.{Facts}
 use Rattle.po_check.specs.Checked.{StandsBy, EndsEarly}
 use Rattle.po_check.specs.Claims.{says, known_after, claims_at, claims_from, whole_claims, limit_claim, claims_within, claims_of}
-use Rattle.po_check.specs.Reports.{Tells, TellsFirst}
+use Rattle.po_check.specs.Reports.{Tells, TellsFirst, FailsAs}
 use Rattle.po_check.proofs.CheckLemmas.{tells-nothing, tells-trans, line_says, line_claims, within_all}
 
 pub tells_none : (start now : Option (List Claim)) (claims : List Claim) → now ≡ start → TellsFirst start now claims
@@ -68,10 +68,10 @@ module _ (units : ScriptUnits) where
           subst (TellsFirst start now) (sym last.1) (tells_more start now (whole_claims units (bytes ++ more)) last.0 (early_more start now bytes more told))
 
   -- an end that no read caused
-  pub early_other : (fault : CheckError) (bytes : List ℕ) (start now : Option (List Claim)) (failed : Bool) → failed ≡ false → (fault ≡ Read → ⊥) → TellsFirst start now (claims_of units bytes) → EndsEarly units fault bytes start now failed
-  early_other Read bytes start now failed fine other told = absurd (other refl)
-  early_other Write bytes start now failed fine other told = (fine, told)
-  early_other Memory bytes start now failed fine other told = (fine, told)
+  pub early_other : (fault : CheckError) (bytes : List ℕ) (start now : Option (List Claim)) (failed before mid after : Bool) → failed ≡ false → mid ≡ before → FailsAs fault mid after → TellsFirst start now (claims_of units bytes) → EndsEarly units fault bytes start now failed before after
+  early_other Read bytes start now failed before mid after fine kept fails told = absurd fails
+  early_other Write bytes start now failed before mid after fine kept fails told = (fine, (fails, told))
+  early_other Memory bytes start now failed before mid after fine kept fails told = (fine, (fails ∙ kept, told))
 
   -- the end if the line that a newline ends was to be told
   pub newline_early : (known : Known) (verdict : Verdict) (facts : Option Facts) (bytes more : List ℕ) (start now later : Option (List Claim)) → StandsBy units known verdict facts bytes start now → length bytes < 67108864 → TellsFirst now later (line_says units known bytes) → TellsFirst start later (claims_of units (bytes ++ 10 ∷ more))

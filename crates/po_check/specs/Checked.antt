@@ -10,7 +10,7 @@ use Rattle.po_check.specs.declared.known.Known.TheVariants.{Nothing, Begun, Uncl
 use Rattle.po_check.specs.declared.claim.Claim.{Claim}
 use Rattle.po_check.specs.declared.verdict.Verdict.{Verdict}
 use Rattle.po_check.specs.Claims.{known_behind, whole_claims, claims_of, verdict_of}
-use Rattle.po_check.specs.Reports.{Tells, TellsFirst}
+use Rattle.po_check.specs.Reports.{Tells, TellsFirst, FailsAs}
 use Rattle.po_check.specs.declared.error.CheckError.{CheckError}
 use Rattle.po_check.specs.declared.error.CheckError.TheVariants.{Read}
 
@@ -30,16 +30,18 @@ pub record StandsBy (units : ScriptUnits) (known : Known) (verdict : Verdict) (f
   pub told : Tells start now (whole_claims units bytes)
 
 -- What a check of these bytes came to. The reader's end was reached, or there are more bytes than a script may have; and no
--- read failed. The report was told what there is to say about the bytes, and the verdict is clean exactly if that is nothing.
+-- read failed, and no write of the report: `before` and `after` are whether one had failed. The report was told what there is to say about the bytes, and the verdict is clean exactly if that is nothing.
 pub record IsChecked (units : ScriptUnits) (verdict : Verdict) (bytes : List ℕ) (start now : Option (List Claim))
-    (left : Option (List ℕ)) (ended failed : Bool) : Type 0 where
+    (left : Option (List ℕ)) (ended failed before after : Bool) : Type 0 where
   pub whole : ((ended ≡ true) × IsAtEnd left) ⊎ (67108864 < length bytes)
   pub read : failed ≡ false
+  pub written : after ≡ before
   pub told : Tells start now (claims_of units bytes)
   pub verdict_is : verdict ≡ verdict_of (claims_of units bytes)
 
 -- What a check that read these bytes came to, if it ended early. If a read failed, the report was told what there is to say
--- about their whole lines. If the report or memory failed, it was told the first part of what there is to say about the bytes.
-abbrev pub EndsEarly : ScriptUnits → CheckError → List ℕ → Option (List Claim) → Option (List Claim) → Bool → Type 0
-EndsEarly units Read bytes start now failed = (failed ≡ true) × Tells start now (whole_claims units bytes)
-EndsEarly units fault bytes start now failed = (failed ≡ false) × TellsFirst start now (claims_of units bytes)
+-- about their whole lines. If a write of the report failed, or memory ran out, it was told the first part of what there is to
+-- say about the bytes.
+abbrev pub EndsEarly : ScriptUnits → CheckError → List ℕ → Option (List Claim) → Option (List Claim) → Bool → Bool → Bool → Type 0
+EndsEarly units Read bytes start now failed before after = (failed ≡ true) × (after ≡ before) × Tells start now (whole_claims units bytes)
+EndsEarly units fault bytes start now failed before after = (failed ≡ false) × FailsAs fault before after × TellsFirst start now (claims_of units bytes)

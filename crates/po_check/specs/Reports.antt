@@ -1,8 +1,10 @@
 -- SPDX-License-Identifier: MIT
 -- What a report was told.
-use Rattle.std.specs.Prelude.{ℕ, ◌≡◌, List, [], ◌∷◌, ◌++◌, Option, Some, None}
+use Rattle.std.specs.Prelude.{ℕ, ◌≡◌, Bool, true, List, [], ◌∷◌, ◌++◌, Option, Some, None}
 use Rattle.std.specs.Option.{option_map}
 use Rattle.po_check.specs.declared.claim.Claim.{Claim}
+use Rattle.po_check.specs.declared.error.CheckError.{CheckError}
+use Rattle.po_check.specs.declared.error.CheckError.TheVariants.{Read, Write, Memory}
 use Rattle.po_check.specs.declared.claim.Claim.TheVariants.{HasFault, IsRefused}
 use Rattle.po_check.specs.declared.known.Known.{Known}
 use Rattle.po_check.specs.declared.finding.Finding.{Finding}
@@ -18,6 +20,12 @@ Tells old new claims = new ≡ option_map (λ before. before ++ claims) old
 abbrev pub TellsFirst : Option (List Claim) → Option (List Claim) → List Claim → Type 0
 TellsFirst old new claims =
     (first : List Claim) × (later : List Claim) × (claims ≡ first ++ later) × Tells old new first
+
+-- How a report may fail, given whether a write of it had failed before and has now: with Write only if one has. It reads nothing.
+abbrev pub FailsAs : CheckError → Bool → Bool → Type 0
+FailsAs Read before now = ⊥
+FailsAs Write before now = now ≡ true
+FailsAs Memory before now = now ≡ before
 
 -- what is said about line n, given what was known about the unit before it and what was found there
 abbrev pub claim_by : ℕ → Known → Found → Claim

@@ -61,7 +61,8 @@ impl Check {
         requires next { (more : List ℕ) × (waiting self.old.lines ≡ 10 ∷ more) }
         ensures ok { OnOk result (GoesOn O.units self.old self.new (10 ∷ []) (P.told report.old) (P.told report.new)) }
         ensures total { OnOk result (total_of self.new.lines ≡ total_of self.old.lines + 1) }
-        ensures err { IfErr result (λ fault. EndsIn O.units fault self.old (P.told report.old) (P.told report.new)) }
+        ensures fine { OnOk result (P.failed report.new ≡ P.failed report.old) }
+        ensures err { IfErr result (λ fault. EndsIn O.units fault self.old (P.told report.old) (P.told report.new) (P.failed report.old) (P.failed report.new)) }
     {
         self.checker
             .check::<O, P>(alloc, self.lines.number(), self.lines.line(), report)?;
@@ -79,7 +80,8 @@ impl Check {
         ensures ok { IfOk result (λ verdict. (bytes : List ℕ) (start left : Option (List ℕ)) (first reads : Option ℕ) (had : Option (List Claim))
             → Stands O.units self.old bytes start left first reads had (P.told report.old)
             → Tells had (P.told report.new) (claims_of O.units bytes) × (verdict ≡ verdict_of (claims_of O.units bytes))) }
-        ensures err { IfErr result (λ fault. EndsIn O.units fault self.old (P.told report.old) (P.told report.new)) }
+        ensures fine { OnOk result (P.failed report.new ≡ P.failed report.old) }
+        ensures err { IfErr result (λ fault. EndsIn O.units fault self.old (P.told report.old) (P.told report.new) (P.failed report.old) (P.failed report.new)) }
     {
         self.checker
             .check::<O, P>(alloc, self.lines.number(), self.lines.line(), report)?;
@@ -116,7 +118,8 @@ impl Check {
             → Stands O.units self.old bytes start left first reads had (P.told report.old)
             → Tells had (P.told report.new) (claims_of O.units (bytes ++ waiting self.old.lines))
             × (verdict ≡ verdict_of (claims_of O.units (bytes ++ waiting self.old.lines)))) }
-        ensures err { IfErr result (λ fault. EndsIn O.units fault self.old (P.told report.old) (P.told report.new)) }
+        ensures fine { OnOk result (P.failed report.new ≡ P.failed report.old) }
+        ensures err { IfErr result (λ fault. EndsIn O.units fault self.old (P.told report.old) (P.told report.new) (P.failed report.old) (P.failed report.new)) }
     {
         let finding = Finding {
             number: self.lines.number(),
@@ -141,9 +144,9 @@ impl Check {
         ensures reads { (more : ℕ) × (more ≤ SCRIPT_LIMIT + 1)
             × CountsMore (R.reads reader.old) (R.reads reader.new) more }
         ensures ok { IfOk result (λ verdict. (bytes : List ℕ) × Consumes (R.left reader.old) (R.left reader.new) bytes
-            × IsChecked O.units verdict bytes (P.told report.old) (P.told report.new) (R.left reader.new) (R.ended reader.new) (R.failed reader.new)) }
+            × IsChecked O.units verdict bytes (P.told report.old) (P.told report.new) (R.left reader.new) (R.ended reader.new) (R.failed reader.new) (P.failed report.old) (P.failed report.new)) }
         ensures err { IfErr result (λ fault. (bytes : List ℕ) × Consumes (R.left reader.old) (R.left reader.new) bytes
-            × EndsEarly O.units fault bytes (P.told report.old) (P.told report.new) (R.failed reader.new)) }
+            × EndsEarly O.units fault bytes (P.told report.old) (P.told report.new) (R.failed reader.new) (P.failed report.old) (P.failed report.new)) }
     {
         loop {
             let step = match self.lines.next(reader) {
@@ -170,9 +173,9 @@ fn check_over<O: ScriptObject, R: Source, P: Report>(
     ensures reads { (more : ℕ) × (more ≤ SCRIPT_LIMIT + 1)
         × CountsMore (R.reads reader.old) (R.reads reader.new) more }
     ensures ok { IfOk result (λ verdict. (bytes : List ℕ) × Consumes (R.left reader.old) (R.left reader.new) bytes
-        × IsChecked O.units verdict bytes (P.told report.old) (P.told report.new) (R.left reader.new) (R.ended reader.new) (R.failed reader.new)) }
+        × IsChecked O.units verdict bytes (P.told report.old) (P.told report.new) (R.left reader.new) (R.ended reader.new) (R.failed reader.new) (P.failed report.old) (P.failed report.new)) }
     ensures err { IfErr result (λ fault. (bytes : List ℕ) × Consumes (R.left reader.old) (R.left reader.new) bytes
-        × EndsEarly O.units fault bytes (P.told report.old) (P.told report.new) (R.failed reader.new)) }
+        × EndsEarly O.units fault bytes (P.told report.old) (P.told report.new) (R.failed reader.new) (P.failed report.old) (P.failed report.new)) }
     ensures first { (bytes : List ℕ) → first_fault (claims_of O.units bytes) ≡ (script_of (listed O.units) bytes).fault }
     ensures warned { WarningsComeTrue O.units }
 {
@@ -190,7 +193,7 @@ fn check_over<O: ScriptObject, R: Source, P: Report>(
 ///
 /// The first fault that is told is the one that ends a run of the same bytes. If a read fails, the report was told all that
 /// there is to say about the whole lines of what was read. If the report fails, or memory runs out, it was told the first part
-/// of what there is to say, and no more.
+/// of what there is to say, and no more. The check fails with `Write` only if a write of the report has failed.
 pub fn check_script<R: Source, P: Report>(
     alloc: Global,
     reader: &mut R,
@@ -200,9 +203,9 @@ pub fn check_script<R: Source, P: Report>(
     ensures reads { (more : ℕ) × (more ≤ SCRIPT_LIMIT + 1)
         × CountsMore (R.reads reader.old) (R.reads reader.new) more }
     ensures ok { IfOk result (λ verdict. (bytes : List ℕ) × Consumes (R.left reader.old) (R.left reader.new) bytes
-        × IsChecked ⟦<Units as ScriptObject>⟧.units verdict bytes (P.told report.old) (P.told report.new) (R.left reader.new) (R.ended reader.new) (R.failed reader.new)) }
+        × IsChecked ⟦<Units as ScriptObject>⟧.units verdict bytes (P.told report.old) (P.told report.new) (R.left reader.new) (R.ended reader.new) (R.failed reader.new) (P.failed report.old) (P.failed report.new)) }
     ensures err { IfErr result (λ fault. (bytes : List ℕ) × Consumes (R.left reader.old) (R.left reader.new) bytes
-        × EndsEarly ⟦<Units as ScriptObject>⟧.units fault bytes (P.told report.old) (P.told report.new) (R.failed reader.new)) }
+        × EndsEarly ⟦<Units as ScriptObject>⟧.units fault bytes (P.told report.old) (P.told report.new) (R.failed reader.new) (P.failed report.old) (P.failed report.new)) }
     // The first fault that is told is the one that a run ends with. There is one exactly if a run has one.
     ensures first { (bytes : List ℕ) → first_fault (claims_of ⟦<Units as ScriptObject>⟧.units bytes)
         ≡ (script_of (listed ⟦<Units as ScriptObject>⟧.units) bytes).fault }

@@ -1,10 +1,10 @@
 // SPDX-License-Identifier: MIT
 //! A checker of the lines of a script, one after another.
 
-ghost use Rattle.std.specs.Prelude.{◌≡◌, ◌≢◌, ℕ, IfOk, OnOk, IfErr, IfSome, Some, None};
+ghost use Rattle.std.specs.Prelude.{◌≡◌, ℕ, IfOk, OnOk, IfErr, IfSome, Some, None};
 ghost use Rattle.po_check.specs.Checked.{facts_known};
 ghost use Rattle.po_check.specs.Claims.{says, known_after, claims_at, verdict_with};
-ghost use Rattle.po_check.specs.Reports.{Tells, TellsFirst, claims_of_found};
+ghost use Rattle.po_check.specs.Reports.{Tells, TellsFirst, FailsAs, claims_of_found};
 ghost use Rattle.po_language.specs.Commands.{CanBegin};
 ghost use Rattle.po_language.specs.Faults.{by_kind};
 ghost use Rattle.po_script.specs.Units.{listed};
@@ -109,7 +109,8 @@ impl Checker {
         ensures facts { self.new.facts ≡ self.old.facts }
         ensures told { OnOk result (Tells (P.told report.old) (P.told report.new) (claims_of_found number self.old.known found)) }
         ensures verdict { OnOk result (self.new.verdict ≡ verdict_with self.old.verdict (claims_of_found number self.old.known found)) }
-        ensures err { IfErr result (λ fault. (fault ≢ CheckError.Read) × (P.told report.new ≡ P.told report.old)) }
+        ensures fine { OnOk result (P.failed report.new ≡ P.failed report.old) }
+        ensures err { IfErr result (λ fault. FailsAs fault (P.failed report.old) (P.failed report.new) × (P.told report.new ≡ P.told report.old)) }
     {
         let Some(found) = found else {
             return Ok(());
@@ -169,7 +170,8 @@ impl Checker {
         ensures verdict { OnOk result (self.old.facts ≡ facts_known O.units self.old.known
             → self.new.verdict ≡ verdict_with self.old.verdict
             (claims_at O.units self.old.known number (says (listed O.units) self.old.known line.now))) }
-        ensures err { IfErr result (λ fault. (fault ≢ CheckError.Read) × (self.old.facts ≡ facts_known O.units self.old.known
+        ensures fine { OnOk result (P.failed report.new ≡ P.failed report.old) }
+        ensures err { IfErr result (λ fault. FailsAs fault (P.failed report.old) (P.failed report.new) × (self.old.facts ≡ facts_known O.units self.old.known
             → TellsFirst (P.told report.old) (P.told report.new)
             (claims_at O.units self.old.known number (says (listed O.units) self.old.known line.now)))) }
     {

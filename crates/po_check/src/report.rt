@@ -1,8 +1,8 @@
 // SPDX-License-Identifier: MIT
 //! What a check tells its findings.
 
-ghost use Rattle.std.specs.Prelude.{◌∷◌, [], ◌≡◌, ◌≢◌, List, Option, OnOk, IfErr};
-ghost use Rattle.po_check.specs.Reports.{Tells, claim_of};
+ghost use Rattle.std.specs.Prelude.{◌∷◌, [], ◌≡◌, Bool, List, Option, OnOk, IfErr};
+ghost use Rattle.po_check.specs.Reports.{Tells, FailsAs, claim_of};
 
 use crate::error::CheckError;
 use crate::finding::Finding;
@@ -14,6 +14,8 @@ pub trait Report {
 
     /// What it was told, if it says that.
     ghost told: { Self → Option (List Claim) };
+    /// Whether a write of it has failed.
+    ghost failed: { Self → Bool };
 
     /// Takes what was found in a line. What explains it are the line's bytes, at most the first 4,097, and the declarations of
     /// the unit's entries (9.5.2), if the unit is known.
@@ -24,6 +26,7 @@ pub trait Report {
         shape: Option<&Shape>,
     ) -> Result<(), CheckError>
         ensures ok { OnOk result (Tells (told self.old) (told self.new) (claim_of finding ∷ [])) }
-        // It never fails with `Read`, and whenever it fails it was told nothing.
-        ensures err { IfErr result (λ fault. (fault ≢ CheckError.Read) × (told self.new ≡ told self.old)) };
+        ensures fine { OnOk result (failed self.new ≡ failed self.old) }
+        // Whenever it fails it was told nothing.
+        ensures err { IfErr result (λ fault. FailsAs fault (failed self.old) (failed self.new) × (told self.new ≡ told self.old)) };
 }

@@ -68,9 +68,10 @@ impl<W> TextReport<W> {
 }
 
 impl<W: Sink> Report for TextReport<W> {
-    ghost use Rattle.std.specs.Prelude.{None};
+    ghost use Rattle.std.specs.Prelude.{None, ◌||◌};
 
     ghost told = { λ _. None };
+    ghost failed = { λ r. W.failed r.sink || W.stuck r.sink };
 
     fn report(
         &mut self,

@@ -20,7 +20,7 @@ returns-in-Err-clause-err g c =
     let s = i.so_far.1 in
     let e = c.in-Err.ensures.err in
     let cuts = e.2 i.so_far.0 _ _ s.cuts in
-    (i.so_far.0, rw (e.1, append-nil) at cuts.source.consumed, (e.0, s.tells.told))
+    (i.so_far.0, rw (e.1, append-nil) at cuts.source.consumed, (e.0, (i.fine, s.tells.told)))
 
 pub loop-step-preserved-in-Letter : goal.loop-step-preserved-in-Letter
 loop-step-preserved-in-Letter g c =
@@ -29,6 +29,7 @@ loop-step-preserved-in-Letter g c =
     let k = rw c.in-Letter.is at c.in-Ok.ensures.step in
     record {
       so_far = (i.so_far.0 ++ k.0 ∷ [], record { cuts = k.4 i.so_far.0 _ _ s.cuts; tells = letter_stands g.O.ScriptObject.units _ _ _ i.so_far.0 _ _ k.0 s.tells k.1 });
+      fine = i.fine;
       read = c.in-Ok.ensures.fine ∙ i.read;
     }
 
@@ -39,6 +40,7 @@ loop-step-preserved g c =
     let k = rw c.in-Newline.is at c.in-Ok.ensures.step in
     record {
       so_far = (i.so_far.0 ++ 10 ∷ [], c.in_ok-newline-in-Newline.ensures.ok i.so_far.0 _ _ _ _ _ (record { cuts = k.4 i.so_far.0 _ _ s.cuts; tells = s.tells }));
+      fine = c.in_ok-newline-in-Newline.ensures.fine ∙ i.fine;
       read = c.in-Ok.ensures.fine ∙ i.read;
     }
 
@@ -59,7 +61,7 @@ returns-in_err-newline-in-Newline-clause-err g c =
     rw (p.1, p.2) (
       i.so_far.0 ++ waiting c.next.new.self,
       cuts.source.consumed,
-      early_other g.O.ScriptObject.units _ _ _ _ _ (c.in-Ok.ensures.fine ∙ i.read ∙ c.requires.reader.0) e.0 (e.1 i.so_far.0 _ _ _ _ _ (record { cuts = cuts; tells = s.tells })),
+      early_other g.O.ScriptObject.units _ _ _ _ _ _ _ _ (c.in-Ok.ensures.fine ∙ i.read ∙ c.requires.reader.0) i.fine e.0 (e.1 i.so_far.0 _ _ _ _ _ (record { cuts = cuts; tells = s.tells })),
     )
 
 pub returns-in-End-clause-reads : goal.returns-in-End-clause-reads
@@ -86,7 +88,7 @@ returns-in-End-clause-err g c =
     let k = rw c.in-End.is at c.in-Ok.ensures.step in
     let cuts = k.2 i.so_far.0 _ _ s.cuts in
     let read = c.in-Ok.ensures.fine ∙ i.read ∙ c.requires.reader.0 in
-    err_weaker _ _ c.finish.result (λ (fault : CheckError) e. (i.so_far.0 ++ waiting c.next.new.self, cuts.source.consumed, early_other g.O.ScriptObject.units fault _ _ _ _ read e.0 (e.1 i.so_far.0 _ _ _ _ _ (record { cuts = cuts; tells = s.tells })))) c.finish.ensures.err
+    err_weaker _ _ c.finish.result (λ (fault : CheckError) e. (i.so_far.0 ++ waiting c.next.new.self, cuts.source.consumed, early_other g.O.ScriptObject.units fault _ _ _ _ _ _ _ read i.fine e.0 (e.1 i.so_far.0 _ _ _ _ _ (record { cuts = cuts; tells = s.tells })))) c.finish.ensures.err
 
 pub returns-in-Past-clause-reads : goal.returns-in-Past-clause-reads
 returns-in-Past-clause-reads g c =
@@ -113,4 +115,4 @@ returns-in-Past-clause-err g c =
     let k = rw c.in-Past.is at c.in-Ok.ensures.step in
     let cuts = k.3 i.so_far.0 _ _ s.cuts in
     let read = c.in-Ok.ensures.fine ∙ i.read ∙ c.requires.reader.0 in
-    err_weaker _ _ c.past_limit.result (λ (fault : CheckError) e. (i.so_far.0 ++ waiting c.next.new.self, cuts.source.consumed, early_other g.O.ScriptObject.units fault _ _ _ _ read e.0 (e.1 i.so_far.0 _ _ _ _ _ (record { cuts = cuts; tells = s.tells })))) c.past_limit.ensures.err
+    err_weaker _ _ c.past_limit.result (λ (fault : CheckError) e. (i.so_far.0 ++ waiting c.next.new.self, cuts.source.consumed, early_other g.O.ScriptObject.units fault _ _ _ _ _ _ _ read i.fine e.0 (e.1 i.so_far.0 _ _ _ _ _ (record { cuts = cuts; tells = s.tells })))) c.past_limit.ensures.err
