@@ -25,3 +25,8 @@
       Object  : Entries.Protection_Entries_Access);
    pragma Inline (Leave);
    --  Gives the lock up: after Arrive the object is at rest
+
+   procedure Note_And_Service (Object : Entries.Protection_Entries_Access);
+   pragma No_Inline (Note_And_Service);
+   --  Service_Entries with a record, as its last step: so this returns to the
+   --  procedure of the object even if Service_Entries isn't inlined there.
