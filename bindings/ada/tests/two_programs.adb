@@ -22,7 +22,7 @@ procedure Two_Programs is
       end Get;
    end Parent;
 
-   Again : Argument_List (1 .. 1) := [new String'("again")];
+   Again : Argument_List (1 .. 1) := (1 => new String'("again"));
 
 begin
    Parent.Put;
