@@ -167,11 +167,16 @@ trace_says() {
   [ $? -eq 4 ] && [[ $said == *"run.sh isn't a record"* ]]
 }
 
-# Whether the record has the names of an object in the specification of a package.
+# Whether the record has the names of an object in the specification of a package, and of its procedures, also if GNARL's code is
+# compiled into these.
 record_of_package() {
-  linked in_package || return
-  POBJ_TRACE=$scratch/package.record "${runner[@]}" "$scratch/in_package-linked"
-  ../trace.sh "$scratch/package.record" | diff in_package.out -
+  local how
+  for how in -O0 "-O2 -gnatn"; do
+    # shellcheck disable=SC2086
+    linked in_package -cargs $how || return
+    POBJ_TRACE=$scratch/package.record "${runner[@]}" "$scratch/in_package-linked" || return
+    ../trace.sh "$scratch/package.record" | diff in_package.out - || return
+  done
 }
 
 # Whether a program under Priority_Queuing writes no record, and a line says why.
