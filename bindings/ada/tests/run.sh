@@ -102,11 +102,12 @@ says_what_is_linked() {
 
 # Whether a program's record survives another program that it starts, and whether a full disk is reported.
 records_alone() {
-  local said
+  local said again=("${runner[@]}" "$scratch/two_programs-linked")
   linked two_programs || return
-  said=$(POBJ_TRACE=$scratch/both "${runner[@]}" "$scratch/two_programs-linked" 2>&1) || return
+  again[0]=$(command -v "${again[0]}") || return
+  said=$(POBJ_TRACE=$scratch/both "${again[@]}" "${again[@]}" 2>&1) || return
   [[ $said == *"another program writes the file"* ]] && ../trace.sh "$scratch/both" | diff two_programs.out - || return
-  said=$(POBJ_TRACE=/dev/full "${runner[@]}" "$scratch/two_programs-linked" 2>&1) || return
+  said=$(POBJ_TRACE=/dev/full "${again[@]}" 2>&1) || return
   [[ $said == *"takes no more"* ]]
 }
 
