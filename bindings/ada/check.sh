@@ -35,10 +35,11 @@ find_tools() {
     fail "there is no qemu-$machine, which runs a program for $machine here; on Debian 12: sudo apt-get install qemu-user"
 }
 
-# Whether the program ends within ten seconds, and writes what it should, with these libraries.
+# Whether the program ends within ten seconds, and writes what it should, with the libraries of the folder if one is named.
 is_right() {
+  path=${2-}${2:+${LD_LIBRARY_PATH:+:}}${LD_LIBRARY_PATH-}
   # shellcheck disable=SC2086
-  [ "$(LD_LIBRARY_PATH=$2${LD_LIBRARY_PATH:+:$LD_LIBRARY_PATH} timeout 10 $runner "$1" 2>&1)" = "there and back" ]
+  [ "$(LD_LIBRARY_PATH=$path timeout 10 $runner "$1" 2>&1)" = "there and back" ]
 }
 
 read_folder "$1"
@@ -49,7 +50,7 @@ trap 'rm -rf "$room"' EXIT
 cp "$here/there_and_back.adb" "$room/"
 cd "$room"
 "${prefix}gnatmake" -q "--RTS=$dest" there_and_back.adb -o linked -bargs -static || fail "a program can't be compiled on $dest"
-is_right ./linked "" || fail "a program that is linked with $dest doesn't write what it should"
+is_right ./linked || fail "a program that is linked with $dest doesn't write what it should"
 "${prefix}gnatmake" -q -f there_and_back.adb -o shared -bargs -shared || fail "a program can't be compiled by GNAT itself"
 is_right ./shared "$dest/adalib" || fail "a program doesn't write what it should over $dest/adalib"
 say "a program of GNAT $version for $target that hangs on GNAT's own runtime ends over $dest, linked with it, and with its" \

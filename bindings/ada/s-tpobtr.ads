@@ -35,10 +35,9 @@ package System.Tasking.Protected_Objects.Traces is
    procedure Note_Finalized (Object : Entries.Protection_Entries_Access);
    --  Records that the object ends (9.4)
 
-   function Return_Address
-     (Level : Integer) return System.Address;
+   function Return_Address (Level : Integer) return System.Address;
    pragma Import (Intrinsic, Return_Address, "__builtin_return_address");
-   --  The address to which the subprogram returns that calls this with 0
+   --  With 0: the address that the calling subprogram returns to
 
    procedure Note_Procedure
      (Self_ID : Task_Id;
@@ -118,8 +117,8 @@ private
    --  An event: of which task; when; at which object; the exception that was
    --  raised; on which entry; the call's level; the Event's position. Mark is
    --  written last: twice the slot's number and one, so that a reader sees
-   --  whether the slot is complete. A procedure has an address in its code in
-   --  place of exception and entry: these 48 bits are all of an address.
+   --  whether the slot is complete. A procedure has an address in its code, of
+   --  at most 48 bits, in place of exception and entry.
 
    Slot_Bytes : constant := 32;
 

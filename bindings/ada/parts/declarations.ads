@@ -28,5 +28,6 @@
 
    procedure Note_And_Service (Object : Entries.Protection_Entries_Access);
    pragma No_Inline (Note_And_Service);
-   --  Service_Entries with a record, as its last step: so this returns to the
-   --  procedure of the object even if Service_Entries isn't inlined there.
+   --  What Service_Entries does if a record is written. It is a tail call: so
+   --  this returns into the object's procedure, whether Service_Entries is
+   --  inlined there or not.
