@@ -22,6 +22,17 @@ missing_for_aarch64() {
   done
 }
 
+# Tries the runtime for Ada that `pobj dist --target aarch64` packs, if targets.sh has packed it.
+packed_ada_for_aarch64() {
+  local packed=$scratch/dist-aarch64/bin/pobj
+  [ -x "$packed" ] || return 0
+  if (cd "$scratch" && "$packed" ada --check >"$scratch/packed-aarch64" 2>&1); then
+    pass
+  else
+    fail "the packed runtime for Ada on aarch64: $(cat "$scratch/packed-aarch64")"
+  fi
+}
+
 # Runs the Ada tests over the libpobj.a for aarch64 of the folder, by qemu.
 ada_rows_for_targets() {
   local missing
@@ -32,4 +43,5 @@ ada_rows_for_targets() {
   fi
   count_clients "$scratch/ada-aarch64" "the Ada tests over aarch64" bindings/ada/tests/run.sh "$1" "$scratch/ada-aarch64-runtime" \
     aarch64-linux-gnu- qemu-aarch64 -L /usr/aarch64-linux-gnu
+  packed_ada_for_aarch64
 }
