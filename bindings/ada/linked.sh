@@ -25,8 +25,32 @@ by_gnat() {
   exit 1
 }
 
-# The file that the loader takes as GNAT's tasking library, or nothing if the program isn't linked with it.
-library=$(LC_ALL=C ldd "$1" 2>/dev/null | awk '$1 ~ /^libgnarl/ { print $2 == "=>" ? $3 : $1 }')
+# Prints the name of GNAT's tasking library that the program is linked with, if it is linked with one.
+needed_by() { readelf -d "$1" 2>/dev/null | sed -n 's/.*(NEEDED).*\[\(libgnarl[^]]*\)\].*/\1/p'; }
+
+# Prints the first library of this name in the folders of LD_LIBRARY_PATH, or nothing.
+in_path() {
+  printf '%s\n' "${LD_LIBRARY_PATH-}" | tr : '\n' | while IFS= read -r folder; do
+    if [ -f "$folder/$1" ]; then
+      printf '%s\n' "$folder/$1"
+      return
+    fi
+  done
+}
+
+# Prints what the loader takes for that library, or "not" if it finds none. A program for another processor isn't loaded here, so
+# the folders of LD_LIBRARY_PATH are all that is known.
+taken_for() {
+  if said=$(LC_ALL=C ldd "$1" 2>/dev/null); then
+    printf '%s\n' "$said" | awk '$1 ~ /^libgnarl/ { print $2 == "=>" ? $3 : $1 }'
+  else
+    in_path "$2"
+  fi
+}
+
+library=
+needed=$(needed_by "$1")
+[ -z "$needed" ] || library=$(taken_for "$1" "$needed")
 if has_engine "$1"; then
   say "$1 runs over pobj, which is linked into it"
 elif [ "$library" = not ]; then
@@ -35,6 +59,8 @@ elif [ -n "$library" ] && has_engine "$library"; then
   say "$1 runs over pobj, by the library $library"
 elif [ -n "$library" ]; then
   by_gnat "$1" "by the library $library"
+elif [ -n "$needed" ]; then
+  fail "$1 is for another machine, which chooses its $needed; LD_LIBRARY_PATH names none"
 elif grep -aq system__tasking__protected_objects__ "$1"; then
   by_gnat "$1" "which is linked into it"
 else

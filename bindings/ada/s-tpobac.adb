@@ -760,19 +760,6 @@ package body System.Tasking.Protected_Objects.Actions is
       end if;
    end Service;
 
-   --------------------
-   -- Note_Procedure --
-   --------------------
-
-   procedure Note_Procedure
-     (Self_ID : Task_Id;
-      Object  : Protection_Entries_Access) is
-   begin
-      if Traces.Is_On then
-         Traces.Note_Procedure (Self_ID, Object);
-      end if;
-   end Note_Procedure;
-
    --------------
    -- Finalize --
    --------------

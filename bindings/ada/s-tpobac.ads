@@ -23,13 +23,6 @@ package System.Tasking.Protected_Objects.Actions is
    --  Carries out what follows the body of a procedure or a cancellation
    --  (9.5.3), until the object is at rest. The task holds its lock.
 
-   procedure Note_Procedure
-     (Self_ID : Task_Id;
-      Object  : Entries.Protection_Entries_Access);
-   pragma Inline (Note_Procedure);
-   --  Records that a procedure of the object was called (9.5.1), if a record
-   --  is asked for.
-
    procedure Finalize
      (Self_ID : Task_Id;
       Object  : Entries.Protection_Entries_Access);

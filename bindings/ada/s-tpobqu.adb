@@ -2,14 +2,15 @@
 
 with Interfaces.C;
 
-with System.OS_Interface;
 with System.Restrictions;
+with System.Task_Primitives.Mutexes;
 with System.Task_Primitives.Operations;
 with System.Tasking.Initialization;
 with System.Tasking.Protected_Objects.Traces;
 
 package body System.Tasking.Protected_Objects.Queues is
 
+   package Mutexes renames System.Task_Primitives.Mutexes;
    package STPO renames System.Task_Primitives.Operations;
 
    use Entries;
@@ -26,21 +27,6 @@ package body System.Tasking.Protected_Objects.Queues is
    --  As pobj.h declares it
 
    use type Interfaces.C.int;
-   use System.OS_Interface;
-
-   --  A lock as System.Task_Primitives declares it
-
-   type Lock_Parts is record
-      RW : aliased pthread_rwlock_t;
-      WO : aliased pthread_mutex_t;
-   end record;
-
-   PTHREAD_MUTEX_ADAPTIVE_NP : constant := 3;
-
-   function pthread_mutexattr_settype
-     (Attributes : access pthread_mutexattr_t;
-      Kind       : Interfaces.C.int) return Interfaces.C.int;
-   pragma Import (C, pthread_mutexattr_settype);
 
    function Longest
      (Object : Protection_Entries_Access;
@@ -51,15 +37,10 @@ package body System.Tasking.Protected_Objects.Queues is
    procedure Set_Limits (Object : Protection_Entries_Access);
    --  Tells the engine the limit of each entry that has one
 
-   function pthread_mutex_trylock
-     (Mutex : access pthread_mutex_t) return Interfaces.C.int;
-   pragma Import (C, pthread_mutex_trylock);
-
    procedure Make_Adaptive (Object : Protection_Entries_Access);
-   --  Replaces the object's lock by one of another kind: a task that finds it
-   --  taken looks about a hundred times whether it is free before it sleeps,
-   --  as a protected action is short. Under a locking policy (D.3), or with
-   --  one processor, the lock stays GNARL's.
+   --  Lets tasks look before they sleep for the object's lock, as a protected
+   --  action is short. Under a locking policy (D.3), or with one processor,
+   --  the lock stays GNARL's.
 
    Has_Several : Boolean := False;
    --  Whether this process may use more than one processor
@@ -199,30 +180,10 @@ package body System.Tasking.Protected_Objects.Queues is
    -------------------
 
    procedure Make_Adaptive (Object : Protection_Entries_Access) is
-      Lock : aliased Lock_Parts;
-      for Lock'Address use Object.L'Address;
-      pragma Import (Ada, Lock);
-
-      Attributes : aliased pthread_mutexattr_t;
-      Result     : Interfaces.C.int := 0;
-
    begin
-      if not Has_Several
-        or else not Has_Own_Lock
-        or else pthread_mutexattr_init (Attributes'Access) /= 0
-      then
-         return;
-      end if;
-
-      if pthread_mutexattr_settype
-           (Attributes'Access, PTHREAD_MUTEX_ADAPTIVE_NP) = 0
-        and then pthread_mutex_destroy (Lock.WO'Access) = 0
-      then
-         Result := pthread_mutex_init (Lock.WO'Access, Attributes'Access);
-      end if;
-
-      if pthread_mutexattr_destroy (Attributes'Access) /= 0
-        or else Result /= 0
+      if Has_Several
+        and then Has_Own_Lock
+        and then not Mutexes.Is_Made_Adaptive (Object.L'Access)
       then
          raise Storage_Error with "no memory for the lock of an object";
       end if;
@@ -242,11 +203,8 @@ package body System.Tasking.Protected_Objects.Queues is
    ---------------
 
    function Is_Locked (Object : Protection_Entries_Access) return Boolean is
-      Lock : aliased Lock_Parts;
-      for Lock'Address use Object.L'Address;
-      pragma Import (Ada, Lock);
    begin
-      return pthread_mutex_trylock (Lock.WO'Access) = 0;
+      return Mutexes.Is_Taken (Object.L'Access);
    end Is_Locked;
 
    ----------

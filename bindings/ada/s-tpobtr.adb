@@ -5,7 +5,6 @@
 
 with Ada.Unchecked_Conversion;
 
-with System.Storage_Elements;
 with System.Tasking.Initialization;
 with System.Traceback;
 with System.Traceback_Entries;
@@ -34,6 +33,11 @@ package body System.Tasking.Protected_Objects.Traces is
    function Add (To : System.Address; More : Word) return Word;
    pragma Import (Intrinsic, Add, "__sync_fetch_and_add_8");
    --  Adds at once, whatever other tasks do, and returns the value before
+
+   Word_Bytes : constant := Standard'Address_Size / System.Storage_Unit;
+
+   function Address_Of (Action : Entry_Action_Pointer) return Integer_Address
+     is (To_Integer (Action.all'Address));
 
    function Mark_Of (Number : Word) return Half is
      (Half'Mod (2 * Number + 1));
@@ -121,25 +125,39 @@ package body System.Tasking.Protected_Objects.Traces is
       Put_Number (L, Events);
    end Begin_Object;
 
+   ---------------------
+   -- Descriptor_Mark --
+   ---------------------
+
+   function Descriptor_Mark return Integer_Address is
+      Calls : Natural := 0;
+      pragma Volatile (Calls);
+
+      procedure Nested (O, P : System.Address; E : Protected_Entry_Index);
+      --  Uses a variable of this function, so it is given by a descriptor
+
+      procedure Nested (O, P : System.Address; E : Protected_Entry_Index) is
+         pragma Unreferenced (O, P, E);
+      begin
+         Calls := Calls + 1;
+      end Nested;
+
+   begin
+      return Address_Of (Nested'Unrestricted_Access) mod Word_Bytes;
+   end Descriptor_Mark;
+
    -------------
    -- Code_Of --
    -------------
 
-   function Code_Of (Action : System.Address) return System.Address is
-      Word_Bytes : constant := Standard'Address_Size / System.Storage_Unit;
+   function Code_Of (Action : Entry_Action_Pointer) return System.Address is
+      Mark  : constant Integer_Address := Descriptor_Mark;
+      Where : constant Integer_Address := Address_Of (Action);
+      Code  : System.Address;
+      for Code'Address use To_Address (Where - Mark + Word_Bytes);
+      pragma Import (Ada, Code);
    begin
-      if To_Integer (Action) mod 2 = 0 then
-         return Action;
-      else
-         declare
-            Code : System.Address;
-            for Code'Address use
-              To_Address (To_Integer (Action) + Word_Bytes - 1);
-            pragma Import (Ada, Code);
-         begin
-            return Code;
-         end;
-      end if;
+      return (if (Where and Mark) = 0 then To_Address (Where) else Code);
    end Code_Of;
 
    -----------------
@@ -658,8 +676,7 @@ package body System.Tasking.Protected_Objects.Traces is
             Put (L, " ");
             Put_Number (L, Word (E));
             Put (L, ":");
-            Put_Address
-              (L, Code_Of (Object.Entry_Bodies (B).Action.all'Address));
+            Put_Address (L, Code_Of (Object.Entry_Bodies (B).Action));
             Last := B;
          end if;
       end loop;
@@ -715,9 +732,15 @@ package body System.Tasking.Protected_Objects.Traces is
 
    procedure Note_Procedure
      (Self_ID : Task_Id;
-      Object  : Protection_Entries_Access) is
+      Object  : Protection_Entries_Access;
+      Where   : System.Address)
+   is
+      Code : constant Word := Word (To_Integer (Where));
    begin
-      Put_Event (Object, Serial_Of (Self_ID), Called_Procedure, 0, 0, 0);
+      Put_Event
+        (Object, Serial_Of (Self_ID), Called_Procedure,
+         Protected_Entry_Index (Shift_Right (Code, 32) and 16#FFFF#), 0,
+         Half'Mod (Code));
    end Note_Procedure;
 
    ----------

@@ -7,6 +7,7 @@ with Ada.Exceptions;
 
 with Interfaces.C;
 
+with System.Storage_Elements;
 with System.Tasking.Protected_Objects.Entries;
 
 package System.Tasking.Protected_Objects.Traces is
@@ -34,10 +35,16 @@ package System.Tasking.Protected_Objects.Traces is
    procedure Note_Finalized (Object : Entries.Protection_Entries_Access);
    --  Records that the object ends (9.4)
 
+   function Return_Address (Level : Integer) return System.Address;
+   pragma Import (Intrinsic, Return_Address, "__builtin_return_address");
+   --  With 0: the address that the calling subprogram returns to
+
    procedure Note_Procedure
      (Self_ID : Task_Id;
-      Object  : Entries.Protection_Entries_Access);
-   --  Records that the task has called a procedure of the object (9.5.1)
+      Object  : Entries.Protection_Entries_Access;
+      Where   : System.Address);
+   --  Records that the task has called a procedure of the object (9.5.1), and
+   --  an address in the procedure's code.
 
    procedure Note
      (Object : Entries.Protection_Entries_Access;
@@ -110,7 +117,8 @@ private
    --  An event: of which task; when; at which object; the exception that was
    --  raised; on which entry; the call's level; the Event's position. Mark is
    --  written last: twice the slot's number and one, so that a reader sees
-   --  whether the slot is complete.
+   --  whether the slot is complete. A procedure has an address in its code, of
+   --  at most 48 bits, in place of exception and entry.
 
    Slot_Bytes : constant := 32;
 
@@ -199,9 +207,13 @@ private
    --  Begins a line about an object: its address, and how many events were
    --  noted before it was made, since the address may be used again.
 
-   function Code_Of (Action : System.Address) return System.Address;
+   function Descriptor_Mark return System.Storage_Elements.Integer_Address;
+   --  What the compiler adds to the address of a descriptor, so that it isn't
+   --  taken for code: 1 on x86-64, 4 on aarch64.
+
+   function Code_Of (Action : Entry_Action_Pointer) return System.Address;
    --  The address of the code of an entry's body. A nested body is given by a
-   --  descriptor, with one added to its address: the second word is the code.
+   --  descriptor, whose second word is the code.
 
    procedure Put_Program (L : in out Line);
    --  Appends the running program's file, and the address it is loaded at

@@ -31,6 +31,10 @@ CALLS = KINDS[:7]
 THROUGH = ("done", "raised", "requeued", "procedure")
 # The body of an entry, as the compiler names it.
 BODY = re.compile(r"_E[0-9]+[bs](\.[0-9]+)?$")
+# The unit of GNARL's that a procedure calls at its end, as the compiler may put it there.
+SERVICE = re.compile(r"/s-tpobop\.adb:")
+# A procedure of an object, which locks the object, and what it does at its end.
+PROCEDURE = re.compile(r"(?P<type>.+)__(?P<name>[^.A-Z]+)P(__[0-9]+)?(___finalizer(__[0-9]+)?)?(\.[a-z0-9]+)*$")
 # What stands between the line that makes an object and its record: unknown code, the runtime, and the types' own initialization.
 MAKERS = re.compile(r"\?\?$|system__|pobj_ada_|.*IP(\.[0-9]+)?$")
 
@@ -40,8 +44,8 @@ class Unread(Exception):
 
 
 class Event(typing.NamedTuple):
-    """What happened at which object, when (in nanoseconds), by which task, on which entry, at which level of its calls, and the
-    number of the exception that was raised."""
+    """What happened at which object, when (in nanoseconds), by which task, on which entry, at which level of its calls, the number
+    of the exception that was raised, and the address in the code of a procedure."""
 
     of: "Object"
     time: int
@@ -50,6 +54,7 @@ class Event(typing.NamedTuple):
     entry: int
     level: int
     exception: int
+    code: int
 
 
 @dataclass
@@ -72,7 +77,8 @@ class Object:
 class Record:
     """A file: the program and the address of its headers, the tasks by number and how they are shown, the exceptions by number, the
     objects and events in order, how many events before these aren't kept, and whether the file took no more. `made_at` has for each
-    address the objects that were made there, with how many events were noted before each."""
+    address the objects that were made there, with how many events were noted before each; `procedures` the types and names of the
+    procedures that an address in their code is in."""
 
     program: str = ""
     headers: int = 0
@@ -82,6 +88,7 @@ class Record:
     objects: list = field(default_factory=list)
     made_at: dict = field(default_factory=lambda: collections.defaultdict(lambda: ([], [])))
     events: list = field(default_factory=list)
+    procedures: dict = field(default_factory=dict)
     before: int = 0
     is_cut: bool = False
 
@@ -137,9 +144,10 @@ def take_object(record, word, words):
 def take_event(record, number, it, start):
     """Notes an event, at the latest object that was made at its address before."""
     task, time, address, exception, entry, level, kind = it
+    code = entry << 32 | exception if KINDS[kind] == "procedure" else 0
     sinces, objects = record.made_at[address]
     of = objects[max(0, bisect.bisect_right(sinces, number) - 1)]
-    record.events.append(Event(of, time - start, KINDS[kind], task, entry, level, exception))
+    record.events.append(Event(of, time - start, KINDS[kind], task, entry, level, exception, code))
     of.events.append(record.events[-1])
 
 
@@ -216,17 +224,29 @@ def symbols_of(program):
 
 
 def frames_of(program, addresses):
-    """The function and the line of the source that each address of the program is in."""
-    said = said_by("addr2line", "-fe", program, given="".join(f"{address:#x}\n" for address in addresses)).splitlines()
-    return dict(zip(addresses, zip(said[::2], said[1::2])))
+    """The functions that each address of the program is in, with the line of the source: several, the innermost first, if the
+    compiler has put one into another."""
+    said = iter(said_by("addr2line", "-afie", program, given="".join(f"{address:#x}\n" for address in addresses)).splitlines())
+    frames = {}
+    for line in said:
+        if line.startswith("0x"):
+            frames[int(line, 16)] = inner = []
+        else:
+            inner.append((line, next(said, "")))
+    return frames
+
+
+def file_and_line(line):
+    """The file without its folder, and the line, or nothing if they aren't known."""
+    return "" if "?" in line else os.path.basename(line.split(" ")[0])
 
 
 def place_of(calls, frames):
     """The line that made an object: that of the first of these calls which is neither the runtime's nor the type's own."""
     for address in calls:
-        function, line = frames.get(address, ("??", ""))
+        function, line = frames.get(address, [("??", "")])[0]
         if not MAKERS.match(function):
-            return "" if "?" in line else os.path.basename(line.split(" ")[0])
+            return file_and_line(line)
     return ""
 
 
@@ -239,6 +259,24 @@ def place_objects(record, shift):
     frames = frames_of(record.program, list({address for chain in calls.values() for address in chain})) if several else {}
     for it in several:
         it.place = place_of(calls[it.number], frames)
+
+
+def procedures_of(frames):
+    """The type and the name of each procedure of an object among these functions. If there is none, but the compiler has put one
+    function into another, the line of the inner one: only the outer one has a name."""
+    frames = [(function, line) for function, line in frames if not SERVICE.search(line)]
+    found = [PROCEDURE.match(function) for function, _ in frames]
+    if any(found):
+        return [(it["type"].replace("__", "."), it["name"]) for it in found if it]
+    return [("", file_and_line(frames[0][1]))] if len(frames) > 1 else []
+
+
+def name_procedures(record, shift):
+    """Finds the procedures whose calls are noted."""
+    # The address is that of the instruction after a call.
+    codes = {event.code: event.code - shift - 1 for event in record.events if event.code > shift}
+    frames = frames_of(record.program, list(codes.values())) if codes else {}
+    record.procedures = {code: procedures_of(frames.get(address, ())) for code, address in codes.items()}
 
 
 def name_object(it, symbols, shift):
@@ -268,6 +306,7 @@ def give_names(record):
         name_object(it, symbols, shift)
     if is_there:
         place_objects(record, shift)
+        name_procedures(record, shift)
     name_tasks(record)
 
 
@@ -292,9 +331,14 @@ def task_of(record, event):
     return record.shown.get(event.task, "")
 
 
-def where_of(event):
-    """The entry of an event, if it has one."""
-    return entry_of(event.of, event.entry) if event.kind in CALLS else ""
+def procedure_of(record, event):
+    """The procedure that was called: its name or line, or nothing."""
+    return next((name for of_type, name in record.procedures.get(event.code, ()) if of_type in ("", event.of.type)), "")
+
+
+def where_of(record, event):
+    """The entry or the procedure of an event, if it has one."""
+    return entry_of(event.of, event.entry) if event.kind in CALLS else procedure_of(record, event)
 
 
 def what_of(record, event):
@@ -304,7 +348,7 @@ def what_of(record, event):
 
 def line_of(record, event):
     """The task, the entry, and what the event says."""
-    return f"  {task_of(record, event):<24}  {where_of(event):<16}  {what_of(record, event)}"
+    return f"  {task_of(record, event):<24}  {where_of(record, event):<16}  {what_of(record, event)}"
 
 
 def waiting_of(it):
@@ -338,7 +382,7 @@ def show_object(record, it):
         print(line_of(record, event))
     waiting = waiting_of(it)
     for event in waiting:
-        print(f"  {task_of(record, event)} waits on {where_of(event)}")
+        print(f"  {task_of(record, event)} waits on {where_of(record, event)}")
     if not waiting:
         print("  nothing waits")
 
@@ -364,7 +408,8 @@ def show_last(record, it):
         print("  nothing went through it before" + (", as far as is kept" if record.before else ""))
         return
     last = through[-1]
-    how = "a procedure" if last.kind == "procedure" else f"{where_of(last)}, {what_of(record, last)}"
+    where = where_of(record, last)
+    how = f"{where}, {what_of(record, last)}" if where else "a procedure"
     print(f"  last through it: {task_of(record, last)}, {how}, at {seconds(last.time)}")
 
 
@@ -377,7 +422,7 @@ def show_waits(record):
         for event in waiting_of(it):
             some = True
             since = f"{seconds(event.time)} ({seconds(record.events[-1].time - event.time)} before the last event)"
-            print(f"{task_of(record, event)} waits on {where_of(event)} of {title_of(it)}, since {since}")
+            print(f"{task_of(record, event)} waits on {where_of(record, event)} of {title_of(it)}, since {since}")
         if waiting_of(it):
             show_last(record, it)
     if not some:

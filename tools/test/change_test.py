@@ -152,16 +152,23 @@ class Sources(Folder):
         super().setUp()
         for name in ("make.sh", "change.awk"):
             shutil.copy(ADA / name, self.folder)
-        gnatls = self.write("bin/gnatls", f"#!/bin/sh\necho 'GNATLS 12.2.0'\necho 'Source Search Path:'\necho '   {self.folder}/gnat'\n")
-        gnatls.chmod(0o755)
+        self.put_gnat("12.2.0")
         self.write("gnat/s-tpobop.adb", UNIT)
         self.write("changes/s-tpobop.adb.edit", COOL)
         self.made = self.folder / "made"
 
-    def make(self):
+    def put_command(self, name, *said):
+        """Makes a command that says this."""
+        self.write(f"bin/{name}", "#!/bin/sh\n" + "".join(f"echo '{line}'\n" for line in said)).chmod(0o755)
+
+    def put_gnat(self, version, prefix=""):
+        """Makes a GNAT of the version."""
+        self.put_command(f"{prefix}gnatls", f"GNATLS {version}", "Source Search Path:", f"   {self.folder}/gnat")
+
+    def make(self, *words):
         """The status, and what is said."""
         path = f"{self.folder}/bin:{os.environ['PATH']}"
-        done = subprocess.run([self.folder / "make.sh", "--sources", self.made], capture_output=True, text=True, env={"PATH": path})
+        done = subprocess.run([self.folder / "make.sh", "--sources", self.made, *words], capture_output=True, text=True, env={"PATH": path})
         return done.returncode, done.stderr.replace(f"{self.folder}/", "")
 
     def test_has_units_and_differences(self):
@@ -176,10 +183,31 @@ class Sources(Folder):
         self.assertEqual(self.make(), (4, "pobj ada: made exists, and isn't empty\n"))
         self.assertEqual([path.name for path in self.made.iterdir()], ["mine"])
 
-    def ends(self, *said):
+    def ends(self, *said, words=()):
         """Checks that this is said, and nothing is made."""
-        self.assertEqual(self.make(), (4, "".join(f"pobj ada: {line}\n" for line in said)))
+        self.assertEqual(self.make(*words), (4, "".join(f"pobj ada: {line}\n" for line in said)))
         self.assertEqual(list(self.folder.glob("made*")), [])
+
+    def test_takes_each_version(self):
+        self.put_gnat("11.3.0")
+        self.assertEqual(self.make()[0], 0)
+
+    def test_ends_if_the_version_is_another(self):
+        for version in ("11.2.0", "12.20.0", "13.2.0"):
+            self.put_gnat(version)
+            self.ends(f"this runtime is made from that of GNAT 12.2 or 11.3, and the one found is GNATLS {version}")
+
+    def test_takes_a_cross_compiler_by_its_prefix(self):
+        self.put_gnat("13.2.0")
+        self.put_gnat("12.2.0", "hal9000-")
+        self.put_command("hal9000-gcc")
+        self.assertEqual(self.make("hal9000-")[0], 0)
+
+    def test_names_the_packages_that_are_missing(self):
+        need = "what compiles for hal9000 isn't all here; on Debian 12: sudo apt-get install"
+        self.ends(f"{need} gnat-12-hal9000 gcc-hal9000", words=["hal9000-"])
+        self.put_gnat("12.2.0", "hal9000-")
+        self.ends(f"{need} gcc-hal9000", words=["hal9000-"])
 
     def test_ends_if_the_sources_are_others(self):
         self.write("changes/s-other.adb.edit", COOL)
@@ -189,6 +217,8 @@ class Sources(Folder):
             "changes/s-tpobop.adb.edit:2: gnat/s-tpobop.adb, Bake: found 0 times instead of once:\n         Cool;",
             "the sources in gnat aren't those of GNAT 12.2 that this runtime is made from",
         )
+        self.put_gnat("11.3.0")
+        self.assertIn("aren't those of GNAT 11.3 that", self.make()[1])
 
     def test_ends_if_a_file_of_changes_is_wrong(self):
         self.write("changes/s-tpobop.adb.edit", "olds:\n")

@@ -13,10 +13,10 @@ scripts_are_tested() {
   done
 }
 
-# The changes of units of GNAT's have their places in GNAT 12.2, if it is there.
+# The changes of units of GNAT's have their places in GNAT 12.2 or 11.3, if it is there.
 changes_fit() {
-  if [[ $(gnatls --version 2>&1) != *" 12.2."* ]]; then
-    report "the changes of GNAT's units are skipped: there is no GNAT 12.2"
+  if ! bindings/ada/make.sh --gnat >"$scratch/fit" 2>&1; then
+    report "the changes of GNAT's units are skipped: $(cat "$scratch/fit")"
   elif bindings/ada/make.sh --sources "$scratch/sources" >"$scratch/fit" 2>&1; then
     pass
   else

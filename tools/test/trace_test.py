@@ -22,6 +22,16 @@ SAID = {
     "addr2line": "",
 }
 PUT, GET, UNKNOWN = 0x1100, 0x1200, 0x1300
+# What addr2line says of addresses in the code of procedures: one of the type, one of another type, and two that the compiler has put
+# into other functions, of which the second has a name of its own. In the third GNARL's unit is there, too.
+CODE = {
+    0x400: [("shop__store__close_allP__2___finalizer__3.17", "/src/shop.adb:30")],
+    0x410: [("shop__till__emptyP", "/src/shop.adb:40")],
+    0x420: [("main__work", "/lib/s-tpobop.adb:837"), ("main__work", "/src/shop.adb:50 (discriminator 1)"), ("main__work", "/src/main.adb:7")],
+    0x430: [("shop__store__openP.constprop.0", "/src/shop.adb:60"), ("main__work", "/src/main.adb:8")],
+    0x440: [("main__work", "/src/main.adb:9")],
+    0x450: [("??", "??:0"), ("??", "??:0")],
+}
 
 
 class Writer:
@@ -54,8 +64,9 @@ class Writer:
         """Describes a task."""
         self.line(f"task {serial} {address or serial:016x} {name}")
 
-    def note(self, kind, address, task, entry=0, level=1, exception=0):
-        """Writes an event, a millisecond and a nanosecond after the one before."""
+    def note(self, kind, address, task, entry=0, level=1, exception=0, code=0):
+        """Writes an event, a millisecond and a nanosecond after the one before. A procedure has an address in its code."""
+        entry, exception = entry | code >> 32, exception | code & 0xFFFFFFFF
         self.time += 1_000_001
         number = self.taken if self.ring else len(self.slots)
         slot = trace.SLOT.pack(self.mark(number), task, self.time, address, exception, entry, level, trace.KINDS.index(kind))
@@ -93,6 +104,14 @@ class Trace(unittest.TestCase):
     def tearDown(self):
         trace.said_by = self.before
         self.folder.cleanup()
+
+    def say_frames(self, frames):
+        """Has addr2line say what these addresses are in."""
+        def said_by(command, *words, given=None):
+            return self.said[command] + "".join(
+                f"{address}\n" + "".join(f"{function}\n{line}\n" for function, line in frames.get(int(address, 16), [("??", "??:0")]))
+                for address in (given or "").split())
+        trace.said_by = said_by
 
     def shown(self, content, *words):
         """The lines that the words of the command line show of these bytes."""
@@ -221,12 +240,33 @@ class Trace(unittest.TestCase):
         it.make(32, 2, (1, PUT), (2, GET), chain=(0x7000_1000, 0x1501, 0x1601, 0x1701))
         it.make(48, 2, (1, PUT), (2, GET), chain=(0x1501, 0x1801, 0x1701))
         it.make(64, 2, (1, UNKNOWN))
-        lines = {0x500: ("shop__storeVIP", "??:?"), 0x600: ("shop___elabb", "/src/shop.adb:12 (discriminator 2)"),
-                 0x700: ("main", "/src/b~main.adb:1"), 0x800: ("shop__openP", "??:?")}
-        trace.said_by = lambda command, *words, given=None: SAID[command] + "".join(
-            "%s\n%s\n" % lines.get(int(address, 16), ("??", "??:0")) for address in (given or "").split())
+        self.say_frames({0x500: [("shop__storeVIP", "??:?")], 0x600: [("shop___elabb", "/src/shop.adb:12 (discriminator 2)")],
+                         0x700: [("main", "/src/b~main.adb:1")], 0x800: [("shop__openP", "??:?")]})
         self.assertEqual([line for line in self.shown(it.file()) if line.startswith("object")],
                          ["object 1, shop.store", "object 2, shop.store, shop.adb:12", "object 3, shop.store", "object 4"])
+
+    def test_names_procedures(self):
+        it = store()
+        self.say_frames(CODE)
+        for address in CODE:
+            it.note("procedure", 16, 101, code=address + 0x1001)
+        self.assertEqual([line[28:44].strip() for line in self.shown(it.file())[1:-1]], ["close_all", "", "shop.adb:50", "open", "", ""])
+
+    def test_names_procedures_at_high_addresses(self):
+        it = Writer(program=sys.executable)
+        it.slots.clear()
+        it.line(f"program {0xfffe_1234_5040:016x} {sys.executable}")
+        it.make(16, 2, (1, 0xfffe_1234_5100), (2, 0xfffe_1234_5200))
+        self.say_frames(CODE)
+        it.note("procedure", 16, 101, code=0xfffe_1234_5401)
+        self.assertEqual(self.shown(it.file())[1].split(), ["close_all", "procedure"])
+
+    def test_shows_the_procedure_that_went_last_through(self):
+        it = store()
+        self.say_frames(CODE)
+        it.note("procedure", 16, 102, code=0x1401)
+        it.note("queued", 16, 101, 2)
+        self.assertEqual(self.shown(it.file(), "--waits")[1:], ["  last through it: two, close_all, procedure, at 0.001000"])
 
     def test_numbers_entries_of_a_program_that_cannot_be_read(self):
         it = Writer(program="/nowhere/a program")

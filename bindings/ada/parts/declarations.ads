@@ -25,3 +25,9 @@
       Object  : Entries.Protection_Entries_Access);
    pragma Inline (Leave);
    --  Gives the lock up: after Arrive the object is at rest
+
+   procedure Note_And_Service (Object : Entries.Protection_Entries_Access);
+   pragma No_Inline (Note_And_Service);
+   --  What Service_Entries does if a record is written. It is a tail call: so
+   --  this returns into the object's procedure, whether Service_Entries is
+   --  inlined there or not.

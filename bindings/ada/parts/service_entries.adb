@@ -34,3 +34,17 @@
          Unlock_Entries (Object);
       end if;
    end Leave;
+
+   ----------------------
+   -- Note_And_Service --
+   ----------------------
+
+   procedure Note_And_Service (Object : Entries.Protection_Entries_Access) is
+      Self_ID : constant Task_Id := STPO.Self;
+   begin
+      if Queues.Serves (Object) then
+         Traces.Note_Procedure (Self_ID, Object, Traces.Return_Address (0));
+      end if;
+
+      PO_Service_Entries (Self_ID, Object);
+   end Note_And_Service;

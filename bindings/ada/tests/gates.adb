@@ -5,6 +5,16 @@ package body Gates is
       begin
          null;
       end Pass;
+
+      procedure Open is
+      begin
+         Is_Open := True;
+      end Open;
+
+      procedure Set (To_Open : Boolean) is
+      begin
+         Is_Open := To_Open;
+      end Set;
    end Gate;
 
 end Gates;

@@ -4,6 +4,8 @@ package Gates is
 
    protected Gate is
       entry Pass;
+      procedure Open;
+      procedure Set (To_Open : Boolean);
    private
       Is_Open : Boolean := False;
    end Gate;

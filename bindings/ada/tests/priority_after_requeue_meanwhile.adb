@@ -9,11 +9,11 @@ with Ada.Dynamic_Priorities; use Ada.Dynamic_Priorities;
 with Ada.Text_IO;            use Ada.Text_IO;
 with System;
 
-procedure Priority_After_Requeue_Meanwhile with Priority => System.Default_Priority + 20 is
+procedure Priority_After_Requeue_Meanwhile with Priority => System.Priority'Last is
 
    Base : constant := System.Default_Priority;
 
-   protected Second with Priority => Base + 25 is
+   protected Second with Priority => System.Priority'Last is
       entry Wait;
       procedure Open;
    private

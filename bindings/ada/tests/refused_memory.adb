@@ -66,7 +66,7 @@ procedure Refused_Memory is
 
    procedure Try_Calls (Granted : Natural; Refused, Is_Well : out Boolean) is
       Start  : array (1 .. Callers) of Suspension_Object;
-      Places : array (1 .. Callers) of Natural := [others => 0];
+      Places : array (1 .. Callers) of Natural := (others => 0);
       Failed : Natural := 0;
       pragma Volatile (Failed);
 

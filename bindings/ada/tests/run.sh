@@ -1,17 +1,25 @@
 #!/usr/bin/env bash
 # SPDX-License-Identifier: MIT
-# Makes a runtime folder from libpobj.a and runs the programs of this folder over it: linked with it, and with its shared
-# library. Writes a line for each test. The last line is 'N passed, M failed, K skipped'. The exit status is 0 if none failed.
-# With a second folder the runtime folder stays there.
+# Makes a runtime folder from libpobj.a by the GNAT that PATH has first, and runs the programs of this folder over it: linked with
+# it, and with its shared library. Writes a line for each test. The last line is 'N passed, M failed, K skipped'. The exit status is
+# 0 if none failed. With a second folder the runtime folder stays there. For another processor the words after it are the prefix of
+# the cross compiler's commands and what runs a program: aarch64-linux-gnu- qemu-aarch64 -L /usr/aarch64-linux-gnu
 set -u
 if [ $# -lt 1 ] || [ ! -f "$1/libpobj.a" ]; then
-  echo "usage: bindings/ada/tests/run.sh LIB_DIR [DEST]    (LIB_DIR has libpobj.a)" >&2
+  echo "usage: bindings/ada/tests/run.sh LIB_DIR [DEST [PREFIX RUNNER..]]    (LIB_DIR has libpobj.a)" >&2
   exit 2
 fi
 library=$(cd "$1" && pwd)/libpobj.a
 scratch=$(mktemp -d) || exit 2
 trap 'rm -rf "$scratch"' EXIT
 dest=${2:-$scratch/runtime}
+prefix=${3-}
+runner=("${@:4}")
+version=$("${prefix}gnatls" --version | sed -n '1s/.* //p')
+own_libraries=$(dirname "$(readlink -f "$("${prefix}gnatls" -v | sed -n 's,^ *\(/.*/adalib\)$,\1,p' | head -n 1)/libgnarl.so")")
+# GNAT 11 calls Ada 2022 by another name.
+standard=-gnat2022
+[[ $version != 11.* ]] || standard=-gnat2020
 cd "$(dirname "$0")" || exit 2
 passed=0 failed=0 skipped=0
 
@@ -30,25 +38,28 @@ row() {
 }
 
 # Compile a program of this folder: linked with the runtime folder, or with GNAT's shared libraries.
-linked() { (cd "$scratch" && gnatmake -q -f -gnat2022 "--RTS=$dest" "$OLDPWD/$1.adb" -o "$1-linked" -bargs -static "${@:2}"); }
-shared() { (cd "$scratch" && gnatmake -q -f -gnat2022 "$OLDPWD/$1.adb" -o "$1-shared" -bargs -shared); }
+linked() { (cd "$scratch" && "${prefix}gnatmake" -q -f "$standard" "--RTS=$dest" "$OLDPWD/$1.adb" -o "$1-linked" -bargs -static "${@:2}"); }
+shared() { (cd "$scratch" && "${prefix}gnatmake" -q -f "$standard" "$OLDPWD/$1.adb" -o "$1-shared" -bargs -shared); }
 
 # The first processor that this may use.
 one=$(taskset -cp $$ | sed -E 's/.*: ([0-9]+).*/\1/')
 
+# Runs a command with libraries of the runtime folder, and after them those that this was run with.
+with_shared() { LD_LIBRARY_PATH=$dest/adalib${LD_LIBRARY_PATH:+:$LD_LIBRARY_PATH} "$@"; }
+
 # Whether a program writes what its .out says, in both ways, on one processor.
 writes() {
-  linked "$1" && timeout 60 taskset -c "$one" "$scratch/$1-linked" | diff "$1.out" - || return
-  shared "$1" && LD_LIBRARY_PATH=$dest/adalib timeout 60 taskset -c "$one" "$scratch/$1-shared" | diff "$1.out" -
+  linked "$1" && timeout 60 taskset -c "$one" "${runner[@]}" "$scratch/$1-linked" | diff "$1.out" - || return
+  shared "$1" && with_shared timeout 60 taskset -c "$one" "${runner[@]}" "$scratch/$1-shared" | diff "$1.out" -
 }
 
 # The same for a program that isn't root's, to which the system allows no real-time priorities.
 writes_as_user() {
   linked "$1" && chmod 711 "$scratch" || return
   if [ "$(id -u)" -eq 0 ]; then
-    timeout 60 setpriv --reuid=65534 --regid=65534 --clear-groups "$scratch/$1-linked" | diff "$1.out" -
+    timeout 60 setpriv --reuid=65534 --regid=65534 --clear-groups "${runner[@]}" "$scratch/$1-linked" | diff "$1.out" -
   else
-    timeout 60 "$scratch/$1-linked" | diff "$1.out" -
+    timeout 60 "${runner[@]}" "$scratch/$1-linked" | diff "$1.out" -
   fi
 }
 
@@ -72,8 +83,8 @@ many_entries() {
     for number in {1..150}; do echo "entry E$number when True is begin null; end E$number;"; done
     echo "end P; begin P.E1; P.E149; P.E150; end Many;"
   } >"$scratch/many.adb"
-  (cd "$scratch" && gnatmake -q -f "--RTS=$dest" many.adb -o many -bargs -static) || return
-  POBJ_TRACE=$scratch/many.record "$scratch/many" || return
+  (cd "$scratch" && "${prefix}gnatmake" -q -f "--RTS=$dest" many.adb -o many -bargs -static) || return
+  POBJ_TRACE=$scratch/many.record "${runner[@]}" "$scratch/many" || return
   [ "$(../trace.sh "$scratch/many.record" | grep -cE ' e(1|149|150) +done')" -eq 3 ]
 }
 
@@ -81,27 +92,28 @@ many_entries() {
 # with GNAT's, and linked with GNAT's own runtime.
 says_what_is_linked() {
   linked hangs && shared hangs || return
-  (cd "$scratch" && gnatmake -q -f -gnat2022 "$OLDPWD/hangs.adb" -o hangs-own -bargs -static) || return
+  (cd "$scratch" && "${prefix}gnatmake" -q -f "$standard" "$OLDPWD/hangs.adb" -o hangs-own -bargs -static) || return
   [[ $(../linked.sh "$scratch/hangs-linked") == *"runs over pobj, which is linked into it" ]] || return
-  [[ $(LD_LIBRARY_PATH=$dest/adalib ../linked.sh "$scratch/hangs-shared") == *"runs over pobj, by the library $dest/adalib/"* ]] || return
-  [[ $(../linked.sh "$scratch/hangs-shared") == *"runs on GNAT's own runtime, by the library "* ]] || return
+  [[ $(with_shared ../linked.sh "$scratch/hangs-shared") == *"runs over pobj, by the library $dest/adalib/"* ]] || return
+  [[ $(LD_LIBRARY_PATH=$own_libraries ../linked.sh "$scratch/hangs-shared") == *"runs on GNAT's own runtime, by the library "* ]] || return
   [[ $(../linked.sh "$scratch/hangs-own") == *"runs on GNAT's own runtime, which is linked into it"* ]] || return
   ! ../linked.sh "$scratch/hangs-own" && ! ../linked.sh hangs.adb
 }
 
 # Whether a program's record survives another program that it starts, and whether a full disk is reported.
 records_alone() {
-  local said
+  local said again=("${runner[@]}" "$scratch/two_programs-linked")
   linked two_programs || return
-  said=$(POBJ_TRACE=$scratch/both "$scratch/two_programs-linked" 2>&1) || return
+  again[0]=$(command -v "${again[0]}") || return
+  said=$(POBJ_TRACE=$scratch/both "${again[@]}" "${again[@]}" 2>&1) || return
   [[ $said == *"another program writes the file"* ]] && ../trace.sh "$scratch/both" | diff two_programs.out - || return
-  said=$(POBJ_TRACE=/dev/full "$scratch/two_programs-linked" 2>&1) || return
+  said=$(POBJ_TRACE=/dev/full "${again[@]}" 2>&1) || return
   [[ $said == *"takes no more"* ]]
 }
 
 # Whether the record has every call of tasks that call at once, on objects that are told apart by their lines.
 records_all() {
-  linked many_callers -cargs -g && POBJ_TRACE=$scratch/callers "$scratch/many_callers-linked" || return
+  linked many_callers -cargs -g && POBJ_TRACE=$scratch/callers "${runner[@]}" "$scratch/many_callers-linked" || return
   ../trace.sh --all "$scratch/callers" >"$scratch/all" || return
   [ "$(grep -cE '^ +[0-9]+\.[0-9]{6}  object 1, many_callers.counter, many_callers.adb:20  callers\([1-4]\) +add +done$' "$scratch/all")" -eq 5000 ] || return
   [ "$(grep -c '  object 2, many_callers.counter, many_callers.adb:21  .* done$' "$scratch/all")" -eq 5000 ] || return
@@ -111,11 +123,11 @@ records_all() {
 # Whether the record has the last events if only these are asked for, and whether a wrong number of them is refused.
 records_last() {
   local said
-  linked many_callers && POBJ_TRACE=$scratch/callers POBJ_TRACE_LAST=100 "$scratch/many_callers-linked" || return
+  linked many_callers && POBJ_TRACE=$scratch/callers POBJ_TRACE_LAST=100 "${runner[@]}" "$scratch/many_callers-linked" || return
   [ "$(stat -c %s "$scratch/callers")" -lt 300000 ] || return
   said=$(../trace.sh --all "$scratch/callers") || return
   [ "$(wc -l <<<"$said")" -eq 129 ] && [[ $said == "9874 events before these aren't kept"*finalized ]] || return
-  said=$(POBJ_TRACE=$scratch/callers POBJ_TRACE_LAST=100x "$scratch/many_callers-linked" 2>&1) || return
+  said=$(POBJ_TRACE=$scratch/callers POBJ_TRACE_LAST=100x "${runner[@]}" "$scratch/many_callers-linked" 2>&1) || return
   [[ $said == *"has to be a number from 1 to"* ]]
 }
 
@@ -123,7 +135,7 @@ records_last() {
 records_until_full() {
   local said
   linked many_callers || return
-  said=$(trap '' XFSZ && ulimit -f 400 && POBJ_TRACE=$scratch/callers "$scratch/many_callers-linked" 2>&1) || return
+  said=$(trap '' XFSZ && ulimit -f 400 && POBJ_TRACE=$scratch/callers "${runner[@]}" "$scratch/many_callers-linked" 2>&1) || return
   [[ $said == *"takes no more"* ]] || return
   said=$(../trace.sh --all "$scratch/callers") || return
   [[ $said == "the record ends before the program did"* ]] && [ "$(wc -l <<<"$said")" -gt 1000 ]
@@ -131,15 +143,15 @@ records_until_full() {
 
 # Whether the program copes with each allocation of the library refused in turn, and says so.
 refused_memory() {
-  gcc -c refuse.c -o "$scratch/refuse.o" &&
+  "${prefix}gcc" -c refuse.c -o "$scratch/refuse.o" &&
     linked refused_memory -largs "$scratch/refuse.o" -Wl,--wrap=malloc,--wrap=realloc &&
-    timeout 120 "$scratch/refused_memory-linked" | diff refused_memory.out -
+    timeout 120 "${runner[@]}" "$scratch/refused_memory-linked" | diff refused_memory.out -
 }
 
 # Whether the record of a program that hangs and is killed shows what waits.
 record() {
   linked hangs || return
-  POBJ_TRACE=$scratch/record timeout -s KILL 3 "$scratch/hangs-linked"
+  POBJ_TRACE=$scratch/record timeout -s KILL 3 "${runner[@]}" "$scratch/hangs-linked"
   ../trace.sh "$scratch/record" | diff hangs.out - || return
   ../trace.sh --waits "$scratch/record" | sed -E 's/[0-9]+\.[0-9]{6}/TIME/g' | diff hangs.waits -
 }
@@ -156,64 +168,88 @@ trace_says() {
   [ $? -eq 4 ] && [[ $said == *"run.sh isn't a record"* ]]
 }
 
-# Whether the record has the names of an object in the specification of a package.
+# Whether the record has the names of an object in the specification of a package, and of its procedures, also if GNARL's code is
+# compiled into these.
 record_of_package() {
-  linked in_package || return
-  POBJ_TRACE=$scratch/package.record "$scratch/in_package-linked"
-  ../trace.sh "$scratch/package.record" | diff in_package.out -
+  local how
+  for how in -O0 "-O2 -gnatn"; do
+    # shellcheck disable=SC2086
+    linked in_package -cargs $how || return
+    POBJ_TRACE=$scratch/package.record "${runner[@]}" "$scratch/in_package-linked" || return
+    ../trace.sh "$scratch/package.record" | diff in_package.out - || return
+  done
 }
 
 # Whether a program under Priority_Queuing writes no record, and a line says why.
 no_record() {
   local said
   linked priority_queuing || return
-  said=$(POBJ_TRACE=$scratch/none "$scratch/priority_queuing-linked" 2>&1 >/dev/null)
+  said=$(POBJ_TRACE=$scratch/none "${runner[@]}" "$scratch/priority_queuing-linked" 2>&1 >/dev/null)
   [[ $said == *Priority_Queuing* ]] && [ ! -e "$scratch/none" ]
 }
 
 # Whether a step that the engine refuses ends the program with a message.
 ends_where_refused() {
   local said status
-  gcc -O1 -c refuses.c -o "$scratch/refuses.o" && ar rc "$scratch/librefuses.a" "$scratch/refuses.o" || return
-  ../make.sh "$scratch/refusing" "$scratch/librefuses.a" || return
-  (cd "$scratch" && gnatmake -q -f "--RTS=$scratch/refusing" "$OLDPWD/../there_and_back.adb" -o refused -bargs -static) || return
-  said=$(timeout 10 "$scratch/refused" 2>&1)
+  "${prefix}gcc" -O1 -c refuses.c -o "$scratch/refuses.o" && "${prefix}ar" rc "$scratch/librefuses.a" "$scratch/refuses.o" || return
+  ../make.sh "$scratch/refusing" "$scratch/librefuses.a" "$prefix" || return
+  (cd "$scratch" && "${prefix}gnatmake" -q -f "--RTS=$scratch/refusing" "$OLDPWD/../there_and_back.adb" -o refused -bargs -static) || return
+  said=$(timeout 10 "${runner[@]}" "$scratch/refused" 2>&1)
   status=$?
   [ $status -eq 134 ] && [[ $said == *"refused a step"* ]]
 }
 
-# Makes a GNAT of this version whose sources lack a line.
+# Makes a GNAT of this version with a change in its sources: other_gnat VERSION UNIT CHANGE, as sed makes it.
 other_gnat() {
   local sources
-  mkdir -p "$scratch/other/bin" "$scratch/other/adainclude"
-  sources=$(gnatls -v | sed -n 's,^ *\(/.*adainclude\)$,\1,p' | head -n 1)
-  cp "$sources"/s-t*.adb "$sources/g-semaph.adb" "$scratch/other/adainclude/"
-  sed -i 's/Queuing.Dequeue_Call/Queuing.Take_Off/' "$scratch/other/adainclude/s-taenca.adb"
+  rm -rf "$scratch/other"
+  mkdir -p "$scratch/other/bin"
+  sources=$("${prefix}gnatls" -v | sed -n 's,^ *\(/.*adainclude\)$,\1,p' | head -n 1)
+  cp -r "$sources" "$scratch/other/"
+  sed -i "$3" "$scratch/other/adainclude/$2"
+  ! cmp -s "$sources/$2" "$scratch/other/adainclude/$2" || return
   {
     echo '#!/bin/sh'
     echo "if [ \"\$1\" = --version ]; then echo 'GNATLS $1'; exit; fi"
-    echo "$(command -v gnatls) \"\$@\" | sed 's,$sources,$scratch/other/adainclude,'"
-  } >"$scratch/other/bin/gnatls"
-  chmod +x "$scratch/other/bin/gnatls"
+    echo "$(command -v "${prefix}gnatls") \"\$@\" | sed 's,$sources,$scratch/other/adainclude,'"
+  } >"$scratch/other/bin/${prefix}gnatls"
+  chmod +x "$scratch/other/bin/${prefix}gnatls"
 }
 
-# Whether a GNAT of this version is refused by a message with these words, and nothing is made.
+# Whether a GNAT of this version, with this change, is refused by a message with these words, and nothing is made.
 refuses_gnat() {
   local said
-  other_gnat "$1"
-  if said=$(PATH=$scratch/other/bin:$PATH ../make.sh "$scratch/never" "$library" 2>&1); then return 1; fi
+  other_gnat "$1" "$2" "$3" || return
+  if said=$(PATH=$scratch/other/bin:$PATH ../make.sh "$scratch/never" "$library" "$prefix" 2>&1); then return 1; fi
   echo "$said"
-  [[ $said == *"$2"* ]] && [ ! -e "$scratch/never" ] && ! compgen -G "$scratch/never.*" >/dev/null
+  [[ $said == *"$4"* ]] && [ ! -e "$scratch/never" ] && ! compgen -G "$scratch/never.*" >/dev/null
+}
+
+# Whether a program writes what it should over a GNAT whose locks have their parts in another order, as on riscv64. The binder
+# tolerates that units which don't look into a lock were compiled with GNAT's own order.
+other_order() {
+  local dest=$scratch/reordered
+  other_gnat "$version" s-taspri.ads '/^      RW : aliased/{h;d}; /^      WO : aliased/G' || return
+  PATH=$scratch/other/bin:$PATH ../make.sh "$dest" "$library" "$prefix" || return
+  linked expired_twice -t 2>/dev/null && timeout 10 "${runner[@]}" "$scratch/expired_twice-linked" | diff expired_twice.out -
+}
+
+# Whether a command succeeds and says nothing.
+silently() {
+  local said
+  said=$("$@" 2>&1) && [ -z "$said" ] && return
+  echo "$said"
+  return 1
 }
 
 # Whether a folder that is something else is left as it is.
 leaves_others() {
   mkdir "$scratch/mine" && touch "$scratch/mine/file"
-  ! ../make.sh "$scratch/mine" "$library" 2>/dev/null && [ -e "$scratch/mine/file" ]
+  ! ../make.sh "$scratch/mine" "$library" "$prefix" 2>/dev/null && [ -e "$scratch/mine/file" ]
 }
 
-row "the runtime folder" ../make.sh "$dest" "$library"
-row "the runtime folder, made again" ../make.sh "$dest" "$library"
+row "the runtime folder" silently ../make.sh "$dest" "$library" "$prefix"
+row "the runtime folder, made again" silently ../make.sh "$dest" "$library" "$prefix"
 row "pobj ada --check" ../check.sh "$dest"
 row "pobj ada --linked" says_what_is_linked
 for name in abort_after_refused_call refused_trigger trigger_never_called delay_of_aborted_task \
@@ -221,7 +257,7 @@ for name in abort_after_refused_call refused_trigger trigger_never_called delay_
   timed_call_to_task_after_abort \
   requeue_to_object_inside message_of_trigger requeue_by_task_to_ended_task requeue_by_task_to_finalized_object \
   acceptor_aborted acceptor_aborted_at_requeue \
-  priority_after_requeue finalized_as_time_comes ceiling_alone ceiling_above message_of_barrier \
+  priority_after_requeue finalized_as_time_comes expired_twice ceiling_alone ceiling_above message_of_barrier \
   priority_queuing queues_with_limits ended_once ended_once_by_task own_message deferred_call expired_in_finalize \
   abort_before_call abort_before_open_entry abort_before_requeue_to_task abort_before_open_accept abort_at_open_trigger \
   abort_while_trigger_is_served trigger_requeued_to_task conditional_call_to_task; do
@@ -243,8 +279,10 @@ row "POBJ_TRACE_LAST" records_last
 row "POBJ_TRACE of a file that takes no more" records_until_full
 row "pobj trace without Python, and with wrong words" trace_says
 row "a step that is refused" ends_where_refused
-row "a GNAT of another version" refuses_gnat 13.1.0 "found is GNATLS 13.1.0"
-row "a GNAT with other sources" refuses_gnat 12.2.0 "Check_Pending_Actions_For_Entry_Call"
+row "a GNAT of another version" refuses_gnat 13.1.0 s-taenca.adb '1d' "found is GNATLS 13.1.0"
+row "a GNAT with other sources" refuses_gnat "$version" s-taenca.adb 's/Queuing.Dequeue_Call/Queuing.Take_Off/' \
+  "s-taenca.adb, Check_Pending_Actions_For_Entry_Call: found 0 times"
+row "a GNAT whose locks have another order" other_order
 row "a folder that is something else" leaves_others
 echo "$passed passed, $failed failed, $skipped skipped"
 [ "$failed" -eq 0 ]

@@ -1,4 +1,5 @@
---  A program starts itself once more, and POBJ_TRACE names the same file for both. The record is the first program's.
+--  A program runs the command that its arguments are, by which it starts once more, and POBJ_TRACE names the same file for both.
+--  The record is the first program's.
 
 with Ada.Command_Line; use Ada.Command_Line;
 with GNAT.OS_Lib;      use GNAT.OS_Lib;
@@ -22,12 +23,16 @@ procedure Two_Programs is
       end Get;
    end Parent;
 
-   Again : Argument_List (1 .. 1) := [new String'("again")];
+   Words : Argument_List (2 .. Argument_Count);
 
 begin
    Parent.Put;
 
-   if Argument_Count = 0 and then Spawn (Command_Name, Again) = 0 then
+   for Number in Words'Range loop
+      Words (Number) := new String'(Argument (Number));
+   end loop;
+
+   if Argument_Count > 0 and then Spawn (Argument (1), Words) = 0 then
       Parent.Get (1);
    end if;
 end Two_Programs;

@@ -24,7 +24,7 @@ procedure Urgent_Caller_First with Priority => System.Default_Priority is
       Order (Last) := C;
    end Note;
 
-   protected P with Priority => Base + 20 is
+   protected P with Priority => System.Priority'Last is
       entry Wait;
       procedure Open;
       function Waiting return Natural;

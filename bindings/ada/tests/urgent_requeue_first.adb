@@ -25,15 +25,15 @@ procedure Urgent_Requeue_First with Priority => System.Default_Priority is
       Order (Last) := C;
    end Note;
 
-   protected Third with Priority => Base + 20 is
+   protected Third with Priority => System.Priority'Last - 1 is
       entry Pass;
    end Third;
 
-   protected Second with Priority => Base + 25 is
+   protected Second with Priority => System.Priority'Last is
       entry Pass;
    end Second;
 
-   protected First with Priority => Base + 20 is
+   protected First with Priority => System.Priority'Last - 1 is
       entry Wait;
       procedure Open;
       function Waiting return Natural;
