@@ -78,34 +78,35 @@ tool_for() {
   if [ "$1" = "$(uname -m)" ]; then echo "$2"; else echo "$1-linux-gnu-$2"; fi
 }
 
-# Puts into the folder the object of the three functions of memory over malloc, realloc and free: for x86-64 the kit's own. Fails if
-# there is no compiler for the target.
+# Whether this machine can compile the three functions of memory for the target. Those for x86-64 are the kit's.
+has_heap_for() { [ "$1" = x86_64 ] || command -v "$(tool_for "$1" gcc)" >/dev/null; }
+
+# Puts into the folder the object of the three functions of memory, over malloc, realloc and free.
 put_heap() {
-  local compiler
   if [ "$2" = x86_64 ]; then
     (cd "$1" && ar x "$(dirname "$(rt doc)")/c/liblibc_c.a")
-    return
+  elif ! (cd "$1" && cp "$top/bindings/c/heap.c" . && "$(tool_for "$2" gcc)" -std=c11 -O2 -ffunction-sections -fdata-sections -c heap.c); then
+    say "$(tool_for "$2" gcc) can't compile bindings/c/heap.c"
+    exit 5
   fi
-  compiler=$(tool_for "$2" gcc)
-  command -v "$compiler" >/dev/null || return
-  cp "$top/bindings/c/heap.c" "$1/"
-  (cd "$1" && "$compiler" -std=c11 -O2 -ffunction-sections -fdata-sections -c heap.c && rm heap.c)
+  rm -f "$1/heap.c"
 }
 
 # Puts libpobj.a for the target into the folder: what was proved, and the three functions of memory. Without a compiler for the
-# target, they are put beside it as heap.c.
+# target, these are put beside it as heap.c.
 put_archive() {
   local to=$1 target=${2-x86_64} objects
   need_library_for "$target"
-  objects=$(mktemp -d)
-  (cd "$objects" && ar x "$(proved_for "$target")")
-  if put_heap "$objects" "$target"; then
-    (cd "$objects" && "$(tool_for "$target" ar)" rcsD "$to/libpobj.a" ./*.o)
-  else
+  if ! has_heap_for "$target"; then
     cp "$(proved_for "$target")" "$to/libpobj.a"
     cp "$top/bindings/c/heap.c" "$to/"
     say "there is no $(tool_for "$target" gcc), so compile heap.c, which is beside libpobj.a, with your program"
+    return
   fi
+  objects=$(mktemp -d)
+  (cd "$objects" && ar x "$(proved_for "$target")")
+  put_heap "$objects" "$target"
+  (cd "$objects" && "$(tool_for "$target" ar)" rcsD "$to/libpobj.a" ./*.o)
   rm -rf "$objects"
 }
 

@@ -6,7 +6,7 @@
 
 say() { printf 'pobj: %s\n' "$*" >&2; }
 
-# Prints what each command takes, and after two spaces or more what it does.
+# Prints what each command takes, and after two spaces or more what it does: of all commands, and with --target.
 all_rows() {
   cat <<'ROWS'
   run [FILE]                    Carries out a script
@@ -25,14 +25,14 @@ all_rows() {
 ROWS
 }
 
-# The same, as it is if there is no choice of targets.
+# Prints the same, without --target if there is no choice.
 rows() {
-  if [ -n "$targets" ]; then all_rows; else all_rows | sed 's/ \[--target TARGET\]/                  /'; fi
+  if [ -n "$targets" ]; then all_rows; else all_rows | awk '{ sub(/ \[--target TARGET\]/, "                  "); print }'; fi
 }
 
 # Prints what --target is, if there is a choice.
 say_target() {
-  [ -z "$targets" ] || echo "  --target TARGET               The processor: $(printf '%s' "$targets" | sed 's/ / or /g'), by default ${targets%% *}"
+  [ -z "$targets" ] || echo "  --target TARGET               The processor: $(printf '%s' "$targets" | awk '{ gsub(/ /, " or "); print }'), by default ${targets%% *}"
 }
 
 # Prints the help.
@@ -53,9 +53,11 @@ Options:
   -V, --version                 Prints the version
 REST
   say_target
-  cat <<'REST'
+  ! is_command run || cat <<'REST'
 
 If no FILE is named, a script is read from standard input. 'pobj help run' has the commands of scripts.
+REST
+  cat <<'REST'
 
 The statuses:
   0  a good end

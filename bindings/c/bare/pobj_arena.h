@@ -11,14 +11,16 @@
 extern "C" {
 #endif
 
-#define POBJ_ARENA_MAX(a, b) ((size_t)(a) > (size_t)(b) ? (size_t)(a) : (size_t)(b))
-#define POBJ_ARENA_ROUNDED(bytes) (((size_t)(bytes) + 15) / 16 * 16)
+/* How many bytes of the arena pobj_make_fixed takes, for this many entries and calls: exactly, on each target, as
+   bindings/c/tests/arena.c compares with what the arena counts. */
+#define POBJ_ARENA_BYTES(entries, calls) (528 + POBJ_ARENA_OF_ENTRIES((size_t)(entries)) + POBJ_ARENA_OF_CALLS((size_t)(calls)))
 
-/* How many bytes of the arena pobj_make_fixed takes, for this many entries and calls: exactly, on each target. bindings/c/tests
-   compares it with what the arena counts. */
-#define POBJ_ARENA_BYTES(entries, calls) \
-    (560 + 32 * (size_t)(entries) + 2 * POBJ_ARENA_ROUNDED(8 * (size_t)(entries)) + \
-        ((calls) == 0 ? 0 : 112 * (size_t)(calls) + 160 * POBJ_ARENA_MAX(calls, 4) + 64 * POBJ_ARENA_MAX(2 * (size_t)(calls) - 1, 4)))
+/* The parts of it: arrays by entry, two sets of bits, and arrays by call, of four elements or more. */
+#define POBJ_ARENA_OF_ENTRIES(n) \
+    (32 * (n) + 2 * POBJ_ARENA_ROUNDED(8 * (n)) + POBJ_ARENA_ROUNDED((n) / 64 * 8 + 8) + POBJ_ARENA_ROUNDED((n) / 4096 * 8 + 8))
+#define POBJ_ARENA_OF_CALLS(n) ((n) == 0 ? 0 : 112 * (n) + 160 * POBJ_ARENA_MOST(n, 4) + 64 * POBJ_ARENA_MOST(2 * (n) - 1, 4))
+#define POBJ_ARENA_MOST(a, b) ((a) > (b) ? (a) : (b))
+#define POBJ_ARENA_ROUNDED(bytes) (((bytes) + 15) / 16 * 16)
 
 /* The array, which the program defines: static storage, and its size in bytes. */
 extern unsigned char pobj_arena[];
