@@ -23,6 +23,10 @@ refusing=-Wl,--wrap=malloc,--wrap=realloc,--wrap=pthread_mutex_init,--wrap=pthre
 addresses=(-O1 -g "-fsanitize=address,undefined" -fno-sanitize-recover=all)
 races=(-O1 -g -fsanitize=thread)
 seconds=1
+# Changes that make a step of pobj_threads.h weaker: those that the thread sanitizer reports, and the one that two processors show.
+weaker_races='/exchange_n\(&call->in_use/s/ACQUIRE/RELAXED/ /store_n\(&call->object,.*RELEASE/s/RELEASE/RELAXED/
+  /load_n\(&call->object/s/SEQ_CST/RELAXED/ /store_n\(&call->woken/s/__atomic_store_n\(.*$/call->woken=true;/'
+weaker_order='/store_n\(&call->object,.*SEQ_CST/s/SEQ_CST/RELEASE/'
 
 # row NAME COMMAND..: writes whether the command succeeds, and what it said if it fails.
 row() {
@@ -83,6 +87,23 @@ reports_orders() {
   grep -q lock-order-inversion "$program.out"
 }
 
+# reports_weaker CHANGES PROGRAM COMPILER FLAGS..: whether tests/litmus.c finds each of these changes of pobj_threads.h, which make a step
+# weaker than the test's comment says, in at most five runs.
+reports_weaker() {
+  local changes=$1 program=$2 change try
+  mkdir "$program.weaker"
+  cp tests/litmus.c tests/check.h "$program.weaker"
+  for change in $changes; do
+    sed -E "$change" pobj_threads.h > "$program.weaker/pobj_threads.h"
+    ! cmp -s pobj_threads.h "$program.weaker/pobj_threads.h" || { echo "no such step: $change"; return 1; }
+    "${@:3}" "$program.weaker/litmus.c" -o "$program" "${link[@]}" || return
+    for try in 1 2 3 4 5; do
+      timeout 60 "$program" > "$program.out" 2>&1 || break
+      [ "$try" -lt 5 ] || { echo "not found: $change"; return 1; }
+    done
+  done
+}
+
 # runs_with PROGRAM COMPILER FLAGS..: whether a program compiled with these flags runs.
 runs_with() {
   echo 'int main(void) { return 0; }' > "$1.c"
@@ -123,9 +144,11 @@ all_of() {
   for name in buffer readers_writers; do
     row "$compiler, $word: examples/$name.c" example_of "$name" "$at-$name" "$compiler" "${flags[@]}"
   done
+  row "$compiler, $word: tests/litmus.c" test_of litmus "$at-litmus" "$compiler" "${flags[@]}"
   row "$compiler, $word: tests/threads" test_of threads "$at-threads" "$compiler" "${flags[@]}"
   if [ "$word" = races ]; then
     row "$compiler, $word: tests/opposite.c is reported" reports_orders "$at-opposite" "$compiler" "${flags[@]}"
+    row "$compiler, $word: weaker steps are reported" reports_weaker "$weaker_races" "$at-weaker" "$compiler" "${flags[@]}"
     return
   fi
   row "$compiler, $word: tests/engine.c" test_of engine "$at-engine" "$compiler" "${flags[@]}"
@@ -150,6 +173,8 @@ c_of() {
   row "$1: the version of pobj.h" version_of "$1"
   row "$1: speed.c" "$1" -std=c11 "${strict[@]}" -O2 speed.c -o "$scratch/$1-speed" "${link[@]}"
   all_of "$1" plain -O2
+  [ "$(nproc)" -eq 1 ] \
+    || row "$1, plain: a weaker order is seen" reports_weaker "$weaker_order" "$scratch/$1-order" "$1" -std=c11 "${strict[@]}" -O2
   row "$1, plain: tests/arena.c" arena_of "$scratch/$1-arena" "$1" -std=c11 "${strict[@]}" -O2
   sanitized_of "$1" addresses "${addresses[@]}"
   sanitized_of "$1" races "${races[@]}"
