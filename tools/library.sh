@@ -210,7 +210,7 @@ put_pages() {
   cp -r "$top/examples" "$1/examples"
 }
 
-# Puts into the folder what users without the toolchain need: for x86-64, where the programs run, all.
+# Puts into the folder what users without the toolchain need. Only for x86-64 are there programs.
 put_all() {
   local to=$1 target=${2-x86_64}
   [ "$target" != x86_64 ] || put_programs "$to"

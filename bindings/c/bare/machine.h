@@ -15,7 +15,7 @@ void begin_periods(void);
 /* Waits until the next period begins. */
 void wait_for_period(void);
 
-/* Writes the text where the machine's user reads it. */
+/* Shows the text to the machine's user. */
 void say(const char *text);
 
 /* Ends the program with this status. */
