@@ -20,6 +20,10 @@ case $(od -An -tu2 -j18 -N2 $root/lib/pobj.o | tr -d ' ') in
     run=$PWD/control
     ;;
 esac
+if ! command -v "$compiler" >/dev/null; then
+  echo "build.sh: there is no compiler $compiler" >&2
+  exit 1
+fi
 # shellcheck disable=SC2086
 "$compiler" $words "-I$root/include" control.c arena.c $machine $root/lib/pobj.o -o control
 echo "to run it: $run"

@@ -3,6 +3,7 @@
 #include "machine.h"
 
 unsigned char stack[STACK_BYTES] __attribute__((aligned(16)));
+_Static_assert(STACK_BYTES == 16384, "the start code has this number");
 
 __asm__(".globl _start\n"
         "_start:\n"

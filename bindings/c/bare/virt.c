@@ -7,6 +7,7 @@
 #include <stdint.h>
 
 unsigned char stack[STACK_BYTES] __attribute__((aligned(16)));
+_Static_assert(STACK_BYTES == 16384, "the start code has this number");
 static unsigned char interrupt_stack[1024] __attribute__((aligned(16), used));
 
 /* At reset the vector registers are off. The program runs on the stack pointer SP_EL0, interrupts on SP_EL1. */
@@ -113,8 +114,10 @@ void begin_periods(void) {
 
 void wait_for_period(void) {
     static uint32_t seen;
-    for (uint32_t now = seen; now == seen; now = periods) /* an interrupt ends wfi also while it is kept off */
-        __asm__ volatile("msr daifset, #2\n cbnz %w0, 1f\n wfi\n1: msr daifclr, #2\n isb" ::"r"(periods - seen) : "memory");
+    __asm__ volatile("msr daifset, #2" ::: "memory");
+    while (periods == seen) /* an interrupt ends wfi even while it is kept off, and is taken afterwards */
+        __asm__ volatile("wfi\n msr daifclr, #2\n isb\n msr daifset, #2" ::: "memory");
+    __asm__ volatile("msr daifclr, #2" ::: "memory");
     seen++;
 }
 
