@@ -86,7 +86,7 @@ put_heap() {
   if [ "$2" = x86_64 ]; then
     (cd "$1" && ar x "$(dirname "$(rt doc)")/c/liblibc_c.a")
   elif ! (cd "$1" && cp "$top/bindings/c/heap.c" . && "$(tool_for "$2" gcc)" -std=c11 -O2 -ffunction-sections -fdata-sections -c heap.c); then
-    say "$(tool_for "$2" gcc) can't compile bindings/c/heap.c"
+    say "$(tool_for "$2" gcc) can't compile bindings/c/heap.c; if its C library is missing, that is Debian's package libc6-dev-arm64-cross"
     exit 5
   fi
   rm -f "$1/heap.c"
@@ -100,7 +100,7 @@ put_archive() {
   if ! has_heap_for "$target"; then
     cp "$(proved_for "$target")" "$to/libpobj.a"
     cp "$top/bindings/c/heap.c" "$to/"
-    say "there is no $(tool_for "$target" gcc), so compile heap.c, which is beside libpobj.a, with your program"
+    say "there is no $(tool_for "$target" gcc) (Debian's package gcc-$target-linux-gnu): compile heap.c, beside libpobj.a, with your program"
     return
   fi
   objects=$(mktemp -d)

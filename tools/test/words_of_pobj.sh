@@ -220,7 +220,7 @@ without_compiler() {
   local tool to=$scratch/no-compiler
   rm "$scratch"/build/bin/aarch64-linux-gnu-*
   for tool in ar sed ls uname; do ln -s "$(command -v "$tool")" "$scratch/build/bin/$tool"; done
-  answers_there 0 err "there is no aarch64-linux-gnu-gcc, so compile heap.c, which is beside libpobj.a" c "$to" --target aarch64
+  answers_there 0 err "there is no aarch64-linux-gnu-gcc (Debian's package gcc-aarch64-linux-gnu): compile heap.c, beside" c "$to" --target aarch64
   same "$(ar t "$to/lib/libpobj.a")" po_c.o "the archive without the functions of memory"
   if cmp -s "$to/lib/heap.c" bindings/c/heap.c; then pass; else fail "heap.c isn't beside the archive"; fi
 }
