@@ -215,9 +215,12 @@ targets_there() {
   same "$(ar p "$to/own/lib/libpobj.a" po_c.o)" lib "what is proved for x86-64"
 }
 
-# Without the cross compiler the three functions of memory come as heap.c, which is said.
+# Without the cross compiler the three functions of memory come as heap.c, which is said; and so is a compiler that can't compile it.
 without_compiler() {
   local tool to=$scratch/no-compiler
+  printf '#!/bin/sh\nexit 1\n' >"$scratch/build/bin/aarch64-linux-gnu-gcc"
+  call_with_tools 5 c "$to" --target aarch64
+  wrote_there err "aarch64-linux-gnu-gcc can't compile bindings/c/heap.c"
   rm "$scratch"/build/bin/aarch64-linux-gnu-*
   for tool in ar sed ls uname; do ln -s "$(command -v "$tool")" "$scratch/build/bin/$tool"; done
   answers_there 0 err "there is no aarch64-linux-gnu-gcc (Debian's package gcc-aarch64-linux-gnu): compile heap.c, beside" c "$to" --target aarch64
