@@ -55,17 +55,38 @@ size_of() { size "$1" | awk 'END { print $1 }'; }
 # A number in what the example wrote: number_after TEXT FILE.
 number_after() { sed -n "s/^$1: //p" "$2"; }
 
-# Builds the example without an operating system, runs it, compares what it writes, and says how much it takes: bare TARGET RUNNER..
+# Prints a row of the table in docs/C.md: the target and these numbers.
+row_of() {
+  local cell row="| $1 |"
+  for cell in "${@:2}"; do
+    row+=" $(sed -E ':again; s/([0-9])([0-9]{3})(,|$)/\1,\2\3/; t again' <<<"$cell") |"
+  done
+  echo "$row"
+}
+
+# Says how much the example takes that was built in this folder and wrote this file, and compares it with docs/C.md. Code and stack of
+# the example depend on the compiler: they are compared if it is the one that the page names.
+compare_sizes() {
+  local target=$1 to=$2 said=$3 numbers
+  numbers=("$(size_of "$to/lib/pobj.o")" "$(size_of "$to/share/pobj/bare/control")" "$(number_after 'arena bytes' "$said")"
+    "$(number_after 'stack bytes, to make the objects' "$said")" "$(number_after 'stack bytes, in the loop' "$said")")
+  report "$target, without an operating system: ${numbers[0]} bytes in pobj.o, ${numbers[1]} of the example's code, ${numbers[2]} of its arena;" \
+    "of its stack ${numbers[3]} to make its objects, ${numbers[4]} in its loop"
+  [[ $("$(tool_for "$target" gcc)" -dumpfullversion) == 12.2.* ]] || numbers=("${numbers[0]}")
+  if grep -qF "$(row_of "$target" "${numbers[@]}")" docs/C.md; then pass; else fail "docs/C.md has other numbers than: $(row_of "$target" "${numbers[@]}")"; fi
+}
+
+# Builds the example without an operating system, runs it, and compares what it writes and takes: bare TARGET RUNNER..
 bare() {
-  local target=$1 to="$scratch/bare-$1" said="$scratch/bare-$1.said" object
-  shift
+  local target=$1 to="$scratch/bare-$1" said="$scratch/bare-$1.said"
   put_bare "$to" "$target"
-  if "$to/share/pobj/bare/build.sh" >"$said" 2>&1 && timeout 60 "$@" "$to/share/pobj/bare/control" >"$said" 2>&1 \
-    && grep -v '^stack bytes' "$said" | cmp -s - bindings/c/tests/control.out; then pass; else fail "the example without an operating system, for $target: $(cat "$said")"; fi
-  object=$(size_of "$to/lib/pobj.o")
-  report "$target, without an operating system: $object bytes of code in pobj.o, $(size_of "$to/share/pobj/bare/control") in the example;" \
-    "arena $(number_after 'arena bytes' "$said"); stack $(number_after 'stack bytes, to make the objects' "$said") to make its objects, $(number_after 'stack bytes, in the loop' "$said") in its loop"
-  if grep -q "^| $target | $(sed -E ':a; s/([0-9])([0-9]{3})($|,)/\1,\2\3/; ta' <<<"$object") " docs/C.md; then pass; else fail "docs/C.md has another size of pobj.o for $target"; fi
+  if "$to/share/pobj/bare/build.sh" >"$said" 2>&1 && timeout 60 "${@:2}" "$to/share/pobj/bare/control" >"$said" 2>&1 \
+    && grep -v '^stack bytes' "$said" | cmp -s - bindings/c/tests/control.out; then
+    pass
+    compare_sizes "$target" "$to" "$said"
+  else
+    fail "the example without an operating system, for $target: $(cat "$said")"
+  fi
 }
 
 # Tries what `pobj dist --target aarch64` packs: its sums, and its example by the emulator.
