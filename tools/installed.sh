@@ -1,10 +1,17 @@
 #!/bin/sh
 # SPDX-License-Identifier: MIT
-# Carries out the words by the programs of the archive, from its folder bin.
+# Carries out the words by the programs of the archive, from its folder bin. An archive for another target than x86-64 has no
+# programs, and a file TARGET.
 set -eu
 here=$(cd "$(dirname "$(readlink -f "$0")")" && pwd)
 parts=$here/../share/pobj
 commands="run check picture stress ada trace"
+targets=""
+of_target=""
+if [ -f "$parts/TARGET" ]; then
+  commands="ada trace"
+  of_target="--target $(cat "$parts/TARGET")"
+fi
 
 version() { head -n 1 "$here/../VERSION"; }
 
@@ -19,7 +26,8 @@ esac
 case $1 in
   ada)
     shift
-    exec "$parts/ada/ada.sh" "$here/../lib/libpobj.a" "${@:-}"
+    # shellcheck disable=SC2086
+    exec "$parts/ada/ada.sh" "$here/../lib/libpobj.a" $of_target "${@:-}"
     ;;
   trace)
     shift

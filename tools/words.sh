@@ -1,27 +1,38 @@
 # SPDX-License-Identifier: MIT
 # shellcheck shell=sh
 # The command line of `pobj`: its help, and its answers to wrong words and to files that can't be read. Read by `pobj` and by the
-# archive's bin/pobj. Both set `commands`, the commands that they have, and `parts`, the folder of nearest.awk, and define
-# `version`.
+# archive's bin/pobj. Both set `commands`, the commands that they have, `targets`, those that --target takes, if there is a choice,
+# and `parts`, the folder of nearest.awk, and define `version`.
 
 say() { printf 'pobj: %s\n' "$*" >&2; }
 
-# Prints what each command takes, and after two spaces or more what it does.
-rows() {
+# Prints what each command takes, and after two spaces or more what it does: of all commands, and with --target.
+all_rows() {
   cat <<'ROWS'
   run [FILE]                    Carries out a script
   check [FILE]                  Explains each fault of a script, and carries out nothing
   picture [FILE] [-o PICTURE]   Draws what a script does as a time line, in SVG
   stress --unit NAME ..         Has threads share an object, and compares each answer with its history
-  ada DEST                      Makes a runtime folder for Ada programs of GNAT 12.2
+  ada DEST [--target TARGET]    Makes a runtime folder for Ada programs of GNAT
   ada --check [DEST]            Compiles and runs a program on such a folder, or on a new one
   ada --linked PROGRAM          Says whether a linked Ada program runs over pobj or on GNAT's own runtime
   ada --sources DIR             Puts the units of GNAT's that pobj changes into DIR, to be read
-  c DEST                        Makes a folder with the library for C, its headers and examples
+  c DEST [--target TARGET]      Makes a folder with the library for C, its headers and examples
+  c DEST --bare [--target ..]   Makes one for programs without an operating system, with an example
   trace [--all|--waits] FILE    Shows what the objects of an Ada program did, or only what waits
   build [run|check|stress|all]  Proves and builds programs; until then a trial answers, in a minute
-  dist                          Makes an archive of everything, for machines without the toolchain
+  dist [--target TARGET]        Makes an archive of everything, for machines without the toolchain
 ROWS
+}
+
+# Prints the same, without --target if there is no choice.
+rows() {
+  if [ -n "$targets" ]; then all_rows; else all_rows | awk '{ sub(/ \[--target TARGET\]/, "                  "); print }'; fi
+}
+
+# Prints what --target is, if there is a choice.
+say_target() {
+  [ -z "$targets" ] || echo "  --target TARGET               The processor: $(printf '%s' "$targets" | awk '{ gsub(/ /, " or "); print }'), by default ${targets%% *}"
 }
 
 # Prints the help.
@@ -40,8 +51,13 @@ HEAD
 Options:
   -h, --help                    Prints this help
   -V, --version                 Prints the version
+REST
+  say_target
+  ! is_command run || cat <<'REST'
 
 If no FILE is named, a script is read from standard input. 'pobj help run' has the commands of scripts.
+REST
+  cat <<'REST'
 
 The statuses:
   0  a good end
@@ -62,6 +78,9 @@ say_help_of() {
     { split($2, word, " ") }
     word[1] == command { print (shown++ ? "       pobj " : "Usage: pobj ") $2; does = does "\n" $3 }
     END { print does }'
+  case $1 in
+    ada | c | dist) say_target ;;
+  esac
 }
 
 # Copies at most 80 bytes of its input, with a ? for each that isn't a printable character of ASCII.

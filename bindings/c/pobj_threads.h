@@ -593,7 +593,7 @@ static inline pobj_outcome pobj_threads_make(
 
 /* Takes the record for a call. Returns false if it is in use. Afterwards either an abort finds the call, or the call sees the
    abort: the caller writes where the call is and then reads whether it is aborted, the aborting thread writes that it is
-   aborted and then reads where it is, and these accesses are sequentially consistent. */
+   aborted and then reads where it is, and these accesses are sequentially consistent. tests/litmus.c lists all shared steps. */
 static inline bool pobj_threads_claim(pobj_call *call, pobj_protected *object) {
     if (__atomic_exchange_n(&call->in_use, true, __ATOMIC_ACQUIRE))
         return false;

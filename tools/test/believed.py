@@ -25,6 +25,7 @@ GLUE = (
     ),
     ("C: include/pobj.h, which declares the library to C", ("include/pobj.h",), "//"),
     ("C: pobj_threads.h, protected objects for threads over it (bindings/c)", ("bindings/c/pobj_threads.h",), "//"),
+    ("C: heap.c, the functions of memory on aarch64 (bindings/c)", ("bindings/c/heap.c",), "//"),
 )
 # The calls of an object whose answers are of its one history.
 ANSWERS = (

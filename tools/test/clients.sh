@@ -76,6 +76,7 @@ ada_clients() {
   count_rows '  same +same$' ada "$scratch/ada"
   count_rows '^\| `[a-z]+` .* [0-9]+ \|$' ada instructions "$scratch/ada"
   export -n POBJ
+  ada_rows_for_gnat_11 "$scratch/lib"
 }
 
 # Runs, if a C compiler is there, all of bindings/c/tests over the library that the proofs built, and then what else uses it.

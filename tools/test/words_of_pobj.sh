@@ -36,6 +36,7 @@ helps_there() {
   answers_there 2 err "Usage: pobj COMMAND"
   answers_there 0 out "Usage: pobj ada DEST" help ada
   answers_there 0 out "Usage: pobj dist" dist --help
+  answers_there 0 out "  --target TARGET               The processor: x86_64 or aarch64, by default x86_64" c --help
   answers_there 0 out "pobj $(cat VERSION)" --version
 }
 
@@ -49,6 +50,11 @@ mistyped_there() {
   answers_there 2 err "run takes one FILE" run one two
   answers_there 2 err "check takes one FILE" check --what
   answers_there 2 err "dist takes no words" dist now
+  answers_there 2 err "c takes a folder" c --bare
+  answers_there 2 err "c takes a folder" c --target aarch64
+  answers_there 2 err "pobj: no target 'arm64'; there are x86_64, aarch64" c here --target arm64
+  answers_there 2 err "pobj: no target ''; there are x86_64, aarch64" ada here --target
+  answers_there 2 err "pobj: no target 'x86_64 aarch64'; there are " dist "--target=x86_64 aarch64"
 }
 
 # Files that can't be read, with no toolchain.
@@ -150,7 +156,7 @@ esac
 mkdir -p out/rlib
 echo >out/rlib/stamp
 name=\${PWD##*/}
-cp "$scratch/doc/c/liblibc_c.a" "out/lib\$name.a"
+(cd out && echo "\$*" >po_c.o && ar rcD "lib\$name.a" po_c.o && rm po_c.o)
 printf '#!/bin/sh\necho "%s \$*"; cat\n' "\$name" >"out/\$name"
 chmod +x "out/\$name"
 RT
@@ -183,6 +189,81 @@ packs_there() {
   same "$("$to/bin/pobj" tarce 2>&1)" "pobj: no command 'tarce'; did you mean 'trace'?" "the packed answer to a mistyped word"
   same "$("$to/bin/pobj" run "$to/VERSION")" "pobj_run run"$'\n'"$(cat VERSION)" "the packed program's input"
   same "$("$to/bin/pobj" run "$to/none" 2>&1)" "pobj: $to/none can't be opened: No such file or directory" "a file that isn't there"
+  if git check-ignore -q "$name.tar.gz"; then pass; else fail "git doesn't ignore $name.tar.gz"; fi
+}
+
+# Makes mocks of the cross compiler's tools there: what is compiled is the words.
+make_cross_compiler() {
+  printf '#!/bin/sh\necho "$*" >heap.o\n' >"$scratch/build/bin/aarch64-linux-gnu-gcc"
+  printf '#!/bin/sh\nexec ar "$@"\n' >"$scratch/build/bin/aarch64-linux-gnu-ar"
+  chmod +x "$scratch"/build/bin/aarch64-linux-gnu-*
+}
+
+# The library for another target is built beside that for x86-64, which stays as it is. Of --bare there is the object alone.
+targets_there() {
+  local to=$scratch/targets proved=$scratch/build/crates/po_c/out
+  make_cross_compiler
+  call_with_tools 0 c "$to/cross" --target aarch64
+  same "$(ar t "$to/cross/lib/libpobj.a" | tr '\n' ' ')" "heap.o po_c.o " "the objects for aarch64"
+  same "$(ar p "$to/cross/lib/libpobj.a" po_c.o)" "lib --target aarch64-unknown-linux-gnu" "the target of what is proved"
+  same "$(ar p "$proved/libpo_c.a" po_c.o)" lib "the archive for x86-64, after one for aarch64"
+  call_with_tools 0 c --target aarch64 --bare "$to/bare"
+  same "$(cat "$to/bare/lib/pobj.o")" "lib --target aarch64-unknown-linux-gnu" "the object for aarch64"
+  same "$(ls "$to/bare/include" "$to/bare/lib" | tr '\n' ' ')" "$to/bare/include: pobj.h pobj_arena.h  $to/bare/lib: pobj.o " "what --bare puts"
+  if [ -x "$to/bare/share/pobj/bare/build.sh" ]; then pass; else fail "--bare puts no example"; fi
+  call_with_tools 0 c "$to/own" --target x86_64
+  same "$(ar p "$to/own/lib/libpobj.a" po_c.o)" lib "what is proved for x86-64"
+}
+
+# Without the cross compiler the three functions of memory come as heap.c, which is said; and so is a compiler that can't compile it.
+without_compiler() {
+  local tool to=$scratch/no-compiler
+  printf '#!/bin/sh\nexit 1\n' >"$scratch/build/bin/aarch64-linux-gnu-gcc"
+  call_with_tools 5 c "$to" --target aarch64
+  wrote_there err "aarch64-linux-gnu-gcc can't compile bindings/c/heap.c"
+  rm "$scratch"/build/bin/aarch64-linux-gnu-*
+  for tool in ar sed ls uname; do ln -s "$(command -v "$tool")" "$scratch/build/bin/$tool"; done
+  answers_there 0 err "there is no aarch64-linux-gnu-gcc (Debian's package gcc-aarch64-linux-gnu): compile heap.c, beside" c "$to" --target aarch64
+  same "$(ar t "$to/lib/libpobj.a")" po_c.o "the archive without the functions of memory"
+  if cmp -s "$to/lib/heap.c" bindings/c/heap.c; then pass; else fail "heap.c isn't beside the archive"; fi
+}
+
+# A build for another target that fails, or is told to stop, leaves the archive for x86-64 as it is.
+broken_off_there() {
+  local proved=$scratch/build/crates/po_c/out rt=$scratch/build/bin/rt pid look
+  cp "$rt" "$scratch/rt"
+  printf '#!/bin/sh\n[ "$1" != version ] || exit\necho >out/libpo_c.a\nexit 1\n' >"$rt"
+  rm -r "$proved/aarch64"
+  call_with_tools 5 c "$scratch/broken" --target aarch64
+  printf '#!/bin/sh\n[ "$1" != version ] || exit\necho >out/libpo_c.a\necho $$ >%s\nexec sleep 60\n' "$scratch/child" >"$rt"
+  PATH=$scratch/build/bin:$PATH "$scratch/build/pobj" c "$scratch/broken" --target aarch64 </dev/null >/dev/null 2>&1 &
+  pid=$!
+  for look in $(seq 100); do
+    [ ! -s "$scratch/child" ] || break
+    sleep 0.1
+  done
+  kill -TERM "$pid"
+  wait "$pid"
+  ended_there
+  same "$(ar p "$proved/libpo_c.a" po_c.o)" lib "the archive for x86-64, after builds for aarch64 that were broken off"
+  same "$(ls "$proved")" $'libpo_c.a\npo_c\nrlib' "what broken builds leave"
+  mv "$scratch/rt" "$rt"
+}
+
+# What the archive for aarch64 has: no programs, and of its `pobj` what is for Ada.
+packs_for_aarch64() {
+  local name path to
+  name=pobj-$(cat VERSION)-aarch64_linux
+  call_with_tools 0 dist --target aarch64
+  tar -C "$scratch" -xzf "$scratch/build/$name.tar.gz" || fail "there is no archive $name.tar.gz"
+  to=$scratch/$name
+  for path in LICENSE VERSION KIT share/pobj/ada/hangs.adb $(grep -oE '\b(bin|docs|examples|include|lib|share)/[A-Za-z0-9_./-]*[A-Za-z0-9]' "$to/README.md"); do
+    if [ -e "$to/$path" ]; then pass; else fail "the archive for aarch64 has no $path"; fi
+  done
+  same "$(ls "$to/bin")" pobj "the programs for aarch64"
+  same "$("$to/bin/pobj" --help | awk '/^Commands/ { on = 1 } /^Options/ { on = 0 } on && NF > 1 { print $1 }' | uniq | tr '\n' ' ')" \
+    "ada trace help " "the packed commands for aarch64"
+  if (cd "$to" && sha256sum --quiet -c SHA256SUMS); then pass; else fail "the sums of the archive for aarch64 differ"; fi
   if git check-ignore -q "$name.tar.gz"; then pass; else fail "git doesn't ignore $name.tar.gz"; fi
 }
 
@@ -227,6 +308,10 @@ words_of_pobj() {
   packs_there
   folders_there
   beside_a_build
+  targets_there
+  packs_for_aarch64
+  broken_off_there
+  without_compiler
 }
 
 # VERSION, the programs and the C header name one version.

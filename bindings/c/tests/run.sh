@@ -1,14 +1,18 @@
 #!/usr/bin/env bash
 # SPDX-License-Identifier: MIT
 # Compiles and runs the tests and examples of bindings/c against LIB_DIR/libpobj.a: by gcc and by clang, plainly and with
-# sanitizers. Writes a line for each test: passed, failed, or skipped because a program it needs isn't there. The last line is
+# sanitizers. With a COMPILER for another processor, and an EMULATOR for it: by that compiler alone, without sanitizers, linked
+# statically. Writes a line for each test: passed, failed, or skipped because a program it needs isn't there. The last line is
 # 'N passed, M failed, K skipped'. The exit status is 0 if none failed.
 set -u
-if [ $# -ne 1 ] || [ ! -f "$1/libpobj.a" ]; then
-  echo "usage: bindings/c/tests/run.sh LIB_DIR    (a folder that has libpobj.a)" >&2
+if { [ $# -ne 1 ] && [ $# -ne 3 ]; } || [ ! -f "$1/libpobj.a" ]; then
+  echo "usage: bindings/c/tests/run.sh LIB_DIR [COMPILER EMULATOR]    (a folder that has libpobj.a)" >&2
   exit 2
 fi
 library=$(cd "$1" && pwd)
+cross=${2-}
+runner=(timeout 60)
+[ $# -eq 1 ] || runner=(timeout 300 "$3")
 cd "$(dirname "$0")/.." || exit 2
 include=$(cd ../../include && pwd)
 scratch=$(mktemp -d) || exit 2
@@ -19,6 +23,10 @@ refusing=-Wl,--wrap=malloc,--wrap=realloc,--wrap=pthread_mutex_init,--wrap=pthre
 addresses=(-O1 -g "-fsanitize=address,undefined" -fno-sanitize-recover=all)
 races=(-O1 -g -fsanitize=thread)
 seconds=1
+# Changes that make a step of pobj_threads.h weaker: those that the thread sanitizer reports, and the one that two processors show.
+weaker_races='/exchange_n\(&call->in_use/s/ACQUIRE/RELAXED/ /store_n\(&call->object,.*RELEASE/s/RELEASE/RELAXED/
+  /load_n\(&call->object/s/SEQ_CST/RELAXED/ /store_n\(&call->woken/s/__atomic_store_n\(.*$/call->woken=true;/'
+weaker_order='/store_n\(&call->object,.*SEQ_CST/s/SEQ_CST/RELEASE/'
 
 # row NAME COMMAND..: writes whether the command succeeds, and what it said if it fails.
 row() {
@@ -46,10 +54,19 @@ test_of() {
   local name=$1 program=$2 words=("${@:3}") sources=("tests/$1.c")
   [ -d "tests/$name" ] && sources=("tests/$name"/*.c)
   "${words[@]}" "${sources[@]}" -o "$program" "${link[@]}" || return
-  timeout 60 "$program" "$seconds" > "$program.out" 2>&1
+  "${runner[@]}" "$program" "$seconds" > "$program.out" 2>&1
   local status=$?
   cat "$program.out"
   [ $status -eq 0 ] && [ "$(tail -n 1 "$program.out")" = "$name: passed" ]
+}
+
+# arena_of PROGRAM COMPILER FLAGS..: the same of tests/arena.c, over the arena of bare/. That has functions of the C library's own, so
+# it is compiled as it is without one.
+arena_of() {
+  local program=$1 plain=(-ffreestanding -fno-builtin)
+  "$2" --version | grep -q clang || plain+=(-fno-tree-loop-distribute-patterns)
+  "${@:2}" "${plain[@]}" -Ibare -c bare/arena.c -o "$program.o" || return
+  test_of arena "$program" "${@:2}" -Ibare "$program.o"
 }
 
 # example_of NAME PROGRAM COMPILER FLAGS..: compiles examples/NAME.c to this program, and runs it: it has to print
@@ -57,7 +74,7 @@ test_of() {
 example_of() {
   local name=$1 program=$2 words=("${@:3}")
   "${words[@]}" "examples/$name.c" -o "$program" "${link[@]}" || return
-  timeout 60 "$program" > "$program.out" && diff "examples/$name.out" "$program.out"
+  "${runner[@]}" "$program" > "$program.out" && diff "examples/$name.out" "$program.out"
 }
 
 # reports_orders PROGRAM COMPILER FLAGS..: whether the thread sanitizer reports two threads that lock two objects in opposite
@@ -68,6 +85,23 @@ reports_orders() {
   timeout 60 "$program" > "$program.out" 2>&1
   cat "$program.out"
   grep -q lock-order-inversion "$program.out"
+}
+
+# reports_weaker CHANGES PROGRAM COMPILER FLAGS..: whether tests/litmus.c finds each of these changes of pobj_threads.h, which make a step
+# weaker than the test's comment says, in at most five runs.
+reports_weaker() {
+  local changes=$1 program=$2 change try
+  mkdir "$program.weaker"
+  cp tests/litmus.c tests/check.h "$program.weaker"
+  for change in $changes; do
+    sed -E "$change" pobj_threads.h > "$program.weaker/pobj_threads.h"
+    ! cmp -s pobj_threads.h "$program.weaker/pobj_threads.h" || { echo "no such step: $change"; return 1; }
+    "${@:3}" "$program.weaker/litmus.c" -o "$program" "${link[@]}" || return
+    for try in 1 2 3 4 5; do
+      timeout 60 "$program" > "$program.out" 2>&1 || break
+      [ "$try" -lt 5 ] || { echo "not found: $change"; return 1; }
+    done
+  done
 }
 
 # runs_with PROGRAM COMPILER FLAGS..: whether a program compiled with these flags runs.
@@ -97,10 +131,10 @@ diagnoses() {
   [ "$last" -gt 0 ] && [ $missed -eq 0 ]
 }
 
-# version_of COMPILER: whether pobj.h names the version of the file VERSION twice: by its text, and by its three numbers.
+# version_of COMPILER FLAGS..: whether pobj.h names the version of the file VERSION twice: by its text, and by its three numbers.
 version_of() {
-  "$1" -std=c11 "${strict[@]}" tests/version.c -o "$scratch/$1-version" || return
-  "$scratch/$1-version" | diff <(cat ../../VERSION ../../VERSION) -
+  "$@" -std=c11 "${strict[@]}" tests/version.c -o "$scratch/$1-version" || return
+  "${runner[@]}" "$scratch/$1-version" | diff <(cat ../../VERSION ../../VERSION) -
 }
 
 # all_of COMPILER WORD FLAGS..: runs all tests and examples by this compiler with these flags.
@@ -110,9 +144,11 @@ all_of() {
   for name in buffer readers_writers; do
     row "$compiler, $word: examples/$name.c" example_of "$name" "$at-$name" "$compiler" "${flags[@]}"
   done
+  row "$compiler, $word: tests/litmus.c" test_of litmus "$at-litmus" "$compiler" "${flags[@]}"
   row "$compiler, $word: tests/threads" test_of threads "$at-threads" "$compiler" "${flags[@]}"
   if [ "$word" = races ]; then
     row "$compiler, $word: tests/opposite.c is reported" reports_orders "$at-opposite" "$compiler" "${flags[@]}"
+    row "$compiler, $word: weaker steps are reported" reports_weaker "$weaker_races" "$at-weaker" "$compiler" "${flags[@]}"
     return
   fi
   row "$compiler, $word: tests/engine.c" test_of engine "$at-engine" "$compiler" "${flags[@]}"
@@ -137,8 +173,22 @@ c_of() {
   row "$1: the version of pobj.h" version_of "$1"
   row "$1: speed.c" "$1" -std=c11 "${strict[@]}" -O2 speed.c -o "$scratch/$1-speed" "${link[@]}"
   all_of "$1" plain -O2
+  [ "$(nproc)" -eq 1 ] \
+    || row "$1, plain: a weaker order is seen" reports_weaker "$weaker_order" "$scratch/$1-order" "$1" -std=c11 "${strict[@]}" -O2
+  row "$1, plain: tests/arena.c" arena_of "$scratch/$1-arena" "$1" -std=c11 "${strict[@]}" -O2
   sanitized_of "$1" addresses "${addresses[@]}"
   sanitized_of "$1" races "${races[@]}"
+}
+
+# The same by a compiler for another processor.
+cross_of() {
+  is_there "$1" || { skip "$1" "no such compiler"; return; }
+  row "$1: pobj.h alone" header_of pobj.h c c11 "$1"
+  row "$1: pobj_threads.h alone" header_of pobj_threads.h c c11 "$1"
+  row "$1: the version of pobj.h" version_of "$1" -static
+  row "$1: speed.c" "$1" -std=c11 "${strict[@]}" -O2 -static speed.c -o "$scratch/$1-speed" "${link[@]}"
+  all_of "$1" plain -O2 -static
+  row "$1, plain: tests/arena.c" arena_of "$scratch/$1-arena" "$1" -std=c11 "${strict[@]}" -O2 -static
 }
 
 cxx_of() {
@@ -171,14 +221,24 @@ pkg_config() {
   fi
 }
 
-c_of gcc > "$scratch/gcc.lines" &
-{
-  c_of clang
-  cxx_of g++
-  cxx_of clang++
-  pkg_config
-} > "$scratch/others.lines"
-wait
+# By all compilers of this machine.
+all_compilers() {
+  c_of gcc > "$scratch/gcc.lines" &
+  {
+    c_of clang
+    cxx_of g++
+    cxx_of clang++
+    pkg_config
+  } > "$scratch/others.lines"
+  wait
+}
+
+if [ -n "$cross" ]; then
+  : > "$scratch/gcc.lines"
+  cross_of "$cross" > "$scratch/others.lines"
+else
+  all_compilers
+fi
 cat "$scratch/gcc.lines" "$scratch/others.lines" | tee "$scratch/lines"
 failed=$(grep -c '^failed: ' "$scratch/lines")
 echo "$(grep -c '^passed: ' "$scratch/lines") passed, $failed failed, $(grep -c '^skipped: ' "$scratch/lines") skipped"
