@@ -13,7 +13,7 @@ UNIT = """
    subtype Pobj_Type is {name};
 {marks}
 
-   function Pobj_Entries (Pobj_Object : Pobj_Type) return Standard.Units.Declarations is
+   function Pobj_Entries (Pobj_Object : Pobj_Type) return Standard.Pobj_Texts.Units.Declarations is
       {constants}
       Pobj_Members : array (1 .. {number}) of Standard.Natural := (others => 0);
    begin
@@ -23,37 +23,37 @@ UNIT = """
 
    procedure Pobj_Enter
      (Pobj_Object   : in out Pobj_Type;
-      Pobj_To       : Standard.Units.Target;
-      Pobj_How      : Standard.Units.Manner;
-      Pobj_Item     : in out Standard.Calls.Call;
+      Pobj_To       : Standard.Pobj_Texts.Units.Target;
+      Pobj_How      : Standard.Pobj_Texts.Units.Manner;
+      Pobj_Item     : in out Standard.Pobj_Texts.Calls.Call;
       Pobj_Selected : out Standard.Boolean)
    is
-      Pobj_Line : constant Standard.Calls.Value := Pobj_Item.Item;
+      Pobj_Line : constant Standard.Pobj_Texts.Calls.Value := Pobj_Item.Item;
       {constants}
    begin
-      Standard.Texts.Make_Call (Pobj_Item.Number);
+      Standard.Pobj_Texts.Make_Call (Pobj_Item.Number);
       Pobj_Selected := Standard.True;
       case Pobj_To.Name is
 {calls}
          when others =>
-            raise Standard.Units.No_Such_Entry;
+            raise Standard.Pobj_Texts.Units.No_Such_Entry;
       end case;
    exception
       when Pobj_Occurrence : others =>
-         Standard.Texts.Fail_Call (Pobj_Occurrence);
+         Standard.Pobj_Texts.Fail_Call (Pobj_Occurrence);
    end Pobj_Enter;
 
-   procedure Pobj_Run (Pobj_Object : in out Pobj_Type; Pobj_Item : in out Standard.Calls.Value) is
-      Pobj_Line : constant Standard.Calls.Value := Pobj_Item;
+   procedure Pobj_Run (Pobj_Object : in out Pobj_Type; Pobj_Item : in out Standard.Pobj_Texts.Calls.Value) is
+      Pobj_Line : constant Standard.Pobj_Texts.Calls.Value := Pobj_Item;
    begin
-      case Standard.Texts.Operation (Pobj_Line) is
+      case Standard.Pobj_Texts.Operation (Pobj_Line) is
 {runs}
          when others =>
             null;
       end case;
    exception
       when Pobj_Occurrence : others =>
-         Standard.Texts.Fail (Pobj_Occurrence);
+         Standard.Pobj_Texts.Fail (Pobj_Occurrence);
    end Pobj_Run;
 
    procedure Pobj_Describe_Entries is
@@ -62,33 +62,30 @@ UNIT = """
    begin
       null;
 {listed}
-   exception
-      when Pobj_Occurrence : others =>
-         Standard.Ada.Text_IO.Put_Line ("unmade " & Standard.Ada.Exceptions.Exception_Name (Pobj_Occurrence));
    end Pobj_Describe_Entries;
 
    package Pobj_Units is
 
-      type Own_Unit{declared} is new Standard.Units.Unit with record
+      type Own_Unit{declared} is new Standard.Pobj_Texts.Units.Unit with record
          Object : Pobj_Type{actual};
       end record;
 
-      overriding function Entries (Self : Own_Unit) return Standard.Units.Declarations is (Pobj_Entries (Self.Object));
+      overriding function Entries (Self : Own_Unit) return Standard.Pobj_Texts.Units.Declarations is (Pobj_Entries (Self.Object));
 
       overriding procedure Enter
         (Self     : in out Own_Unit;
-         To       : Standard.Units.Target;
-         How      : Standard.Units.Manner;
-         Item     : in out Standard.Calls.Call;
+         To       : Standard.Pobj_Texts.Units.Target;
+         How      : Standard.Pobj_Texts.Units.Manner;
+         Item     : in out Standard.Pobj_Texts.Calls.Call;
          Selected : out Standard.Boolean);
 
-      overriding procedure Run (Self : in out Own_Unit; Item : in out Standard.Calls.Value);
+      overriding procedure Run (Self : in out Own_Unit; Item : in out Standard.Pobj_Texts.Calls.Value);
 
       overriding function Procedure_Name (Self : Own_Unit) return Standard.String is ("Own");
 
-      overriding function State (Self : Own_Unit) return Standard.Calls.Value is (0);
+      overriding function State (Self : Own_Unit) return Standard.Pobj_Texts.Calls.Value is (0);
 
-      overriding function Waiting (Self : Own_Unit) return Standard.Units.Counts is (Self.Object.Pobj_Waiting);
+      overriding function Waiting (Self : Own_Unit) return Standard.Pobj_Texts.Units.Counts is (Self.Object.Pobj_Waiting);
 
    end Pobj_Units;
 
@@ -96,50 +93,52 @@ UNIT = """
 
       overriding procedure Enter
         (Self     : in out Own_Unit;
-         To       : Standard.Units.Target;
-         How      : Standard.Units.Manner;
-         Item     : in out Standard.Calls.Call;
+         To       : Standard.Pobj_Texts.Units.Target;
+         How      : Standard.Pobj_Texts.Units.Manner;
+         Item     : in out Standard.Pobj_Texts.Calls.Call;
          Selected : out Standard.Boolean) is
       begin
          Pobj_Enter (Self.Object, To, How, Item, Selected);
       end Enter;
 
-      overriding procedure Run (Self : in out Own_Unit; Item : in out Standard.Calls.Value) is
+      overriding procedure Run (Self : in out Own_Unit; Item : in out Standard.Pobj_Texts.Calls.Value) is
       begin
          Pobj_Run (Self.Object, Item);
       end Run;
 
    end Pobj_Units;
 
-   function Pobj_Made return not null Standard.Units.Unit_Access is (new Pobj_Units.Own_Unit{made});
+   function Pobj_Made return not null Standard.Pobj_Texts.Units.Unit_Access is (new Pobj_Units.Own_Unit{made});
 
    procedure Pobj_Describe is
    begin
 {described}
       Pobj_Describe_Entries;
+   exception
+      when Pobj_Occurrence : others =>
+         Standard.Pobj_Texts.Text_IO.Put_Line ("unmade " & Standard.Pobj_Texts.Exceptions.Exception_Name (Pobj_Occurrence));
    end Pobj_Describe;
 
 end Own_Text;
 """
-UNITS = ("Ada.Exceptions", "Ada.Text_IO", "Calls", "Names", "Texts", "Units")
-FORMS = """               case Pobj_How.Kind is
-                  when Standard.Units.Simple =>
-                     {call}
-                  when Standard.Units.Conditional =>
+SIMPLE = """               case Pobj_How.Kind is
+                  when Standard.Pobj_Texts.Units.Simple =>
+                     {call}"""
+OTHERS = """
+                  when Standard.Pobj_Texts.Units.Conditional =>
                      select
                         {call}
                      else
                         Pobj_Selected := Standard.False;
                      end select;
-                  when Standard.Units.Timed =>
-                     {timed}
-               end case;"""
-TIMED = """select
+                  when Standard.Pobj_Texts.Units.Timed =>
+                     select
                         {call}
                      or
                         delay until Pobj_How.Deadline;
                         Pobj_Selected := Standard.False;
                      end select;"""
+NO_OTHERS = "\n                  when others => raise Standard.Pobj_Texts.Units.No_Such_Entry;"
 
 
 def marks(unit):
@@ -158,7 +157,7 @@ def marks(unit):
 
 def image(mark, value):
     """Returns the expression for the image of a value, after a space."""
-    return f'" " & Standard.Texts.Trimmed ({mark}\'Image ({value}))'
+    return f'" " & Standard.Pobj_Texts.Trimmed ({mark}\'Image ({value}))'
 
 
 def variables(unit, parameters):
@@ -170,7 +169,7 @@ def variables(unit, parameters):
         for components, mark in parts:
             if parameter.mode != "out":
                 place += 1
-                values.append((components, f"{mark}'Value (Standard.Texts.Actual (Pobj_Line, {place}))"))
+                values.append((components, f"{mark}'Value (Standard.Pobj_Texts.Actual (Pobj_Line, {place}))"))
         whole = values and parts[0][0] == ""
         declared.append(f"Pobj_{number} : {parameter.mark}{f' := {values[0][1]}' if whole else ''};")
         if not whole:
@@ -198,8 +197,7 @@ def returned(unit, parameters):
 def forms(unit, one):
     """Returns the statement that calls the entry in each way."""
     call = f"Pobj_Object.{one.name}{' (Pobj_Index)' if one.family else ''}{actuals(one.parameters)};"
-    timed = "raise Standard.Units.No_Such_Entry;" if one.has_conditions else TIMED.format(call=call)
-    text = FORMS.format(call=call, timed=timed)
+    text = (SIMPLE + (NO_OTHERS if one.has_conditions else OTHERS)).format(call=call) + "\n               end case;"
     if not one.family:
         return text
     return (f"               declare Pobj_Place : Standard.Natural := 0; begin for Pobj_Index in {one.family} loop"
@@ -210,8 +208,8 @@ def forms(unit, one):
 def entered(unit, one):
     """Returns the alternative that makes a call of the entry."""
     declared, given = variables(unit, one.parameters)
-    answer = f'Pobj_Item.Item := Standard.Texts.Answer ("done"{returned(unit, one.parameters)});'
-    return (f"         when Standard.Names.Entry_{one.place} =>\n"
+    answer = f'Pobj_Item.Item := Standard.Pobj_Texts.Answer ("done"{returned(unit, one.parameters)});'
+    return (f"         when Standard.Pobj_Texts.Names.Entry_{one.place} =>\n"
             f"            declare {declared} begin {given}\n{forms(unit, one)}\n"
             f"               if Pobj_Selected then {answer} end if;\n            end;")
 
@@ -221,11 +219,11 @@ def run(unit, number, one):
     declared, given = variables(unit, one.parameters)
     called = f"Pobj_Object.{one.name}{actuals(one.parameters)}"
     if one.kind == "procedure":
-        done = f'{called}; Pobj_Item := Standard.Texts.Answer ("done"{returned(unit, one.parameters)});'
+        done = f'{called}; Pobj_Item := Standard.Pobj_Texts.Answer ("done"{returned(unit, one.parameters)});'
     else:
         values = "".join(f" & {image(mark, f'Pobj_Result{components}')}" for components, mark in unit.parts(one.result))
         done = (f"declare Pobj_Result : constant {one.result} := {called}; begin"
-                f' Pobj_Item := Standard.Texts.Answer ("value"{values}); end;')
+                f' Pobj_Item := Standard.Pobj_Texts.Answer ("value"{values}); end;')
     return f"         when {number} => declare {declared} begin {given} {done} end;"
 
 
@@ -233,9 +231,9 @@ def made(unit):
     """Returns the discriminants of a new object, as the script has them or by their defaults."""
     values = []
     for place, one in enumerate(unit.discriminants, 1):
-        value = f"{one.mark}'Value (Standard.Texts.Discriminant ({place}))"
+        value = f"{one.mark}'Value (Standard.Pobj_Texts.Discriminant ({place}))"
         if one.default:
-            value = f"(if Standard.Texts.Has_Discriminant ({place}) then {value} else {one.default})"
+            value = f"(if Standard.Pobj_Texts.Has_Discriminant ({place}) then {value} else {one.default})"
         values.append(value)
     return in_parentheses(values)
 
@@ -244,22 +242,22 @@ def declarations(unit):
     """Returns the aggregate of what Commands has to know of the entries."""
     if not unit.entries:
         return "1 .. 0 => <>"
-    return ", ".join(f"{one.place} => (Standard.Names.Entry_{one.place}, Standard.{one.is_public}, Pobj_Members ({one.place}))"
+    return ", ".join(f"{one.place} => (Standard.Pobj_Texts.Names.Entry_{one.place}, Standard.{one.is_public}, Pobj_Members ({one.place}))"
                      for one in unit.entries)
 
 
 def members_listed(one):
     """Returns the statements that write an entry's members."""
-    put = "Standard.Ada.Text_IO.Put"
-    member = f'{put} (" " & Standard.Texts.Trimmed (Pobj_Index\'Image));'
+    put = "Standard.Pobj_Texts.Text_IO.Put"
+    member = f'{put} (" " & Standard.Pobj_Texts.Trimmed (Pobj_Index\'Image));'
     loop = f" for Pobj_Index in {one.family} loop {member} end loop;" if one.family else ""
-    return f'         {put} ("members");{loop} Standard.Ada.Text_IO.New_Line;'
+    return f'         {put} ("members");{loop} Standard.Pobj_Texts.Text_IO.New_Line;'
 
 
 def body(unit, name):
     """Returns the body of Own_Text for a unit of the text file of that name."""
     clauses = re.sub("--[^\n]*", "", unit.text[:unit.context_end]).split()
-    context = " ".join([f"with {one};" for one in UNITS] + clauses)
+    context = " ".join(["with Pobj_Texts;", *clauses])
     places = range(1, len(unit.discriminants) + 1)
     families = [one for one in unit.entries if one.family]
     constants = " ".join(f"{one.name} : constant {one.mark} := Pobj_Object.{one.name};" for one in unit.discriminants)
@@ -268,7 +266,7 @@ def body(unit, name):
         declared=in_parentheses(f"Of_{place} : Pobj_Mark_{place}" for place in places).replace(",", ";"),
         name=unit.name,
         marks="\n".join([f"   subtype Pobj_Mark_{place} is {one.mark};" for place, one in zip(places, unit.discriminants)]
-                        + [f"   procedure Pobj_Describe_{number} is new Standard.Texts.Describe_Subtype ({mark});"
+                        + [f"   procedure Pobj_Describe_{number} is new Standard.Pobj_Texts.Describe_Subtype ({mark});"
                            for number, mark in enumerate(marks(unit), 1)]),
         actual=in_parentheses(f"Of_{place}" for place in places),
         constants=constants,

@@ -63,7 +63,7 @@ class Operation:
     parameters: list
     result: str
     is_public: bool
-    # Whether it has an aspect Pre or Post: then GNAT refuses timed calls.
+    # Whether it has an aspect Pre or Post: then GNAT refuses conditional and timed calls.
     has_conditions: bool
     # An entry's place among the entries, from 1.
     place: int = 0
@@ -263,7 +263,7 @@ def declaration(reader, insertions):
             reader.find(";")
             reader.take()
         reader.takes(";")
-    insertions.append((reader.place() if place is None else place, f"function {COUNTS} return Standard.Units.Counts; "))
+    insertions.append((reader.place() if place is None else place, f"function {COUNTS} return Standard.Pobj_Texts.Units.Counts; "))
     return name, discriminants, operations
 
 
@@ -279,11 +279,11 @@ def bodies(reader, insertions):
             its_entry = reader.take().text
             reader.find("when")
             reader.find("is")
-            begun = f" Pobj_Begun : constant Standard.Boolean := Standard.Texts.Begun ({its_entry}'Caller);"
+            begun = f" Pobj_Begun : constant Standard.Boolean := Standard.Pobj_Texts.Begun ({its_entry}'Caller);"
             insertions.append((reader.take().end, begun))
         elif word == "requeue" and its_entry is not None:
             where = reader.elements[reader.at - 1].start
-            insertions.append((where, f"Standard.Texts.Requeue_Call ({its_entry}'Caller); "))
+            insertions.append((where, f"Standard.Pobj_Texts.Requeue_Call ({its_entry}'Caller); "))
     return place
 
 
@@ -358,7 +358,7 @@ def counting(unit):
     for one in unit.entries:
         count = f"Pobj_Place := Pobj_Place + 1; Pobj_Counts (Pobj_Place) := {one.name}{' (Pobj_Index)' if one.family else ''}'Count;"
         lines.append(f"for Pobj_Index in {one.family} loop {count} end loop;" if one.family else count)
-    return (f" function {COUNTS} return Standard.Units.Counts is Pobj_Counts : Standard.Units.Counts (1 .. 5_000);"
+    return (f" function {COUNTS} return Standard.Pobj_Texts.Units.Counts is Pobj_Counts : Standard.Pobj_Texts.Units.Counts (1 .. 5_000);"
             f" Pobj_Place : Standard.Natural := 0; begin {' '.join(lines)} return Pobj_Counts (1 .. Pobj_Place); end {COUNTS};")
 
 

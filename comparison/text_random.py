@@ -28,12 +28,12 @@ class Maker:
         """Returns a value of a discriminant: of numbers a small one."""
         if isinstance(known, tuple):
             return str(self.chance.randint(max(known[0], 1), min(known[1], max(known[0], 1) + 3)))
-        return self.chance.choice(known)
+        return texts.spelled(self.unit, self.chance.choice(known))
 
     def value(self, known):
         """Returns a value of a parameter, mostly a small one."""
         if not isinstance(known, tuple):
-            return self.chance.choice(known).capitalize()
+            return texts.spelled(self.unit, self.chance.choice(known))
         first, last = known
         low = min(max(first, 0), last)
         ways = [(low, min(last, low + 4)), (low, min(last, low + 4)), (low, min(last, low + 30)), (first, last)]
@@ -45,7 +45,7 @@ class Maker:
         index = ""
         if one.family:
             members = self.shape.members[one.place - 1]
-            index = f"({self.chance.choice(members)})"
+            index = f"({texts.spelled(self.unit, self.chance.choice(members))})"
         marks = [mark for _, _, mode, mark in self.unit.scalars(one.parameters) if mode != "out"]
         return " ".join([one.name + index, *(self.value(self.shape.subtypes[mark.lower()]) for mark in marks)])
 
@@ -60,7 +60,7 @@ class Maker:
         if one is None:
             return self.operation("procedure")
         self.calls += 1
-        kinds = ["call"] * 4 + ["cond"] * self.has_conditional
+        kinds = ["call"] * 4 + ["cond"] * (self.has_conditional and not one.has_conditions)
         kinds += [f"timed {self.clock + self.chance.randint(1, 4)}"] * (self.has_cancel and not one.has_conditions)
         return f"{self.chance.choice(kinds)} {self.words(one)}"
 

@@ -145,7 +145,7 @@ def random_ones(seed, count, text_file):
             written = of_pobj(text_file, shown)
         except NoRunner as none:
             raise programs.Missing("this pobj can't run texts") from none
-        ours, theirs = answers(text, shown, programs.comparable(written or "a fault"))
+        ours, theirs = answers(text, shown, programs.comparable(written or "pobj finds a fault"))
         if ours == theirs:
             agreed += 1
         elif first is None:

@@ -126,11 +126,18 @@ class Translation:
         for word, discriminant in zip(self.discriminants, self.unit.discriminants):
             self.check(word, discriminant.mark)
 
+    def spelled(self, words):
+        """Returns the words as the text spells them."""
+        return [spelled(self.unit, word) for word in words]
+
     def check(self, word, mark):
         """Raises a fault if the word is no value of the subtype."""
         known = self.shape.subtypes[mark.lower()]
-        is_number = isinstance(known, tuple) and NUMBER.fullmatch(word) is not None
-        if not (known[0] <= int(word) <= known[1] if is_number else word.upper() in known):
+        if isinstance(known, tuple):
+            is_one = NUMBER.fullmatch(word) is not None and known[0] <= int(word) <= known[1]
+        else:
+            is_one = word in self.spelled(known)
+        if not is_one:
             raise Fault(f"'{word}' isn't a value of {mark}")
 
     def actuals(self, one, words):
@@ -149,15 +156,16 @@ class Translation:
         written = re.fullmatch(r"(\w+)(?:\(([^()]+)\))?", words[0] if words else "")
         if written is None:
             raise Fault("bad argument")
-        one = next((one for one in self.unit.entries if one.name.lower() == written[1].lower()), None)
+        one = next((one for one in self.unit.entries if one.name == written[1]), None)
         if one is None:
             return f"{before} Nothing {number}"
         members, index = self.shape.members[one.place - 1], written[2]
         place = ""
         if index is not None:
-            place = f"({1 + members.index(index.upper()) if index.upper() in members else len(members) + 1})"
-        if one.has_conditions and before.startswith("timed"):
-            raise NotExpressible("GNAT refuses a timed call of an entry with Pre or Post")
+            members = self.spelled(members)
+            place = f"({1 + members.index(index) if index in members else len(members) + 1})"
+        if one.has_conditions and before != "call":
+            raise NotExpressible("GNAT refuses a conditional or timed call of an entry with Pre or Post")
         return f"{before} Entry_{one.place}{place} {number} 0 {' '.join(self.actuals(one, words[1:]))}"
 
     def run(self, number, kind, words):
@@ -165,7 +173,7 @@ class Translation:
         if not words:
             raise Fault("bad argument")
         found = [place for place, one in enumerate(self.unit.operations, 1)
-                 if one.kind == kind and one.is_public and one.name.lower() == words[0].lower()]
+                 if one.kind == kind and one.is_public and one.name == words[0]]
         if not found:
             return f"proc Nothing {number}"
         return f"proc Own {number} {found[0]} {' '.join(self.actuals(self.unit.operations[found[0] - 1], words[1:]))}"

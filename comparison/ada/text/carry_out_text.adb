@@ -6,24 +6,24 @@ with GNAT.OS_Lib;
 with Commands;
 with Own_Text;
 with Scripts;
-with Texts;
+with Pobj_Texts;
 
 procedure Carry_Out_Text is
    Script : constant Scripts.Line_Vectors.Vector := Scripts.Read;
 begin
-   Texts.Take (Script);
+   Pobj_Texts.Take (Script);
    if Argument (1) = "describe" then
       Own_Text.Pobj_Describe;
    else
       Commands.Carry_Out (Script, Positive'Value (Argument (1)));
-      Texts.Write_Answers;
+      Pobj_Texts.Write_Answers;
    end if;
    Flush;
    --  Tasks that wait for ever are left behind.
    GNAT.OS_Lib.OS_Exit (0);
 exception
    when Commands.Too_Late =>
-      Texts.Write_Answers;
+      Pobj_Texts.Write_Answers;
       Flush;
       GNAT.OS_Lib.OS_Exit (3);
 end Carry_Out_Text;

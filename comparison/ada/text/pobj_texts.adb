@@ -3,9 +3,8 @@ with Ada.Containers.Vectors;
 with Ada.Strings;       use Ada.Strings;
 with Ada.Strings.Fixed; use Ada.Strings.Fixed;
 with Ada.Text_IO;       use Ada.Text_IO;
-with Units;
 
-package body Texts is
+package body Pobj_Texts is
 
    --  The call of a task, and the body that began last for it: its place among all, or 0, and whether it requeued the call.
    type Record_Of_Call is record
@@ -15,7 +14,7 @@ package body Texts is
    end record;
 
    package Text_Vectors is new Ada.Containers.Indefinite_Vectors (Positive, String);
-   package Place_Vectors is new Ada.Containers.Vectors (Positive, Natural);
+   package Number_Vectors is new Ada.Containers.Vectors (Positive, Natural);
    package Call_Vectors is new Ada.Containers.Indefinite_Vectors (Positive, Record_Of_Call);
 
    The_Script : Scripts.Line_Vectors.Vector;
@@ -29,7 +28,7 @@ package body Texts is
       procedure Write;
    private
       Answers : Text_Vectors.Vector;
-      Places  : Place_Vectors.Vector;
+      Places  : Number_Vectors.Vector;
       Calls   : Call_Vectors.Vector;
       Begun   : Natural := 0;
    end Book;
@@ -186,4 +185,4 @@ package body Texts is
       end if;
    end Describe_Subtype;
 
-end Texts;
+end Pobj_Texts;

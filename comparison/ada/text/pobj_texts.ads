@@ -1,11 +1,21 @@
 --  What the program of a text keeps beside what Commands keeps: the words of the script, the answers in words, and which bodies
---  began for each call. Commands knows an answer by its number.
+--  began for each call. Commands knows an answer by its number. Own_Text names no other library unit, as a type of its text may
+--  have the same name.
 with Ada.Exceptions;          use Ada.Exceptions;
 with Ada.Task_Identification; use Ada.Task_Identification;
+with Ada.Text_IO;
 with Calls;                   use Calls;
+with Names;
 with Scripts;
+with Units;
 
-package Texts is
+package Pobj_Texts is
+
+   package Calls renames Standard.Calls;
+   package Exceptions renames Ada.Exceptions;
+   package Names renames Standard.Names;
+   package Text_IO renames Ada.Text_IO;
+   package Units renames Standard.Units;
 
    --  Takes the script, as texts.py wrote it: the value of a command is the number of its line, and after it come the number of
    --  the operation and the actual parameters.
@@ -51,4 +61,4 @@ package Texts is
       type Item is (<>);
    procedure Describe_Subtype;
 
-end Texts;
+end Pobj_Texts;
