@@ -78,7 +78,7 @@ class Unit:
     discriminants: list
     operations: list
     packages: list
-    # Where its context clauses end.
+    # The end of its context clauses.
     context_end: int
     insertions: list
     # For each record type its components as parameters.
@@ -135,7 +135,7 @@ class Reader:
         return self.elements[self.at].lower if self.at < len(self.elements) else ""
 
     def place(self):
-        """Returns where the present element is."""
+        """Returns the place of the present element."""
         return self.elements[self.at].start if self.at < len(self.elements) else len(self.text)
 
     def take(self):
@@ -307,7 +307,7 @@ def package_names(reader):
 
 
 def context_clauses(reader):
-    """Returns where the context clauses end that the text begins with, or 0."""
+    """Returns the end of the context clauses that the text begins with, or 0."""
     reader.at = 0
     while reader.here() in ("with", "use", "pragma"):
         reader.find(";")

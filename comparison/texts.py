@@ -223,8 +223,8 @@ class Answers:
         return " ".join(spelled(self.unit, word) for word in words.split(" "))
 
     def end(self, line):
-        """Returns where the end has to stand among those of its command, and the end in words. If a body ended the call of a task
-        that was aborted, the task couldn't say how: `?` stands for that."""
+        """Returns the place of the end among those of its command, and the end in words. If a body ended the call of a task that
+        was aborted, the task couldn't say how: `?` stands for that."""
         call, kind, *number = line.split(" ")
         if kind in ("done", "raised"):
             return (0, self.places[number[0]]), f"{call} {self.words[number[0]]}"

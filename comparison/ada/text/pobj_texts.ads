@@ -49,8 +49,8 @@ package Pobj_Texts is
    --  The body requeues the call.
    procedure Requeue_Call (Caller : Task_Id);
 
-   --  Writes all answers: a line `= NUMBER PLACE WORDS` for each, where bodies began in the order of PLACE; and a line
-   --  `! CALL PLACE` for each call that a body ended.
+   --  Writes a line `= NUMBER PLACE WORDS` for each answer, and a line `! CALL PLACE` for each call that a body ended. The PLACE
+   --  is that of the body among all that began, from 1, or 0.
    procedure Write_Answers;
 
    --  The image without the space before it.
