@@ -2,8 +2,6 @@
 """Writes the body of Own_Text: an Ada text, as text_program.py changed it, and after it the unit that calls its operations. Its
 own names begin with Pobj_, so that they aren't names of the text."""
 
-import re
-
 import text_program
 
 HEAD = 'pragma Source_Reference (1, "{name}");\n{context} package body Own_Text is {text}\n'
@@ -116,7 +114,8 @@ UNIT = """
       Pobj_Describe_Entries;
    exception
       when Pobj_Occurrence : others =>
-         Standard.Pobj_Texts.Text_IO.Put_Line ("unmade " & Standard.Pobj_Texts.Exceptions.Exception_Name (Pobj_Occurrence));
+         Standard.Pobj_Texts.Text_IO.Put_Line
+           ("unmade " & Standard.Pobj_Texts.Exceptions.Exception_Name (Pobj_Occurrence));
    end Pobj_Describe;
 
 end Own_Text;
@@ -254,15 +253,24 @@ def members_listed(one):
     return f'         {put} ("members");{loop} Standard.Pobj_Texts.Text_IO.New_Line;'
 
 
+def visible(unit):
+    """Returns what makes the declarations of the text's packages visible. A formal type is Integer."""
+    uses = [f"use {package};" for package in unit.packages if package != unit.generic]
+    if unit.generic:
+        types = in_parentheses(f"{name} => Standard.Integer" for name in unit.formals)
+        uses = [f"package Pobj_Instance is new {unit.generic}{types};", "use Pobj_Instance;"]
+        uses += [f"subtype {name} is Standard.Integer;" for name in unit.formals]
+    return " ".join(uses)
+
+
 def body(unit, name):
     """Returns the body of Own_Text for a unit of the text file of that name."""
-    clauses = re.sub("--[^\n]*", "", unit.text[:unit.context_end]).split()
-    context = " ".join(["with Pobj_Texts;", *clauses])
     places = range(1, len(unit.discriminants) + 1)
     families = [one for one in unit.entries if one.family]
     constants = " ".join(f"{one.name} : constant {one.mark} := Pobj_Object.{one.name};" for one in unit.discriminants)
+    context = " ".join(["with Pobj_Texts;", *unit.context])
     return HEAD.format(name=name, context=context, text=text_program.changed(unit)) + UNIT.format(
-        uses=" ".join(f"use {package};" for package in unit.packages),
+        uses=visible(unit),
         declared=in_parentheses(f"Of_{place} : Pobj_Mark_{place}" for place in places).replace(",", ";"),
         name=unit.name,
         marks="\n".join([f"   subtype Pobj_Mark_{place} is {one.mark};" for place, one in zip(places, unit.discriminants)]

@@ -1,7 +1,7 @@
 # SPDX-License-Identifier: MIT
-"""Makes the body of Own_Text, the unit by which GNAT carries out scripts on the protected type or object of an Ada text. The text
-stays as it is, but for what is inserted on its lines: a function that counts the calls on each entry, notes at the beginning of
-bodies and before requeues, and `type` after the `protected` of a single object."""
+"""Reads the protected unit of an Ada text, and changes the text so that GNAT can carry out scripts on it. Its lines stay. Inserted
+are a function that counts the calls on each entry, notes at the beginning of entry bodies and before requeues, and `type` after
+the `protected` of a single object. With clauses are moved away, and packages lose the names of their parents."""
 
 import dataclasses
 import re
@@ -26,7 +26,7 @@ class Refused(Exception):
 
 @dataclasses.dataclass
 class Element:
-    """A word, number, literal or symbol of the text, and where it is. The lower is its text in small letters."""
+    """A word, number, literal or symbol of the text, and its place."""
 
     kind: str
     text: str
@@ -78,9 +78,12 @@ class Unit:
     discriminants: list
     operations: list
     packages: list
-    # The end of its context clauses.
-    context_end: int
-    insertions: list
+    # The with clauses, and the formal types of a generic package and its name.
+    context: list
+    formals: list
+    generic: str
+    # What replaces a part of the text: the part's start and end, and the new text.
+    changes: list
     # For each record type its components as parameters.
     records: dict
     # How each name is spelled first, by its capitals.
@@ -108,13 +111,18 @@ class Unit:
                     yield f".{component.name}{components}", scalar
 
 
+def is_name(element):
+    """Returns whether a tick after the element is that of an attribute or a qualified expression."""
+    return element.text == ")" or element.kind == "word" and element.lower not in RESERVED
+
+
 def elements_of(text):
     """Returns the elements of the text, without spaces and comments."""
     found, at = [], 0
     while at < len(text):
         element = ELEMENT.match(text, at)
         kind, written = element.lastgroup, element.group()
-        if kind == "character" and found and (found[-1].kind == "word" and found[-1].lower not in RESERVED or found[-1].text == ")"):
+        if kind == "character" and found and is_name(found[-1]):
             kind, written = "symbol", "'"
         if kind != "skipped":
             found.append(Element(kind, written, at))
@@ -241,10 +249,15 @@ def operation(reader, is_public):
     return Operation(kind, name, family, parameters, result, is_public, bool(aspects & {"pre", "post"}))
 
 
-def declaration(reader, insertions):
+def insert(changes, place, text):
+    """Adds an insertion to the changes."""
+    changes.append((place, place, text))
+
+
+def declaration(reader, changes):
     """Reads the declaration after `protected`. Returns the unit's name, its discriminants and operations."""
     if not reader.takes("type"):
-        insertions.append((reader.place(), "type "))
+        insert(changes, reader.place(), "type ")
     name, discriminants = reader.take().text, []
     if reader.here() == "(":
         discriminants = reader.parameters(reader.parenthesized())
@@ -263,27 +276,29 @@ def declaration(reader, insertions):
             reader.find(";")
             reader.take()
         reader.takes(";")
-    insertions.append((reader.place() if place is None else place, f"function {COUNTS} return Standard.Pobj_Texts.Units.Counts; "))
+    place = reader.place() if place is None else place
+    insert(changes, place, f"function {COUNTS} return Standard.Pobj_Texts.Units.Counts; ")
     return name, discriminants, operations
 
 
-def bodies(reader, insertions):
-    """Reads the body after `protected body`, up to the end of the text: notes go to the entry bodies and before requeues."""
-    reader.take()
+def bodies(reader, name, changes):
+    """Reads the body of the unit of that name, after `protected body`, and returns the place after its `is`: notes go to the entry
+    bodies and before requeues."""
     reader.find("is")
-    reader.take()
-    place, its_entry = reader.elements[reader.at - 1].end, None
+    place, its_entry = reader.take().end, ""
     while reader.at < len(reader.elements):
         word = reader.take().lower
+        if word == "end" and reader.here() == name.lower():
+            break
         if word == "entry":
             its_entry = reader.take().text
             reader.find("when")
             reader.find("is")
             begun = f" Pobj_Begun : constant Standard.Boolean := Standard.Pobj_Texts.Begun ({its_entry}'Caller);"
-            insertions.append((reader.take().end, begun))
-        elif word == "requeue" and its_entry is not None:
+            insert(changes, reader.take().end, begun)
+        elif word == "requeue" and its_entry:
             where = reader.elements[reader.at - 1].start
-            insertions.append((where, f"Standard.Pobj_Texts.Requeue_Call ({its_entry}'Caller); "))
+            insert(changes, where, f"Standard.Pobj_Texts.Requeue_Call ({its_entry}'Caller); ")
     return place
 
 
@@ -298,21 +313,51 @@ def record_types(reader):
     return found
 
 
-def package_names(reader):
-    """Returns the names of the text's packages, those around the protected unit and those before it."""
+def package_names(reader, changes):
+    """Returns the names of the text's packages. A package in another one can't have the names of parents: these go."""
+    found, elements = [], reader.elements
+    for at, element in enumerate(elements[:-1]):
+        is_body = elements[at + 1].lower == "body"
+        if element.lower in ("package", "end"):
+            reader.at = at + 1 + is_body
+            first = reader.place()
+            reader.name()
+            last = elements[reader.at - 1]
+            if last.start > first:
+                changes.append((first, last.start, ""))
+            if element.lower == "package" and not is_body and reader.here() in ("is", "with"):
+                found.append(last.text)
+    return found
+
+
+def with_clauses(reader, changes):
+    """Returns the with clauses of the text, which move away."""
+    found, elements = [], reader.elements
+    for at, element in enumerate(elements):
+        after = at == 0 or elements[at - 1].text == ";"
+        if element.lower == "with" and after and elements[at + 1].lower not in ("procedure", "function", "package"):
+            reader.at = at
+            reader.find(";")
+            end = reader.take().end
+            found.append(reader.written(elements[at:reader.at]))
+            changes.append((element.start, end, ""))
+    return found
+
+
+def formal_types(reader):
+    """Returns the formal types of a generic package, and the package's name, or nothing of both."""
     words = [element.lower for element in reader.elements]
-    if "generic" in words:
-        raise Refused("generic: write the types in place of the formal ones")
-    return [reader.elements[at + 1].text for at, word in enumerate(words[:-2]) if word == "package" and words[at + 2] == "is"]
-
-
-def context_clauses(reader):
-    """Returns the end of the context clauses that the text begins with, or 0."""
-    reader.at = 0
-    while reader.here() in ("with", "use", "pragma"):
+    if "generic" not in words:
+        return [], ""
+    reader.at = words.index("generic") + 1
+    found = []
+    while reader.takes("type"):
+        found.append(reader.take().text)
         reader.find(";")
         reader.take()
-    return reader.elements[reader.at - 1].end if reader.at else 0
+    if words.count("generic") > 1 or not reader.takes("package"):
+        raise Refused("generic: only one package with formal types is possible")
+    return found, reader.name().split(".")[-1]
 
 
 def spelled(reader):
@@ -325,47 +370,64 @@ def spelled(reader):
 
 
 def units_in(reader):
-    """Returns the places of the declarations of protected units, and of their bodies, each after `protected`."""
+    """Returns the names of the protected units and the places of their declarations, and the same of their bodies. A place is that
+    after `protected` or `protected body`, a name is in small letters."""
+    declared, with_body = {}, {}
     words = [element.lower for element in reader.elements]
-    found = [at + 1 for at, word in enumerate(words[:-1]) if word == "protected" and words[at - 1:at] != ["access"]]
-    return [at for at in found if words[at] != "body"], [at + 1 for at in found if words[at] == "body"]
+    for at, word in enumerate(words[:-2], 1):
+        if word == "protected" and words[at] == "body":
+            with_body[words[at + 1]] = at + 1
+        elif word == "protected" and words[at - 2:at - 1] != ["access"]:
+            declared[words[at + (words[at] == "type")]] = at
+    return declared, with_body
 
 
-def read(text):
-    """Returns the protected unit of the text."""
-    reader = Reader(text)
+def place_of(reader, wanted):
+    """Returns the places of the declaration and the body of the wanted unit, or of the only one."""
     declared, with_body = units_in(reader)
-    if len(declared) != 1 or len(with_body) != 1:
-        raise Refused(f"{len(declared)} protected units with {len(with_body)} bodies: it has to be one with its body")
-    insertions = []
-    reader.at = declared[0]
-    name, discriminants, operations = declaration(reader, insertions)
-    reader.at = with_body[0]
-    place = bodies(reader, insertions)
-    unit = Unit(text, name, discriminants, operations, package_names(reader), context_clauses(reader), insertions,
+    name = wanted.lower() if wanted.lower() in declared else next(iter(declared), "")
+    if not declared or len(declared) > 1 and name != wanted.lower():
+        raise Refused(f"{len(declared)} protected units: " + ("the line `unit` has to name one" if declared else "one is needed"))
+    if name not in with_body:
+        raise Refused(f"{name} has no body")
+    return declared[name], with_body[name]
+
+
+def read(text, wanted=""):
+    """Returns the protected unit of the text: that of the wanted name if there is one of this name, or the only one."""
+    reader, changes = Reader(text), []
+    first, second = place_of(reader, wanted)
+    reader.at = first
+    name, discriminants, operations = declaration(reader, changes)
+    reader.at = second
+    place = bodies(reader, name, changes)
+    context = with_clauses(reader, changes)
+    packages = package_names(reader, changes)
+    unit = Unit(text, name, discriminants, operations, packages, context, *formal_types(reader), changes,
                 record_types(reader), spelled(reader))
     if len(unit.entries) > MOST_ENTRIES:
         raise Refused(f"{len(unit.entries)} entries: at most {MOST_ENTRIES} are possible")
     for number, one in enumerate(unit.entries, 1):
         one.place = number
-    insertions.append((place, counting(unit)))
+    insert(changes, place, counting(unit))
     return unit
 
 
 def counting(unit):
     """Returns the body of the inserted function, on one line."""
+    counts = "Standard.Pobj_Texts.Units.Counts"
     lines = []
     for one in unit.entries:
-        count = f"Pobj_Place := Pobj_Place + 1; Pobj_Counts (Pobj_Place) := {one.name}{' (Pobj_Index)' if one.family else ''}'Count;"
+        member = " (Pobj_Index)" if one.family else ""
+        count = f"Pobj_Place := Pobj_Place + 1; Pobj_Counts (Pobj_Place) := {one.name}{member}'Count;"
         lines.append(f"for Pobj_Index in {one.family} loop {count} end loop;" if one.family else count)
-    return (f" function {COUNTS} return Standard.Pobj_Texts.Units.Counts is Pobj_Counts : Standard.Pobj_Texts.Units.Counts (1 .. 5_000);"
-            f" Pobj_Place : Standard.Natural := 0; begin {' '.join(lines)} return Pobj_Counts (1 .. Pobj_Place); end {COUNTS};")
+    return (f" function {COUNTS} return {counts} is Pobj_Counts : {counts} (1 .. 5_000); Pobj_Place : Standard.Natural := 0;"
+            f" begin {' '.join(lines)} return Pobj_Counts (1 .. Pobj_Place); end {COUNTS};")
 
 
 def changed(unit):
-    """Returns the text with what is inserted, and without its context clauses."""
+    """Returns the changed text. It has the lines of the text."""
     text = unit.text
-    for place, inserted in sorted(unit.insertions, reverse=True):
-        text = text[:place] + inserted + text[place:]
-    end = unit.context_end
-    return re.sub(r"[^\n]", " ", text[:end]) + text[end:]
+    for start, end, new in sorted(unit.changes, reverse=True):
+        text = text[:start] + new + "\n" * text.count("\n", start, end) + text[end:]
+    return text

@@ -1,6 +1,6 @@
 # SPDX-License-Identifier: MIT
-"""Random scripts on the protected unit of an Ada text: any scripts, or those without the commands by which GNAT is known to differ.
-These are conditional calls, if the text uses Count or requeues, and attempts to cancel a call and times of calls, if it requeues."""
+"""Random scripts on the protected unit of an Ada text: any scripts, or those without the commands by which GNAT is known to
+differ. These are conditional calls, if the text uses Count or requeues, and `cancel` and `timed`, if it requeues."""
 
 import random
 

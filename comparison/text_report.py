@@ -101,8 +101,8 @@ def compare(text, script):
 
 def one_script(file, text_file):
     """Compares one script, and returns the status."""
-    text = texts.build(text_file)
     script = programs.text_of(file)
+    text = texts.build(text_file, texts.wanted(script))
     try:
         texts.Translation(text, script).text()
         try:
@@ -118,8 +118,8 @@ def one_script(file, text_file):
 
 def judged(file):
     """Compares the stored answer of a script in examples/ada with GNAT's. Returns the result in words, and whether it is good."""
-    text = texts.build(file.with_suffix(".adb"))
-    ours, theirs = answers(text, programs.text_of(file), stored(file))
+    script = programs.text_of(file)
+    ours, theirs = answers(texts.build(file.with_suffix(".adb"), texts.wanted(script)), script, stored(file))
     return ("same", True) if ours == theirs else ("DIFFERS", False)
 
 

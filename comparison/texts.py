@@ -1,6 +1,6 @@
 # SPDX-License-Identifier: MIT
 """Carries out scripts on the protected unit of an Ada text by GNAT. For Commands of comparison/ada a script is translated: entries
-are named by their places, the value is the number of the line, and the actual parameters come after it. Answers are translated
+are named by their places, the value is the number of the line, and after it come the actual parameters. Answers are translated
 back."""
 
 import dataclasses
@@ -51,10 +51,17 @@ def spelled(unit, word):
     return {name.upper(): name for name in PREDEFINED}.get(word) or unit.spellings.get(word, word)
 
 
-def build(file):
-    """Returns the text of the file, compiled with the programs of comparison/ada. What was compiled before is kept."""
+def wanted(script):
+    """Returns the name on the script's line `unit`, or nothing."""
+    words = [words_of(command) for command in programs.commands(script)[:1]]
+    return words[0][1] if words and words[0][0] == "unit" and len(words[0]) > 1 else ""
+
+
+def build(file, name=""):
+    """Returns the text of the file, compiled with the programs of comparison/ada. What was compiled before is kept. The name is that
+    of the protected unit, if there are several."""
     try:
-        unit = text_program.read(file.read_bytes().decode(errors="replace"))
+        unit = text_program.read(file.read_bytes().decode(errors="replace"), name)
     except text_program.Refused as why:
         raise programs.Failed(f"{file}: {why}") from why
     body = text_driver.body(unit, file.name)

@@ -47,6 +47,8 @@ package body Kitchens is
    end Kitchen;
 end Kitchens;
 """
+TWO = "protected A is end A; protected body A is end A; protected B is entry E; end B; " \
+      "protected body B is entry E when True is begin null; end E; end B;"
 COUNTING = """ function Pobj_Waiting return Standard.Pobj_Texts.Units.Counts is \
 Pobj_Counts : Standard.Pobj_Texts.Units.Counts (1 .. 5_000); Pobj_Place : Standard.Natural := 0; begin \
 for Pobj_Index in Dish loop Pobj_Place := Pobj_Place + 1; Pobj_Counts (Pobj_Place) := Ask (Pobj_Index)'Count; end loop; \
@@ -93,10 +95,19 @@ class Reading(unittest.TestCase):
         found = [(one.name, one.mark, one.default) for one in text_program.read(text).discriminants]
         self.assertEqual(found, [("Size", "Positive", ""), ("Hot", "Boolean", "True")])
 
+    def test_one_of_two(self):
+        self.assertEqual([text_program.read(TWO, name).name for name in ("a", "B")], ["A", "B"])
+        self.assertNotIn("Pobj_Begun", text_program.changed(text_program.read(TWO, "A")))
+
+    def test_generic_packages(self):
+        unit = text_program.read("generic type T is private; type K is (<>); package P.Q is " + TWO.partition(" protected B")[0])
+        self.assertEqual((unit.formals, unit.generic, unit.packages), (["T", "K"], "Q", ["Q"]))
+        self.assertIn("package Q is protected type A", text_program.changed(unit))
+        self.assertIn("package Pobj_Instance is new Q (T => Standard.Integer, K => Standard.Integer);", text_driver.body(unit, "q"))
+
     def test_refusals(self):
-        twice = "protected A is end A; protected body A is end A; protected B is end B; protected body B is end B;"
-        for text, why in (("", "0 protected"), (twice, "2 protected"), ("generic " + twice.partition(" protected B")[0], "generic"),
-                          ("protected A is ( end A; protected body A is end A;", "ends too early"),
+        for text, why in (("", "0 protected"), (TWO, "2 protected"), ("generic " + TWO.partition(" protected B")[0], "generic"),
+                          ("protected A is ( end A; protected body A is end A;", "ends too early"), ("protected A is end A;", "no body"),
                           ("protected A is entry E (X : access Integer); end A; protected body A is end A;", "access")):
             with self.assertRaisesRegex(text_program.Refused, why):
                 text_program.read(text)
@@ -108,6 +119,7 @@ class Changing(unittest.TestCase):
     def test_insertions(self):
         wanted = TEXT
         for old, new in (
+            ("with Ada.Text_IO;", ""),
             ("protected Kitchen", "protected type Kitchen"),
             ("   private", "   function Pobj_Waiting return Standard.Pobj_Texts.Units.Counts; private"),
             ("body Kitchen is", "body Kitchen is" + COUNTING),
@@ -118,11 +130,7 @@ class Changing(unittest.TestCase):
         ):
             self.assertEqual(wanted.count(old), 1, old)
             wanted = wanted.replace(old, new)
-        wanted = wanted.split("\n")
-        changed = text_program.changed(text_program.read(TEXT)).split("\n")
-        self.assertEqual(len(changed), len(wanted))
-        self.assertEqual(changed[0].strip() + changed[1][:17].strip(), "")
-        self.assertEqual(changed[3:], wanted[3:])
+        self.assertEqual(text_program.changed(text_program.read(TEXT)).split("\n"), wanted.split("\n"))
 
     def test_lines_stay(self):
         body = text_driver.body(text_program.read(TEXT), "kitchen.adb")
