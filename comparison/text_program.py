@@ -14,6 +14,8 @@ ELEMENT = re.compile(
 # Words after which a tick begins a character.
 RESERVED = ("when", "is", "return", "and", "or", "xor", "in", "not", "then", "else", "if", "case", "mod", "rem", "with")
 OPERATIONS = ("entry", "procedure", "function")
+# Pragmas that only a library unit can have.
+LIBRARY_PRAGMAS = ("pure", "preelaborate", "elaborate_body", "all_calls_remote", "shared_passive")
 # How many entries comparison/ada/text/names.ads has names for.
 MOST_ENTRIES = 32
 # The inserted function.
@@ -331,16 +333,17 @@ def package_names(reader, changes):
 
 
 def with_clauses(reader, changes):
-    """Returns the with clauses of the text, which move away."""
+    """Returns the with clauses of the text, which move away. Pragmas of library units go."""
     found, elements = [], reader.elements
-    for at, element in enumerate(elements):
-        after = at == 0 or elements[at - 1].text == ";"
-        if element.lower == "with" and after and elements[at + 1].lower not in ("procedure", "function", "package"):
+    for at, element in enumerate(elements[:-1]):
+        is_first = at == 0 or elements[at - 1].text == ";"
+        is_clause = element.lower == "with" and is_first and elements[at + 1].lower not in (*OPERATIONS, "package")
+        if is_clause or element.lower == "pragma" and elements[at + 1].lower in LIBRARY_PRAGMAS:
             reader.at = at
             reader.find(";")
-            end = reader.take().end
-            found.append(reader.written(elements[at:reader.at]))
-            changes.append((element.start, end, ""))
+            changes.append((element.start, reader.take().end, ""))
+            if is_clause:
+                found.append(reader.written(elements[at:reader.at]))
     return found
 
 

@@ -100,9 +100,10 @@ class Reading(unittest.TestCase):
         self.assertNotIn("Pobj_Begun", text_program.changed(text_program.read(TWO, "A")))
 
     def test_generic_packages(self):
-        unit = text_program.read("generic type T is private; type K is (<>); package P.Q is " + TWO.partition(" protected B")[0])
+        head = "generic type T is private; type K is (<>); package P.Q is pragma Pure; "
+        unit = text_program.read(head + TWO.partition(" protected B")[0])
         self.assertEqual((unit.formals, unit.generic, unit.packages), (["T", "K"], "Q", ["Q"]))
-        self.assertIn("package Q is protected type A", text_program.changed(unit))
+        self.assertIn("package Q is  protected type A", text_program.changed(unit))
         self.assertIn("package Pobj_Instance is new Q (T => Standard.Integer, K => Standard.Integer);", text_driver.body(unit, "q"))
 
     def test_refusals(self):
