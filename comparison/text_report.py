@@ -95,7 +95,20 @@ def compare(text, script):
     if ours == theirs:
         print("same")
         return 0
-    report.print_first_difference(shown, ours, theirs)
+    report.print_first_difference(script, ours, theirs)
+    return 1
+
+
+def compare_fault(text, script, fault):
+    """Says that GNAT's program can't carry out the script because of this fault. Returns the status: pobj has to find a fault too."""
+    try:
+        written = of_pobj(text.file, script)
+    except NoRunner:
+        written = None
+    if written is None:
+        print(f"not expressible: a fault of the script itself: {fault}")
+        return 0
+    print(f"pobj carries out the script, which has a fault for GNAT's program: {fault}")
     return 1
 
 
@@ -105,21 +118,26 @@ def one_script(file, text_file):
     text = texts.build(text_file, texts.wanted(script))
     try:
         texts.Translation(text, script).text()
-        try:
-            return compare(text, script)
-        except NoRunner:
-            return compare_stored(text, file)
     except texts.Fault as fault:
-        print(f"not expressible: a fault of the script itself: {fault}")
+        return compare_fault(text, script, fault)
     except texts.NotExpressible as why:
         print(f"not expressible: {why}")
-    return 0
+        return 0
+    try:
+        return compare(text, script)
+    except NoRunner:
+        return compare_stored(text, file)
 
 
 def judged(file):
     """Compares the stored answer of a script in examples/ada with GNAT's. Returns the result in words, and whether it is good."""
     script = programs.text_of(file)
-    ours, theirs = answers(texts.build(file.with_suffix(".adb"), texts.wanted(script)), script, stored(file))
+    try:
+        ours, theirs = answers(texts.build(file.with_suffix(".adb"), texts.wanted(script)), script, stored(file))
+    except texts.NotExpressible as why:
+        return f"not expressible: {why}", True
+    except texts.Fault as fault:
+        return f"HAS A FAULT: {fault}", False
     return ("same", True) if ours == theirs else ("DIFFERS", False)
 
 
@@ -149,13 +167,13 @@ def random_ones(seed, count, text_file):
         if ours == theirs:
             agreed += 1
         elif first is None:
-            first = place, shown, ours, theirs
+            first = place, script, ours, theirs
     print(f"{agreed} of {count} random scripts agree (seed {seed})")
     if first is None:
         return 0
-    place, shown, ours, theirs = first
+    place, script, ours, theirs = first
     kept = programs.OUT / f"random_{text_file.stem}_{seed}_{place}.pobj"
-    kept.write_text("".join(line for line in shown.splitlines(keepends=True) if line != "show\n"))
+    kept.write_text(script)
     print(f"the first that doesn't: ./compare script {kept.relative_to(programs.TOP)} --unit {text_file}")
-    report.print_first_difference(shown, ours, theirs)
+    report.print_first_difference(script, ours, theirs)
     return 1

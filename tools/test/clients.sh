@@ -73,8 +73,8 @@ ada_clients() {
   count_clients "$scratch/ada-tests" "the Ada tests" bindings/ada/tests/run.sh "$scratch/lib" "$scratch/ada"
   export POBJ=$top/crates/pobj_run/out/pobj_run
   count_rows ' (same|not expressible)' scripts over "$scratch/ada"
-  count_rows ' same$' texts
-  count_rows ' same$' texts over "$scratch/ada"
+  count_rows ' (same|not expressible)' texts
+  count_rows ' (same|not expressible)' texts over "$scratch/ada"
   count_rows '  same +same$' ada "$scratch/ada"
   count_rows '^\| `[a-z]+` .* [0-9]+ \|$' ada instructions "$scratch/ada"
   export -n POBJ
