@@ -159,6 +159,12 @@ def image(mark, value):
     return f'" " & Standard.Pobj_Texts.Trimmed ({mark}\'Image ({value}))'
 
 
+def actual(mark, place, default):
+    """Returns the expression for the actual parameter of that place, or the default if the script leaves it out."""
+    value = f"{mark}'Value (Standard.Pobj_Texts.Actual (Pobj_Line, {place}))"
+    return f"(if Standard.Pobj_Texts.Has_Actual (Pobj_Line, {place}) then {value} else {default})" if default else value
+
+
 def variables(unit, parameters):
     """Returns the declarations of the variables for the parameters, and the statements that give values to records."""
     declared, given, place = [], [], 0
@@ -168,7 +174,7 @@ def variables(unit, parameters):
         for components, mark in parts:
             if parameter.mode != "out":
                 place += 1
-                values.append((components, f"{mark}'Value (Standard.Pobj_Texts.Actual (Pobj_Line, {place}))"))
+                values.append((components, actual(mark, place, parameter.default)))
         whole = values and parts[0][0] == ""
         declared.append(f"Pobj_{number} : {parameter.mark}{f' := {values[0][1]}' if whole else ''};")
         if not whole:

@@ -13,23 +13,29 @@ import texts
 EXAMPLES = programs.TOP / "examples" / "ada"
 # How long pobj may take, in seconds: a trial of its sources takes a minute or two.
 LIMIT = 600
-REFUSED, NO_RT = 2, 6
+FAULT, REFUSED, NO_RT = 1, 2, 6
 
 
 class NoRunner(Exception):
     """This pobj can't run scripts on texts."""
 
 
+class Refused(Exception):
+    """Pobj finds a fault in the script or in the text. The message is its own."""
+
+
 def of_pobj(file, script):
-    """Returns what pobj writes, or None if it finds a fault."""
+    """Returns what pobj writes."""
     ended = programs.run([programs.POBJ, "run", "--unit", str(file)], script, LIMIT)
     if ended.returncode == REFUSED:
         raise NoRunner
     if ended.returncode == NO_RT:
         raise programs.Missing("pobj isn't built, and the command rt isn't found: see \"Limits and the kit\" in README.md")
-    if ended.returncode not in (0, 1):
+    if ended.returncode == FAULT:
+        raise Refused(ended.stderr.strip())
+    if ended.returncode != 0:
         raise programs.Failed(f"{programs.POBJ} ended with status {ended.returncode} on this script:\n{script}\n{ended.stderr}")
-    return ended.stdout if ended.returncode == 0 else None
+    return ended.stdout
 
 
 def agree(one, other):
@@ -87,9 +93,10 @@ def compare_stored(text, file):
 def compare(text, script):
     """Compares pobj's answers with GNAT's, and the queues after each command. Returns the status."""
     shown = programs.shown(script)
-    written = of_pobj(text.file, shown)
-    if written is None:
-        print("pobj finds a fault, which GNAT's program doesn't")
+    try:
+        written = of_pobj(text.file, shown)
+    except Refused as why:
+        print(f"pobj finds a fault, and GNAT's program doesn't:\n{why}")
         return 1
     ours, theirs = answers(text, shown, programs.comparable(written))
     if ours == theirs:
@@ -102,14 +109,12 @@ def compare(text, script):
 def compare_fault(text, script, fault):
     """Says that GNAT's program can't carry out the script because of this fault. Returns the status: pobj has to find a fault too."""
     try:
-        written = of_pobj(text.file, script)
-    except NoRunner:
-        written = None
-    if written is None:
+        of_pobj(text.file, script)
+        print(f"pobj carries out the script, which has a fault for GNAT's program: {fault}")
+        return 1
+    except (Refused, NoRunner):
         print(f"not expressible: a fault of the script itself: {fault}")
         return 0
-    print(f"pobj carries out the script, which has a fault for GNAT's program: {fault}")
-    return 1
 
 
 def one_script(file, text_file):
@@ -163,7 +168,9 @@ def random_ones(seed, count, text_file):
             written = of_pobj(text_file, shown)
         except NoRunner as none:
             raise programs.Missing("this pobj can't run texts") from none
-        ours, theirs = answers(text, shown, programs.comparable(written or "pobj finds a fault"))
+        except Refused as why:
+            written = f"pobj finds a fault: {why}"
+        ours, theirs = answers(text, shown, programs.comparable(written))
         if ours == theirs:
             agreed += 1
         elif first is None:

@@ -149,14 +149,22 @@ class Translation:
 
     def actuals(self, one, words):
         """Checks the actual parameters of the operation, and returns them."""
-        wanted = [mark for _, _, mode, mark in self.unit.scalars(one.parameters) if mode != "out"]
+        wanted = [(mark, one.parameters[place - 1]) for place, _, mode, mark in self.unit.scalars(one.parameters) if mode != "out"]
         if not wanted and len(words) == 1 and NUMBER.fullmatch(words[0]):
             return []
-        if len(words) != len(wanted):
+        if len(words) > len(wanted) or not all(parameter.default for _, parameter in wanted[len(words):]):
             raise Fault(f"{one.name} takes {len(wanted)} values, and here are {len(words)}")
-        for word, mark in zip(words, wanted):
+        for word, (mark, _) in zip(words, wanted):
             self.check(word, mark)
         return words
+
+    def member(self, one, index):
+        """Returns the place of the family's member with that index, or a place that there isn't."""
+        members = self.spelled(self.shape.members[one.place - 1])
+        has_literals = members and not NUMBER.fullmatch(members[0])
+        if index not in (self.unit.spellings.values() if has_literals else NUMBER.findall(index)):
+            raise Fault(f"'{index}' isn't an index")
+        return 1 + (members.index(index) if index in members else len(members))
 
     def call(self, number, before, words):
         """Returns the line for a call of an entry."""
@@ -166,11 +174,7 @@ class Translation:
         one = next((one for one in self.unit.entries if one.name == written[1]), None)
         if one is None:
             return f"{before} Nothing {number}"
-        members, index = self.shape.members[one.place - 1], written[2]
-        place = ""
-        if index is not None:
-            members = self.spelled(members)
-            place = f"({1 + members.index(index) if index in members else len(members) + 1})"
+        place = "" if written[2] is None else f"({self.member(one, written[2])})"
         if one.has_conditions and before != "call":
             raise NotExpressible("GNAT refuses a conditional or timed call of an entry with Pre or Post")
         return f"{before} Entry_{one.place}{place} {number} 0 {' '.join(self.actuals(one, words[1:]))}"

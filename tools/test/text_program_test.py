@@ -154,10 +154,13 @@ class Translating(unittest.TestCase):
             ("timed 9 Ask(Soup) 7 8", "timed 9 Entry_1(1) 5 0 7 8"),
             ("cond Wash", "cond Entry_2 5 0 "),
             ("call Wash 7", "call Entry_2 5 0 "),
-            ("call Ask(Tea) 7 8", "call Entry_1(3) 5 0 7 8"),
+            ("call Ask(Open) 7 8", "call Entry_1(3) 5 0 7 8"),
+            ("call Ready(3) 7 8", "call Entry_3(3) 5 0 7 8"),
             ("call Ready(1) 7 8", "call Entry_3(1) 5 0 7 8"),
             ("call Sweep", "call Nothing 5"),
             ("proc Cook Cake 3 'a'", "proc Own 5 3 Cake 3 'a'"),
+            ("proc Cook Cake 3", "proc Own 5 3 Cake 3"),
+            ("call Wash(7)", "call Entry_2(1) 5 0 "),
             ("func Note Soup", "proc Own 5 4 Soup"),
             ("func Cook Soup", "proc Nothing 5"),
             ("cancel 3", "cancel 3"),
@@ -165,7 +168,7 @@ class Translating(unittest.TestCase):
             self.assertEqual(self.translation.line(5, command), line)
 
     def test_faults(self):
-        for command in ("call Ask(Cake) 7", "call Ask(Cake) 7 0", "func Note soup", "call", "tick x", "jump"):
+        for command in ("call Ask(Cake) 7", "call Ask(Cake) 7 0", "call Ask(Tea) 7 8", "call Ready(x) 7 8", "proc Cook Cake", "func Note soup", "call", "tick x", "jump"):
             with self.assertRaises(texts.Fault):
                 self.translation.line(5, command)
 

@@ -117,6 +117,8 @@ package body Pobj_Texts is
 
    function Actual (Line : Value; Place : Positive) return String is (Word (Line, Place + 1));
 
+   function Has_Actual (Line : Value; Place : Positive) return Boolean is (Actual (Line, Place) /= "");
+
    function Discriminant (Place : Positive) return String is (Word (1, Place));
 
    function Has_Discriminant (Place : Positive) return Boolean is (Discriminant (Place) /= "");

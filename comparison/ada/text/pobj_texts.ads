@@ -24,7 +24,8 @@ package Pobj_Texts is
    --  The operation that the command of that line is about.
    function Operation (Line : Value) return Positive;
 
-   --  The actual parameter at that place.
+   --  The actual parameter at that place, if it is there.
+   function Has_Actual (Line : Value; Place : Positive) return Boolean;
    function Actual (Line : Value; Place : Positive) return String;
 
    --  The discriminant at that place of the line `unit`, if it is there.
