@@ -4,6 +4,7 @@ are a function that counts the calls on each entry, notes at the beginning of en
 the `protected` of a single object. With clauses are moved away, and packages lose the names of their parents."""
 
 import dataclasses
+import itertools
 import re
 
 # Elements of Ada (2.2). A tick after a name is an attribute's.
@@ -88,7 +89,7 @@ class Unit:
     changes: list
     # For each record type its components as parameters.
     records: dict
-    # How each name is spelled first, by its capitals.
+    # How each name is spelled, by its capitals.
     spellings: dict
 
     @property
@@ -363,10 +364,21 @@ def formal_types(reader):
     return found, reader.name().split(".")[-1]
 
 
+def declared_names(reader):
+    """Yields the literals of enumeration types and the exceptions, as they are declared."""
+    elements = reader.elements
+    words = [element.lower for element in elements]
+    for at, word in enumerate(words):
+        if word == "(" and words[at - 1] == "is" and words[at - 3] == "type":
+            yield from itertools.takewhile(lambda element: element.text != ")", elements[at:])
+        elif word == "exception" and words[at - 1] == ":":
+            yield from itertools.takewhile(lambda element: element.text != ";", elements[at - 2::-1])
+
+
 def spelled(reader):
-    """Returns how each name is spelled first, by its capitals."""
+    """Returns how each name is spelled, by its capitals: a literal or an exception as it is declared, any other as it comes first."""
     found = {}
-    for element in reader.elements:
+    for element in itertools.chain(declared_names(reader), reader.elements):
         if element.kind == "word":
             found.setdefault(element.text.upper(), element.text)
     return found

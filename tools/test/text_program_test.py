@@ -14,11 +14,11 @@ import text_driver
 import text_program
 import texts
 
-TEXT = """--  A kitchen: "protected type" in a comment and the string "requeue" mean nothing.
+TEXT = """--  A kitchen (SOUP, no_soup): "protected type" in a comment and the string "requeue" mean nothing.
 with Ada.Text_IO; -- a context clause
 
 package Kitchens is
-   type Dish is (Soup, Cake);
+   SOUP_SIZE : constant := 3; type Dish is (Soup, Cake); No_Soup, Late : exception; -- soup, LATE
    type Order is record
       What : Dish := Soup;
       Size : Positive := 1;
@@ -87,8 +87,8 @@ class Reading(unittest.TestCase):
 
     def test_names(self):
         self.assertEqual((self.unit.name, self.unit.packages, self.unit.discriminants), ("Kitchen", ["Kitchens"], []))
-        self.assertEqual([texts.spelled(self.unit, word) for word in ("SOUP", "TRUE", "PROGRAM_ERROR", "7")],
-                         ["Soup", "True", "Program_Error", "7"])
+        self.assertEqual([texts.spelled(self.unit, word) for word in ("SOUP", "TRUE", "PROGRAM_ERROR", "7", "NO_SOUP", "SOUP_SIZE")],
+                         ["Soup", "True", "Program_Error", "7", "No_Soup", "SOUP_SIZE"])
 
     def test_discriminants(self):
         text = "protected type Cup (Size : Positive; Hot : Boolean := True) is end Cup; protected body Cup is end Cup;"
@@ -177,7 +177,7 @@ class Translating(unittest.TestCase):
             "#1", "raised 1", "2 done 2", "3 cancelled", "1 done 3", "4 cancelled", "5 program_error", "Entry_1(2) 7", "Entry_2 0", "clock 0",
             "= 1 0 raised NO_SOUP", "= 2 9 done 7 CAKE", "= 3 8 done", "! 1 8", "! 2 9", "! 4 2"])
         self.assertEqual(texts.Answers(self.translation, written).lines(), [
-            "#1", "raised NO_SOUP", "4 ?", "1 done", "2 done 7 Cake", "3 cancelled", "5 program_error", "Ask(Cake) 7", "Wash 0", "clock 0"])
+            "#1", "raised No_Soup", "4 ?", "1 done", "2 done 7 Cake", "3 cancelled", "5 program_error", "Ask(Cake) 7", "Wash 0", "clock 0"])
 
 
 if __name__ == "__main__":
