@@ -117,14 +117,15 @@ def take_answers(texts, room):
         tried[texts[int(name)]] = answers_to_it if statuses[name] == "0" else None
 
 
-def try_scripts(texts):
-    """Has one trial of pobj's sources carry out all scripts, if pobj isn't built. If it is, of_pobj runs it for each."""
+def try_scripts(texts, unit=()):
+    """Has one trial of pobj's sources carry out all scripts, if pobj isn't built. If it is, of_pobj runs it for each. The unit is one
+    of the eight, or that of the file with an Ada text."""
     if "POBJ" in os.environ or not texts:
         return
     with tempfile.TemporaryDirectory() as name:
         room = pathlib.Path(name)
         lay_out(texts, room / "cases")
-        status = subprocess.run([str(TRIAL), name], stdin=subprocess.DEVNULL).returncode
+        status = subprocess.run([TRIAL, name, *unit], stdin=subprocess.DEVNULL).returncode
         if status == NO_RT:
             raise Missing("pobj isn't built, and the command rt isn't found: see \"Limits and the kit\" in README.md")
         if status != IS_BUILT:

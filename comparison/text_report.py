@@ -11,8 +11,6 @@ import text_random
 import texts
 
 EXAMPLES = programs.TOP / "examples" / "ada"
-# How long pobj may take, in seconds: a trial of its sources takes a minute or two.
-LIMIT = 600
 FAULT, REFUSED, NO_RT = 1, 2, 6
 
 
@@ -24,9 +22,18 @@ class Refused(Exception):
     """Pobj finds a fault in the script or in the text. The message is its own."""
 
 
+def tried(script):
+    """Returns what a trial of pobj's sources wrote."""
+    if programs.tried[script] is None:
+        raise Refused("the trial ended with status 1")
+    return programs.tried[script]
+
+
 def of_pobj(file, script):
     """Returns what pobj writes."""
-    ended = programs.run([programs.POBJ, "run", "--unit", str(file)], script, LIMIT)
+    if script in programs.tried:
+        return tried(script)
+    ended = programs.run([programs.POBJ, "run", "--unit", str(file)], script)
     if ended.returncode == REFUSED:
         raise NoRunner
     if ended.returncode == NO_RT:
@@ -114,22 +121,23 @@ def compare_fault(text, script, fault):
         return 1
     except (Refused, NoRunner):
         print(f"not expressible: a fault of the script itself: {fault}")
-        return 0
+    return 0
 
 
 def one_script(file, text_file):
     """Compares one script, and returns the status."""
     script = programs.text_of(file)
-    text = texts.build(text_file, texts.wanted(script))
+    text, found = texts.build(text_file, texts.wanted(script)), None
     try:
         texts.Translation(text, script).text()
     except texts.Fault as fault:
-        return compare_fault(text, script, fault)
+        found = fault
     except texts.NotExpressible as why:
         print(f"not expressible: {why}")
         return 0
+    programs.try_scripts([script, programs.shown(script)], [text_file])
     try:
-        return compare(text, script)
+        return compare(text, script) if found is None else compare_fault(text, script, found)
     except NoRunner:
         return compare_stored(text, file)
 
@@ -161,8 +169,9 @@ def all_texts():
 def random_ones(seed, count, text_file):
     """Compares random scripts, and returns the status. The first one that differs is kept as a file."""
     text, agreed, first = texts.build(text_file), 0, None
-    for place in range(count):
-        script = text_random.script(text, seed, place, programs.runtime is None)
+    scripts = [text_random.script(text, seed, place, programs.runtime is None) for place in range(count)]
+    programs.try_scripts([programs.shown(script) for script in scripts], [text_file])
+    for place, script in enumerate(scripts):
         shown = programs.shown(script)
         try:
             written = of_pobj(text_file, shown)
