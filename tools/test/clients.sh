@@ -63,8 +63,8 @@ count_rows() {
   [ "$status" -eq 0 ] || fail "./compare ${*:2} ended with status $status: $(cat "$scratch/rows" "$scratch/rows.faults")"
 }
 
-# Runs, if GNAT is there, the tests of bindings/ada, Ada programs, and scripts that GNAT's tasks carry out over the engine, and counts
-# the instructions of calls.
+# Runs, if GNAT is there, the tests of bindings/ada, Ada programs, and scripts that GNAT's tasks carry out over the engine, those of
+# examples/ada without it too, and counts the instructions of calls.
 ada_clients() {
   if ! command -v gnatmake >/dev/null; then
     report "the Ada tests are skipped: there is no gnatmake"
@@ -73,6 +73,8 @@ ada_clients() {
   count_clients "$scratch/ada-tests" "the Ada tests" bindings/ada/tests/run.sh "$scratch/lib" "$scratch/ada"
   export POBJ=$top/crates/pobj_run/out/pobj_run
   count_rows ' (same|not expressible)' scripts over "$scratch/ada"
+  count_rows ' (same|not expressible)' texts
+  count_rows ' (same|not expressible)' texts over "$scratch/ada"
   count_rows '  same +same$' ada "$scratch/ada"
   count_rows '^\| `[a-z]+` .* [0-9]+ \|$' ada instructions "$scratch/ada"
   export -n POBJ

@@ -3,11 +3,11 @@
 # Tests of the parts of these tests: the scripts of Python, the counts of jobs, and the lines that say what runs. Also tests of
 # the changes of GNAT's units. Read by `test`.
 
-# Runs the tests of the scripts that count definitions, look for words, try wrong bodies, change units of GNAT's, and show records
-# of Ada programs.
+# Runs the tests of the scripts that count definitions, look for words, try wrong bodies, change units of GNAT's, show records
+# of Ada programs, and make Ada programs of Ada texts.
 scripts_are_tested() {
   local name
-  for name in walk words wrong_bodies change trace; do
+  for name in walk words wrong_bodies change trace text_program; do
     python3 "tools/test/${name}_test.py" >"$scratch/$name-test" 2>&1 || sed '$d' "$scratch/$name-test"
     count "$scratch/$name-test" "tools/test/${name}_test.py"
   done
