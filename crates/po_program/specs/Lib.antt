@@ -1,1 +1,3 @@
 -- SPDX-License-Identifier: MIT
+pub mod Exceptions
+pub mod Operators

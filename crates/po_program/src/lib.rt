@@ -5,6 +5,7 @@
 #![tactic(auto)]
 
 mod exceptions;
+mod operators;
 mod tree;
 
 pub use exceptions::{ASSERTION_ERROR, CONSTRAINT_ERROR, FIRST_DECLARED, MESSAGES, PROGRAM_ERROR, STORAGE_ERROR, TASKING_ERROR, TOO_MANY_REQUEUES, TOO_MANY_TURNS};

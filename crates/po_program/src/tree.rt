@@ -47,8 +47,9 @@ pub enum Binary {
     Mod(Base),
     /// `rem`, which has the sign of the dividend (4.5.5).
     Rem(Base),
-    /// `**`, whose exponent is of the subtype Natural, 0 to 2 ** 31 - 1 (4.5.6).
-    Power(Base),
+    /// `**` of a signed type, whose exponent is of the subtype Natural, 0 to 2 ** 31 - 1 (4.5.6). (Of a modular type, `**` is a
+    /// loop of multiplications.)
+    Power(Range),
     /// `and` of Booleans, and bit by bit of modular types; neither operand is negative (4.5.1).
     And(Base),
     /// `or`, like `and`.
