@@ -9,7 +9,7 @@ use crate::exceptions::CONSTRAINT_ERROR;
 use crate::tree::{Base, Binary, Range, Unary};
 
 /// Any number that a cell can hold.
-const WIDEST: Range = Range {
+pub(crate) const WIDEST: Range = Range {
     low: -9_223_372_036_854_775_808,
     high: 9_223_372_036_854_775_807,
 };
