@@ -5,6 +5,7 @@
 #![tactic(auto)]
 
 mod exceptions;
+mod execution;
 mod operators;
 mod tree;
 mod values;
