@@ -173,3 +173,16 @@ entered (Some p) s k b m = cond (nat_lt most_slots (b + p.slots)) (Raised storag
 abbrev pub called : ℕ → Setting → Calls
 called zero s o b m = (Raised storage_error, m)
 called (suc d) s o b m = entered (slice_get s.operations o) s (called d s) b m
+
+-- How an operation ends, and the data and the slots that it leaves.
+abbrev pub without_left : Ended → Completion × List ℤ × List ℤ
+without_left r = (r.0, r.1.object, r.1.stack)
+
+-- An operation inside of which calls are nested less than n deep, and loops make at most t turns.
+abbrev pub executed_within : ℕ → ℕ → Setting → ℕ → List ℤ → List ℤ → Completion × List ℤ × List ℤ
+executed_within n t s o d l = without_left (called n s o 0 (memory d l t))
+
+-- How an operation ends that a call from outside names, or that is an entry's barrier or body, and what it leaves: calls are
+-- nested at most 16 deep, and loops make at most a million turns (this project's own).
+unfoldable pub operation_executed : Setting → ℕ → List ℤ → List ℤ → Completion × List ℤ × List ℤ
+operation_executed s o d l = executed_within 16 1000000 s o d l

@@ -3,7 +3,7 @@
 
 ghost use Rattle.std.specs.Prelude.{◌≡◌, ℕ, suc, ◌+◌, pos};
 ghost use Rattle.po_program.specs.Values.{value_of};
-ghost use Rattle.po_program.specs.Execution.{assigned, assigned_at, called, data_of, exception, executed, exited, finished, memory, requeued, setting_of, set_cell, set_component, then_executed, turns, with_number};
+ghost use Rattle.po_program.specs.Execution.{assigned, assigned_at, called, data_of, exception, executed, executed_within, exited, finished, memory, operation_executed, requeued, setting_of, set_cell, set_component, then_executed, turns, with_number};
 
 use crate::exceptions::{PROGRAM_ERROR, STORAGE_ERROR, TOO_MANY_TURNS};
 use crate::tree::{Area, Completion, Expr, Program, Stmt};
@@ -11,6 +11,12 @@ use crate::values::value;
 
 /// How many slots all frames have together.
 pub const MOST_SLOTS: u16 = 256;
+
+/// How deep calls may be nested, the call from outside counted.
+pub const MOST_CALLS: u8 = 16;
+
+/// How many turns the loops of an operation may make together.
+pub const MOST_TURNS: u32 = 1_000_000;
 
 /// What the operations of a protected action find.
 #[derive(Clone, Copy)]
@@ -230,4 +236,28 @@ fn call(setting: &Setting<'_>, operation: u16, base: u32, object: &mut [i64], st
         return Completion::Raised(STORAGE_ERROR);
     }
     finish(execute(setting, &operation.body, object, stack, left, base as u16, depth - 1))
+}
+
+/// Executes an operation whose frame begins with the first slot, within these limits.
+fn execute_within(setting: &Setting<'_>, operation: u16, object: &mut [i64], stack: &mut [i64], turns: u32, calls: u8) -> Completion
+    ensures {
+        let found = setting_of setting.now.program.now.operations.items setting.now.constant.now setting.now.counts.now in
+        (result, object.new, stack.new) ≡ executed_within calls turns found operation object.old stack.old
+    }
+{
+    let mut left = turns;
+    call(setting, operation, 0, object, stack, &mut left, calls)
+}
+
+/// Executes an operation of the object: one that a call from outside names, or an entry's barrier or body. The first slots have
+/// the values of its parameters before and after.
+///
+/// A requeue is told by `Requeued`; any other end that isn't an exception is `Normal`.
+pub fn execute_operation(setting: &Setting<'_>, operation: u16, object: &mut [i64], stack: &mut [i64]) -> Completion
+    ensures {
+        let found = setting_of setting.now.program.now.operations.items setting.now.constant.now setting.now.counts.now in
+        (result, object.new, stack.new) ≡ operation_executed found operation object.old stack.old
+    }
+{
+    execute_within(setting, operation, object, stack, MOST_TURNS, MOST_CALLS)
 }
