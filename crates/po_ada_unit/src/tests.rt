@@ -1,8 +1,14 @@
 // SPDX-License-Identifier: MIT
 //! Units of programs that are built by hand.
 
+ghost use Rattle.std.specs.Prelude.{◌≡◌, ◌<◌, length, IsTrue};
+ghost use Rattle.po_ada_unit.specs.Object.{ada_meaning};
+
 use super::*;
-use po_program::{Area, Base, Binary, Entry, Expr, Operation, Program, Range, STORAGE_ERROR, Stmt, TOO_MANY_REQUEUES, TOO_MANY_TURNS};
+use po_program::{
+    Area, Base, Binary, Entry, Expr, Operation, Program, Range, STORAGE_ERROR, Stmt,
+    TOO_MANY_REQUEUES, TOO_MANY_TURNS,
+};
 use po_unit::{Outcome, Unit};
 use std::alloc::{AllocError, Global};
 use std::sync::Arc;
@@ -65,12 +71,25 @@ fn values(first: i128, second: i128) -> Values {
 /// A function that calls itself for its argument less one, and multiplies.
 fn factorial(alloc: Global) -> Result<Program, AllocError> {
     let mut program = program_of(alloc, 0)?;
-    let less = Stmt::Assign(Area::Frame, 8, binary(alloc, Binary::Subtract(LONG), slot(0), Expr::Number(1))?);
-    let product = Stmt::Assign(Area::Frame, 0, binary(alloc, Binary::Multiply(LONG), slot(0), slot(8))?);
+    let less = Stmt::Assign(
+        Area::Frame,
+        8,
+        binary(alloc, Binary::Subtract(LONG), slot(0), Expr::Number(1))?,
+    );
+    let product = Stmt::Assign(
+        Area::Frame,
+        0,
+        binary(alloc, Binary::Multiply(LONG), slot(0), slot(8))?,
+    );
     let call = then(alloc, Stmt::Call(1, 8), product)?;
     let inner = then(alloc, less, call)?;
     let is_last = binary(alloc, Binary::AtMost, slot(0), Expr::Number(1))?;
-    let body = choose(alloc, is_last, Stmt::Assign(Area::Frame, 0, Expr::Number(1)), inner)?;
+    let body = choose(
+        alloc,
+        is_last,
+        Stmt::Assign(Area::Frame, 0, Expr::Number(1)),
+        inner,
+    )?;
     add_operation(&mut program, 9, body)?;
     program.functions.push(1)?;
     Ok(program)
@@ -79,9 +98,18 @@ fn factorial(alloc: Global) -> Result<Program, AllocError> {
 /// A procedure that divides its first argument by its second, or gives -1 if that raises Constraint_Error; and one that loops.
 fn quotient(alloc: Global) -> Result<Program, AllocError> {
     let mut program = program_of(alloc, 0)?;
-    let divide = Stmt::Assign(Area::Frame, 0, binary(alloc, Binary::Divide(LONG), slot(0), slot(1))?);
+    let divide = Stmt::Assign(
+        Area::Frame,
+        0,
+        binary(alloc, Binary::Divide(LONG), slot(0), slot(1))?,
+    );
     let serves = Expr::In(CONSTRAINT_ERRORS, Box::new(alloc, slot(8))?);
-    let handler = choose(alloc, serves, Stmt::Assign(Area::Frame, 0, Expr::Number(-1)), Stmt::Raise(slot(8)))?;
+    let handler = choose(
+        alloc,
+        serves,
+        Stmt::Assign(Area::Frame, 0, Expr::Number(-1)),
+        Stmt::Raise(slot(8)),
+    )?;
     let body = Stmt::Handle(Box::new(alloc, divide)?, 8, Box::new(alloc, handler)?);
     add_operation(&mut program, 9, body)?;
     add_operation(&mut program, 9, Stmt::Loop(Box::new(alloc, Stmt::Null)?))?;
@@ -98,7 +126,11 @@ fn buffer(alloc: Global) -> Result<Program, AllocError> {
     add_operation(&mut program, 9, has_room)?;
     let sum = binary(alloc, Binary::Add(LONG), data(2), data(3))?;
     let place = binary(alloc, Binary::Mod(LONG), sum, Expr::Number(2))?;
-    let more = Stmt::Assign(Area::Object, 3, binary(alloc, Binary::Add(LONG), data(3), Expr::Number(1))?);
+    let more = Stmt::Assign(
+        Area::Object,
+        3,
+        binary(alloc, Binary::Add(LONG), data(3), Expr::Number(1))?,
+    );
     let put = then(alloc, Stmt::AssignAt(Area::Object, 0, place, slot(0)), more)?;
     add_operation(&mut program, 9, put)?;
     program.entries.push(Entry {
@@ -112,7 +144,11 @@ fn buffer(alloc: Global) -> Result<Program, AllocError> {
 /// An entry whose body requeues its call to this entry.
 fn requeue_to(alloc: Global, target: u16) -> Result<Program, AllocError> {
     let mut program = program_of(alloc, 0)?;
-    add_operation(&mut program, 9, Stmt::Requeue(target, Expr::Number(0), true))?;
+    add_operation(
+        &mut program,
+        9,
+        Stmt::Requeue(target, Expr::Number(0), true),
+    )?;
     program.entries.push(Entry {
         barrier: 0,
         body: 1,
@@ -121,43 +157,111 @@ fn requeue_to(alloc: Global, target: u16) -> Result<Program, AllocError> {
     Ok(program)
 }
 
+/// Whether the counts are of all entries, and there is this one.
+fn is_entry(unit: &AdaUnit, e: u16, counts: &[u64]) -> bool
+    ensures { IsTrue result → (e < ada_meaning.entries unit.now) × (length counts.now ≡ ada_meaning.entries unit.now) }
+{
+    e < unit.entries() && counts.len() == usize::from(unit.entries())
+}
+
+fn barrier(unit: &AdaUnit, counts: &[u64]) -> Option<Result<bool, u32>> {
+    if is_entry(unit, 0, counts) {
+        Some(unit.barrier(0, counts))
+    } else {
+        None
+    }
+}
+
+fn body(unit: &mut AdaUnit, v: Values, counts: &[u64]) -> Option<Outcome<Values>> {
+    if is_entry(unit, 0, counts) {
+        Some(unit.body(0, v, counts))
+    } else {
+        None
+    }
+}
+
+fn procedure(unit: &mut AdaUnit, op: u16, v: Values) -> Option<Result<Values, u32>> {
+    if op < unit.procedures() && unit.entries() == 0 {
+        Some(unit.procedure(op, v, &[]))
+    } else {
+        None
+    }
+}
+
+fn function(unit: &AdaUnit, v: Values) -> Option<Result<Values, u32>> {
+    if 0 < unit.functions() && unit.entries() == 0 {
+        Some(unit.function(0, v, &[]))
+    } else {
+        None
+    }
+}
+
 #[test]
 fn functions_recur(rt: HostRuntime) -> Result<(), Fail> {
     let unit = AdaUnit::new(rt.alloc(), Arc::new(rt.alloc(), factorial(rt.alloc())?)?)?;
-    assert_eq!(rt; unit.function(0, values(5, 0), &[]), Ok(values(120, 0)));
-    assert_eq!(rt; unit.function(0, values(16, 0), &[]), Ok(values(20_922_789_888_000, 0)));
-    assert_eq!(rt; unit.function(0, values(17, 0), &[]), Err(STORAGE_ERROR));
+    assert_eq!(rt; function(&unit, values(5, 0)), Some(Ok(values(120, 0))));
+    assert_eq!(rt;
+        function(&unit, values(16, 0)),
+        Some(Ok(values(20_922_789_888_000, 0)))
+    );
+    assert_eq!(rt; function(&unit, values(17, 0)), Some(Err(STORAGE_ERROR)));
     Ok(())
 }
 
 #[test]
 fn exceptions_are_handled(rt: HostRuntime) -> Result<(), Fail> {
     let mut unit = AdaUnit::new(rt.alloc(), Arc::new(rt.alloc(), quotient(rt.alloc())?)?)?;
-    assert_eq!(rt; unit.procedure(0, values(-7, 2), &[]), Ok(values(-3, 2)));
-    assert_eq!(rt; unit.procedure(0, values(-7, 0), &[]), Ok(values(-1, 0)));
-    assert_eq!(rt; unit.procedure(1, values(0, 0), &[]), Err(TOO_MANY_TURNS));
+    assert_eq!(rt;
+        procedure(&mut unit, 0, values(-7, 2)),
+        Some(Ok(values(-3, 2)))
+    );
+    assert_eq!(rt;
+        procedure(&mut unit, 0, values(-7, 0)),
+        Some(Ok(values(-1, 0)))
+    );
+    assert_eq!(rt;
+        procedure(&mut unit, 1, values(0, 0)),
+        Some(Err(TOO_MANY_TURNS))
+    );
     Ok(())
 }
 
 #[test]
 fn buffers_fill(rt: HostRuntime) -> Result<(), Fail> {
     let mut unit = AdaUnit::new(rt.alloc(), Arc::new(rt.alloc(), buffer(rt.alloc())?)?)?;
-    assert_eq!(rt; unit.barrier(0, &[0]), Ok(true));
-    assert_eq!(rt; unit.body(0, values(7, 0), &[0]), Outcome::Complete(values(7, 0)));
-    assert_eq!(rt; unit.body(0, values(8, 0), &[0]), Outcome::Complete(values(8, 0)));
-    assert_eq!(rt; unit.barrier(0, &[0]), Ok(false));
+    assert_eq!(rt; barrier(&unit, &[0]), Some(Ok(true)));
+    assert_eq!(rt;
+        body(&mut unit, values(7, 0), &[0]),
+        Some(Outcome::Complete(values(7, 0)))
+    );
+    assert_eq!(rt;
+        body(&mut unit, values(8, 0), &[0]),
+        Some(Outcome::Complete(values(8, 0)))
+    );
+    assert_eq!(rt; barrier(&unit, &[0]), Some(Ok(false)));
     assert_eq!(rt; unit.cells(), [7, 8, 0, 2].as_slice());
     Ok(())
 }
 
 #[test]
 fn requeues_run_out(rt: HostRuntime) -> Result<(), Fail> {
-    let mut unit = AdaUnit::new(rt.alloc(), Arc::new(rt.alloc(), requeue_to(rt.alloc(), 0)?)?)?;
+    let mut unit = AdaUnit::new(
+        rt.alloc(),
+        Arc::new(rt.alloc(), requeue_to(rt.alloc(), 0)?)?,
+    )?;
     let mut last = values(3, 0);
     last.requeues = 1;
     let mut none = last;
     none.requeues = 0;
-    assert_eq!(rt; unit.body(0, last, &[0]), Outcome::Requeue { target: 0, with_abort: true, value: none });
-    assert_eq!(rt; unit.body(0, none, &[0]), Outcome::Raise(TOO_MANY_REQUEUES));
+    let requeued = Outcome::Requeue {
+        target: 0,
+        with_abort: true,
+        value: none,
+    };
+    assert_eq!(rt; body(&mut unit, last, &[0]), Some(requeued));
+    assert_eq!(rt;
+        body(&mut unit, none, &[0]),
+        Some(Outcome::Raise(TOO_MANY_REQUEUES))
+    );
     Ok(())
 }

@@ -23,7 +23,6 @@ pub struct AdaUnit {
 impl Model for AdaUnit {
     ghost use Rattle.std.specs.Arc.{arc_value};
     ghost use Rattle.po_ada_unit.specs.Object.{Object, object};
-
     ghost use Rattle.po_program.specs.contracts.tree.Stmt as stmt;
     ghost use Rattle.std.specs.Coded.{codes};
 

@@ -151,7 +151,10 @@ fn subtract_modular(modulus: u128, a: i128, b: i128) -> Result<i128, u32>
     if !can_be_modulus(modulus) {
         return Err(CONSTRAINT_ERROR);
     }
-    wrap(modulus, reduce(modulus, a) + modulus.saturating_sub(reduce(modulus, b)))
+    wrap(
+        modulus,
+        reduce(modulus, a) + modulus.saturating_sub(reduce(modulus, b)),
+    )
 }
 
 fn exact_product(a: i64, b: i64) -> i128
@@ -175,7 +178,11 @@ fn multiply(base: Base, a: i128, b: i128) -> Result<i128, u32>
             let b = narrow(b)?;
             check(range, exact_product(a, b))
         }
-        Base::Modular(modulus) => multiply_modular(modulus, reduce(modulus, a) as u64, reduce(modulus, b) as u64),
+        Base::Modular(modulus) => multiply_modular(
+            modulus,
+            reduce(modulus, a) as u64,
+            reduce(modulus, b) as u64,
+        ),
     }
 }
 

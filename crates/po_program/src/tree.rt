@@ -68,7 +68,7 @@ pub enum Binary {
     Max,
 }
 
-/// Where a cell is.
+/// The list that a cell is in.
 #[derive(Clone, Copy, Debug, PartialEq, Eq)]
 pub enum Area {
     /// Among the data of the protected object. Functions and barriers read them and change none (9.5.1).

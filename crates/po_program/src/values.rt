@@ -26,7 +26,13 @@ fn read_at(cells: &[i128], first: u32, distance: i128) -> Result<i128, u32>
     read(cells, first as usize + distance as usize)
 }
 
-fn read_variable(area: Area, object: &[i128], stack: &[i128], base: u16, i: u16) -> Result<i128, u32>
+fn read_variable(
+    area: Area,
+    object: &[i128],
+    stack: &[i128],
+    base: u16,
+    i: u16,
+) -> Result<i128, u32>
     ensures { result ≡ variable area object.now stack.now base i }
 {
     match area {
@@ -35,7 +41,14 @@ fn read_variable(area: Area, object: &[i128], stack: &[i128], base: u16, i: u16)
     }
 }
 
-fn read_component(area: Area, object: &[i128], stack: &[i128], base: u16, i: u16, distance: i128) -> Result<i128, u32>
+fn read_component(
+    area: Area,
+    object: &[i128],
+    stack: &[i128],
+    base: u16,
+    i: u16,
+    distance: i128,
+) -> Result<i128, u32>
     ensures { result ≡ component_of area object.now stack.now base i distance }
 {
     match area {
@@ -87,7 +100,13 @@ fn contains(range: Range, n: i128) -> bool
 }
 
 /// Returns the value of an expression, or the number of the exception that it raises.
-pub(crate) fn value(e: &Expr, object: &[i128], stack: &[i128], base: u16, counts: &[u64]) -> Result<i128, u32>
+pub(crate) fn value(
+    e: &Expr,
+    object: &[i128],
+    stack: &[i128],
+    base: u16,
+    counts: &[u64],
+) -> Result<i128, u32>
     ensures { result ≡ value_of e.now object.now stack.now base counts.now }
 {
     match e {
