@@ -13,16 +13,15 @@
 #![tactic(auto)]
 
 pub mod chunk;
-pub mod collection;
 pub mod cutter;
 pub mod facts;
 mod interpreter;
-pub mod lines;
+mod lines;
 mod object;
 mod operate;
 pub mod run;
 pub mod session;
-pub mod tickets;
+mod tickets;
 pub mod units;
 
 pub use crate::facts::UnitFacts;
