@@ -1,8 +1,9 @@
 -- A call that arrives alone, with a closed barrier: it waits, or it is turned away.
-use Rattle.std.proofs.Common.{ℕ, ◌≡◌, ◌∙◌, ◌<◌, ◌==◌, max, List, [], ◌∷◌, ◌++◌, length, false, true, Option, None, Some, ap, refl, sym, subst, arith, append_assoc, append-nil, inl, inr, count_by}
+use Rattle.std.proofs.Common.{ℕ, ◌≡◌, ◌∙◌, ◌<◌, ◌==◌, nat_le, List, [], ◌∷◌, ◌++◌, length, false, true, Option, None, Some, ap, refl, sym, subst, arith, append_assoc, append-nil, inl, inr, count_by}
 use Rattle.std.specs.Prelude.{IsSome, IsSomeAnd}
 use Rattle.std.specs.List.{All, find, slice_index}
-use Rattle.std.proofs.lemmas.Bool.{cases_Bool, ne_eqb}
+use Rattle.std.proofs.lemmas.Bool.{cases_Bool}
+use Rattle.std.proofs.lemmas.Bool.Decides.{nat_tests}
 use Rattle.std.proofs.lemmas.List.Elements.{All-nil, All-push}
 use Rattle.po_calls.specs.declared.call.Call.{Call}
 use Rattle.po_calls.specs.declared.end.End.TheVariants.{Cancelled as IsCancelled}
@@ -27,17 +28,14 @@ use Rattle.po_driven.proofs.Passing.{cancelled_traced, in_queue, queue_traced}
 use Rattle.po_driven.proofs.Traces.{found_last}
 
 -- an empty queue isn't full
-full_never : (limit : ℕ) → is_full (full_at limit 0) 0 ≡ false
-full_never limit = elim (cases_Bool (limit == 0)) [
-  | inl none ↦ rw none refl
-  | inr some ↦ rw some (ne_eqb 0 (max limit 0) (λ e. absurd (ne_zero limit some (omega (arith, e)))))
-]
+full_never : (limit : ℕ) → is_full (full_at limit) 0 ≡ false
+full_never limit = elim (cases_Bool (limit == 0)) [ inl none ↦ rw none refl | inr some ↦ rw some (never limit some) ]
   where
-    ne_zero : (n : ℕ) → (n == 0) ≡ false → n ≡ 0 → ⊥
-    ne_zero n h e = let bad : true ≡ false = sym (ap (λ k. k == 0) e) ∙ h in absurd (cc)
+    never : (n : ℕ) → (n == 0) ≡ false → nat_le n 0 ≡ false
+    never n h = grind (arith, nat_tests, h)
 
 pub open_alone : (d : DrivenView) (e : ℕ) → d.calls.object.state.waiting ≡ [] → is_full (longest_on d e) 0 ≡ false
-open_alone d e none = ap (λ xs. is_full (full_at (slice_index d.limits e) (count_by (is_on e) xs)) 0) none ∙ full_never (slice_index d.limits e)
+open_alone d e none = full_never (slice_index d.limits e)
 
 -- what is queued after a call has arrived alone
 entered_alone : (limit : Option ℕ) (s : ObjectState ℕ ℕ) (x : Call ℕ) → s.waiting ≡ [] → is_full limit 0 ≡ false → (enter limit s x).waiting ≡ x ∷ []
@@ -141,7 +139,7 @@ module _ (d new : DrivenView) (a : Arriving ℕ) (alone : ArrivesAlone a d) (due
   -- it is turned away: what leads there
   pub turned_between : IsDriven d → new.calls ≡ ended.calls → new.limits ≡ d.limits → new.phase ≡ Resting → new.closed ≡ [] → TurnsAwayBetween a d new
   turned_between is calls limits resting closed =
-      let idle = resting_idle d is alone.may.resting in
+      let idle = resting_idle d is alone.may.accepts.resting in
       let found = due_alone d.calls.object.state.clock away queued.calls.object.state.waiting only due in
       let told : NamedCall = record { caller = a.value; key = length d.calls.object.tickets; number = d.calls.object.state.next } in
       record {

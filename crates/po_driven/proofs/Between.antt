@@ -56,7 +56,7 @@ resting_idle d is resting =
 
 -- a call that may have been served is accepted
 pub may_issue : (d : DrivenView) (e : ℕ) → MayServe d → e < d.calls.object.state.unit → MayIssue d e
-may_issue d e may entry = record { resting = may.resting; alive = may.alive; entry = entry; number = may.number; place = omega (arith, may.place) }
+may_issue d e may entry = record { accepts = may.accepts; entry = entry }
 
 -- a call with an open barrier is issued, and its body runs
 pub issues_open : (d : DrivenView) (a : Arriving ℕ) → MayIssue d a.entry → is_withdrawn a ≡ false → Issues a Open (named a) d (running d a) (Run a.entry)
@@ -263,7 +263,7 @@ module _ (d m new : DrivenView) (a : Arriving ℕ) (end : BodyEnd) (step : Named
   pub body_accepted : r ≢ Refused
   body_accepted =
       let awaits : Awaits Running m.calls.object m.closed = subst (λ p. Awaits p m.calls.object m.closed) running now.waits.awaits in
-      accepted_at end m r step m.calls.object.serving refl awaits (target_in end d m setup.entries was.target) (omega (arith, place_served d m a is now noted, was.may.place)) ends.accepted ends.moves
+      accepted_at end m r step m.calls.object.serving refl awaits (target_in end d m setup.entries was.target) (omega (arith, place_served d m a is now noted, was.may.second)) ends.accepted ends.moves
 
   is_taken : IsTaken r
   is_taken = taken_of m new r body_accepted ends.tells ends.kept running

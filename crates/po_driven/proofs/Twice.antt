@@ -58,7 +58,7 @@ module _ (d new : DrivenView) (a : Arriving ℕ) (r : Requeue) (may : MayServeTw
   ticket = record { caller = a.value; key = length d.calls.object.tickets; number = d.calls.object.state.next }
 
   idle : d.calls.object.serving ≡ None
-  idle = resting_idle d is may.served.may.resting
+  idle = resting_idle d is may.served.may.accepts.resting
 
   room : is_full limit 0 ≡ false
   room = open_alone d r.target may.alone
@@ -75,7 +75,7 @@ module _ (d new : DrivenView) (a : Arriving ℕ) (r : Requeue) (may : MayServeTw
       (subst (λ y. Moves (Queued r.target) r y ticket (running d a)) (same_call its x in_service) (may.kept, refl, refl))
 
   may_requeue : (q : Requeue) → Requeued r ≡ Requeued q → MayRequeue (running d a) q
-  may_requeue q e = subst (λ z. MayRequeue (running d a) z) (same_requeue q r e) (may.target, omega (arith, may.served.may.place))
+  may_requeue q e = subst (λ z. MayRequeue (running d a) z) (same_requeue q r e) (may.target, omega (arith, may.served.may.second))
 
   pub twice_between : new.calls ≡ passed_twice d.calls a (IsCompleted a.value) (Served a ∷ WasRequeued (RequeueTo r.target r.with_abort a.value) limit ∷ Selected r.target ∷ Ended (IsCompleted a.value) ∷ [])
       → new.limits ≡ d.limits → new.phase ≡ Resting → new.closed ≡ [] → ServesTwiceBetween a r d new

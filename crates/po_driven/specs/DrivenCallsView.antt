@@ -59,21 +59,18 @@ pub record IsTraced (t : DrivenCallsView) : Type 0 where
   -- the present place is the number of arrivals so far
   pub place : t.place ≡ count_by arrives t.happened
 
--- One more call on this entry may be accepted: no body runs, there is memory for it, its command has begun, the entry exists,
--- and a number and a place are left.
-pub record IsReady (t : DrivenCallsView) (e : ℕ) : Type 0 where
-  pub idle : t.object.serving ≡ None
-  pub room : uncollected t.object.tickets < t.object.most
-  pub begun : t.object.before ≡ length t.object.state.ended
-  pub entry : e < t.object.state.unit
-  pub number : t.object.state.next < 18_446_744_073_709_551_615
-  pub place : t.place < 340_282_366_920_938_463_463_374_607_431_768_211_455
-
 -- A call may be accepted that ends at once: no body runs, and a number and a place are left.
 pub record MayPass (t : DrivenCallsView) : Type 0 where
   pub idle : t.object.serving ≡ None
   pub number : t.object.state.next < 18_446_744_073_709_551_615
   pub place : t.place < 340_282_366_920_938_463_463_374_607_431_768_211_455
+
+-- One more call on this entry may be accepted: it may pass, there is memory for it, its command has begun, and the entry exists.
+pub record IsReady (t : DrivenCallsView) (e : ℕ) : Type 0 where
+  pub passes : MayPass t
+  pub room : uncollected t.object.tickets < t.object.most
+  pub begun : t.object.before ≡ length t.object.state.ended
+  pub entry : e < t.object.state.unit
 
 -- The calls after one more was accepted and has ended in this way, and this has happened. It took no room, and no ticket is left.
 abbrev pub passed : DrivenCallsView → Arriving ℕ → End ℕ → List Happening → DrivenCallsView

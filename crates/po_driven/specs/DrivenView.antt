@@ -47,14 +47,17 @@ pub record IsDriven (d : DrivenView) : Type 0 where
   pub traced : IsTraced d.calls
   pub waits : IsWaiting d
 
--- A call on this entry is accepted: the object waits for a command and isn't finalized, the entry exists, and numbers and
--- places are left.
-pub record MayIssue (d : DrivenView) (e : ℕ) : Type 0 where
+-- Calls are accepted: the object waits for a command and isn't finalized, and a number and a place are left.
+pub record AcceptsCalls (d : DrivenView) : Type 0 where
   pub resting : d.phase ≡ Resting
   pub alive : d.calls.object.state.finalized ≡ false
-  pub entry : e < d.calls.object.state.unit
   pub number : d.calls.object.state.next < 18_446_744_073_709_551_615
   pub place : d.calls.place < 340_282_366_920_938_463_463_374_607_431_768_211_455
+
+-- A call on this entry is accepted: calls are, and the entry exists.
+pub record MayIssue (d : DrivenView) (e : ℕ) : Type 0 where
+  pub accepts : AcceptsCalls d
+  pub entry : e < d.calls.object.state.unit
 
 -- What the client is told is right: what it is to do next is what the object waits for.
 abbrev pub Tells : Action → DrivenView → Type 0

@@ -16,7 +16,7 @@ returns-clause-through c =
     record {
       between = running d a;
       told = named a;
-      driven = running_driven d a is (resting_idle d is c.requires.may.resting);
+      driven = running_driven d a is (resting_idle d is c.requires.may.accepts.resting);
       issues = issues_open d a (may_issue d a.entry c.requires.may c.requires.entry) c.requires.stays;
       ends = completed d a new step r (subst (λ v. Services step v new r) at c.ask.ensures.services) (c.ask.ensures.same ∙ c.new-self-inside.ensures) (subst (λ v. LooksOn c.ask.result v.calls.object.state.waiting v.closed) at c.ask.ensures.looks_on);
     }

@@ -16,7 +16,7 @@ returns-clause-through c =
     record {
       between = running d a;
       told = named a;
-      driven = running_driven d a is (resting_idle d is c.requires.may.resting);
+      driven = running_driven d a is (resting_idle d is c.requires.may.accepts.resting);
       issues = issues_open d a (may_issue d a.entry c.requires.may c.requires.entry) c.requires.stays;
       ends = failed d a new step r (subst (λ v. Services step v new r) at c.break_one.ensures.services) (c.break_one.ensures.fresh) (subst (λ v. Breaks c.break_one.result v c.break_one.new.self) at c.break_one.ensures.breaks);
     }

@@ -13,7 +13,7 @@ returns c =
     let told : DrivenCallsView → Option ℕ → DrivenCallsView = λ t l. passed_twice t a (Completed a.value) (Served a ∷ Requeued (RequeueTo r.target r.with_abort a.value) l ∷ Selected r.target ∷ Ended (Completed a.value) ∷ []) in
     let calls = c.accept_served_twice.ensures ∙ ap (λ v. told v.calls c.longest-longest.result) c.self.view_is ∙ ap (told d.calls) c.longest-longest.ensures in
     let limits = ap (λ v. v.limits) c.self.view_is in
-    let resting = ap (λ v. v.phase) c.self.view_is ∙ may.served.may.resting in
+    let resting = ap (λ v. v.phase) c.self.view_is ∙ may.served.may.accepts.resting in
     record {
       kept = λ no. absurd (cc);
       setup = record {

@@ -14,7 +14,7 @@ returns c =
     ∙ ap (λ v. passed v.calls a IsCancelled (Arrived a c.longest-longest.result ∷ Cancelled v.calls.object.state.next ∷ [])) c.self.view_is
     ∙ ap (λ l. passed d.calls a IsCancelled (Arrived a l ∷ Cancelled d.calls.object.state.next ∷ [])) c.longest-longest.ensures in
     let limits = ap (λ v. v.limits) c.self.view_is in
-    let resting = ap (λ v. v.phase) c.self.view_is ∙ alone.may.resting in
+    let resting = ap (λ v. v.phase) c.self.view_is ∙ alone.may.accepts.resting in
     record {
       kept = λ no. absurd (cc);
       setup = record {

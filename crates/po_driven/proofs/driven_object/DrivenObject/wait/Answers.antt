@@ -28,7 +28,7 @@ returns-clause-waits c =
     } in
     let number = k.number ∙ ap (λ t. t.object.state.next) roomy ∙ ap (λ v. v.calls.object.state.next) set in
     let limits = ap (λ v. v.limits) set in
-    let resting = ap (λ v. v.phase) set ∙ alone.may.resting in
+    let resting = ap (λ v. v.phase) set ∙ alone.may.accepts.resting in
     let closed = c.then-self-inside.ensures ∙ ap (λ l. l ++ a.entry ∷ []) c.new.ensures in
     record {
       kept = λ no. absurd (cc);
