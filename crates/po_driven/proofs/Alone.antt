@@ -9,13 +9,14 @@ use Rattle.po_calls.specs.declared.call.Call.{Call}
 use Rattle.po_calls.specs.declared.end.End.TheVariants.{Cancelled as IsCancelled}
 use Rattle.po_engine.specs.declared.arriving.Arriving.{Arriving}
 use Rattle.po_engine.specs.Driving.{counted, new_call}
+use Rattle.po_engine.specs.Ending.{ended_as}
 use Rattle.po_engine.specs.ObjectState.{ObjectState}
 use Rattle.po_engine.specs.Step.{enter, is_full}
 use Rattle.po_engine.specs.Tickets.{is_live, is_number, number_at}
 use Rattle.po_engine.specs.WaitingCalls.{has_number, is_due, is_on}
 use Rattle.po_engine.proofs.Absent.{eq_self}
 use Rattle.po_driven.specs.AtRest.{ToldBelow, told}
-use Rattle.po_driven.specs.DrivenCallsView.{IsTraced, KeepsRoom, passed}
+use Rattle.po_driven.specs.DrivenCallsView.{IsTraced, KeepsRoom, KeepsTickets, passed}
 use Rattle.po_driven.specs.DrivenView.{DrivenView, IsDriven}
 use Rattle.po_driven.specs.Happening.{cancellation_of}
 use Rattle.po_driven.specs.Noted.{full_at, longest_on}
@@ -25,6 +26,7 @@ use Rattle.po_driven.specs.declared.phase.Phase.TheVariants.{Asked, Resting, Set
 use Rattle.po_driven.specs.declared.words.NamedCall.{NamedCall}
 use Rattle.po_driven.proofs.Between.{resting_idle}
 use Rattle.po_driven.proofs.Passing.{cancelled_traced, in_queue, queue_traced}
+use Rattle.po_driven.proofs.Tickets.{one_issued, one_passed, same_tickets}
 use Rattle.po_driven.proofs.Traces.{found_last}
 
 -- an empty queue isn't full
@@ -60,10 +62,10 @@ module _ (d new : DrivenView) (a : Arriving ℕ) (alone : ArrivesAlone a d) wher
   pub waits_between : (step : NamedCall) → IsDriven d → IsTraced new.calls → new.limits ≡ d.limits → new.phase ≡ Resting → new.closed ≡ a.entry ∷ []
       → new.calls.object.state ≡ enter (longest_on d a.entry) (counted d.calls.object.state) its → new.calls.object.state.unit ≡ d.calls.object.state.unit
       → new.calls.object.serving ≡ None → new.calls.happened ≡ d.calls.happened ++ Arrived a (longest_on d a.entry) ∷ []
-      → KeepsRoom d.calls.object new.calls.object → step.caller ≡ a.value → step.number ≡ d.calls.object.state.next
+      → KeepsRoom d.calls.object new.calls.object → KeepsTickets d.calls.object new.calls.object → step.caller ≡ a.value → step.number ≡ d.calls.object.state.next
       → is_live new.calls.object.tickets (record { key = step.key; number = step.number }) ≡ true
       → IsSome (find (has_number step.number) new.calls.object.state.waiting) → IsSome (find (is_on a.entry) new.calls.object.state.waiting) → WaitsBetween a step d new
-  waits_between step is traced limits resting closed state unit idle noted room caller number live found on =
+  waits_between step is traced limits resting closed state unit idle noted room tickets caller number live found on =
       let asked : DrivenView = record new { phase = Asked a.entry; closed = [] } in
       let waiting = ap (λ s. s.waiting) state ∙ entered_alone (longest_on d a.entry) (counted d.calls.object.state) its alone.alone (open_alone d a.entry alone.alone) in
       record {
@@ -78,7 +80,7 @@ module _ (d new : DrivenView) (a : Arriving ℕ) (alone : ArrivesAlone a d) wher
         issues = record {
           tells = refl;
           kept = tt;
-          setup = record { entries = unit; limits = limits; room = room };
+          setup = record { entries = unit; limits = limits; room = room; tickets = tickets };
           accepted = λ may e. absurd (cc);
           refused = λ no. absurd (no alone.may);
           room = λ few e. absurd (cc);
@@ -92,7 +94,7 @@ module _ (d new : DrivenView) (a : Arriving ℕ) (alone : ArrivesAlone a d) wher
         answers = record {
           tells = resting;
           kept = tt;
-          setup = record { entries = refl; limits = refl; room = record { fixed = refl; most = λ fixed. refl } };
+          setup = record { entries = refl; limits = refl; room = record { fixed = refl; most = λ fixed. refl }; tickets = same_tickets new.calls.object new.calls.object refl refl };
           accepted = λ e q r. absurd (cc);
           refused = λ no. absurd (no a.entry refl);
           closed = λ e q. closed ∙ ap (λ k. k ∷ []) (asked_same a.entry e q);
@@ -163,7 +165,7 @@ module _ (d new : DrivenView) (a : Arriving ℕ) (alone : ArrivesAlone a d) (due
         issues = record {
           tells = refl;
           kept = tt;
-          setup = record { entries = refl; limits = refl; room = record { fixed = refl; most = λ fixed. refl } };
+          setup = record { entries = refl; limits = refl; room = record { fixed = refl; most = λ fixed. refl }; tickets = one_issued d.calls.object queued.calls.object d.calls.object.state.next refl refl };
           accepted = λ may e. absurd (cc);
           refused = λ no. absurd (no alone.may);
           room = λ few e. absurd (cc);
@@ -180,7 +182,7 @@ module _ (d new : DrivenView) (a : Arriving ℕ) (alone : ArrivesAlone a d) (due
         answers = record {
           tells = refl;
           kept = tt;
-          setup = record { entries = refl; limits = refl; room = record { fixed = refl; most = λ fixed. refl } };
+          setup = record { entries = refl; limits = refl; room = record { fixed = refl; most = λ fixed. refl }; tickets = one_passed queued.calls.object ended.calls.object d.calls.object.tickets (ended_as IsCancelled away) refl refl refl };
           accepted = λ e q r. absurd (cc);
           refused = λ no. absurd (no a.entry refl);
           closed = λ e q. ap (λ k. k ∷ []) (asked_same a.entry e q);
@@ -197,6 +199,7 @@ module _ (d new : DrivenView) (a : Arriving ℕ) (alone : ArrivesAlone a d) (due
             entries = ap (λ t. t.object.state.unit) calls;
             limits = limits;
             room = record { fixed = ap (λ t. t.object.is_fixed) calls; most = λ fixed. ap (λ t. t.object.most) calls };
+            tickets = same_tickets ended.calls.object new.calls.object (ap (λ t. t.object.tickets) calls) (ap (λ t. t.object.state.ended) calls);
           };
           accepted = λ waits e. absurd (cc);
           refused = λ no. absurd (no tt);

@@ -4,7 +4,7 @@ use Rattle.std.specs.Prelude.{ℕ, replicate, ◌≡◌, ◌≢◌, ◌<◌, Lis
 use Rattle.po_engine.specs.WaitingCalls.{is_on}
 use Rattle.po_engine.specs.StateView.{StateView}
 use Rattle.po_driven.specs.AtRest.{AskedBelow, IsAtRest, ToldBelow}
-use Rattle.po_driven.specs.DrivenCallsView.{KeepsRoom, DrivenCallsView, IsTraced}
+use Rattle.po_driven.specs.DrivenCallsView.{KeepsRoom, KeepsTickets, DrivenCallsView, IsTraced}
 use Rattle.po_driven.specs.declared.phase.Phase.{Phase}
 use Rattle.po_driven.specs.declared.phase.Phase.TheVariants.{Resting, Asked, Running, Settling, Breaking}
 use Rattle.po_driven.specs.declared.action.Action.{Action}
@@ -89,11 +89,12 @@ LeavesNamed Refused old new = new ≡ old
 LeavesNamed other old new = Unit {0}
 
 -- The setup of an object stays: how many entries it has, the limits of their queues, whether its memory is fixed, and if so,
--- for how many calls.
+-- for how many calls. And so do the tickets of calls that haven't ended.
 pub record KeepsSetup (old new : DrivenView) : Type 0 where
   pub entries : new.calls.object.state.unit ≡ old.calls.object.state.unit
   pub limits : new.limits ≡ old.limits
   pub room : KeepsRoom old.calls.object new.calls.object
+  pub tickets : KeepsTickets old.calls.object new.calls.object
 
 -- which entries count as reported closed once the client has answered for this one
 abbrev pub closed_after : List ℕ → ℕ → Barrier → List ℕ

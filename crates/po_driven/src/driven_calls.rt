@@ -15,7 +15,7 @@ ghost use Rattle.po_calls.specs.declared.end.End.TheVariants.{Cancelled as IsCan
 ghost use Rattle.po_driven.specs.AtRest.{IsAtRest};
 ghost use Rattle.po_driven.specs.Happening.{cancellation_of, end_oldest, make_due as due};
 ghost use Rattle.po_driven.specs.OnePlace.{HasTickets, IsThereOnce};
-ghost use Rattle.po_driven.specs.DrivenCallsView.{IsReady, IsTraced, KeepsRoom, MayPass, opening_calls, passed, passed_twice};
+ghost use Rattle.po_driven.specs.DrivenCallsView.{IsReady, IsTraced, KeepsRoom, KeepsTickets, MayPass, opening_calls, passed, passed_twice};
 ghost use Rattle.po_driven.specs.declared.happening.Happening.TheVariants.{Served, Arrived, Selected, Ended, RequeuedElsewhere, Due, Requeued, Broken, Cancelled, Marked, Finalized};
 
 use crate::client_unit::ClientUnit;
@@ -61,6 +61,7 @@ fn finish(state: &mut State<ClientUnit>, call: Call<u64>, end: End<u64>)
     ensures placed { IsThereOnce state.old → IsThereOnce state.new }
     ensures tickets { HasTickets state.old → HasTickets state.new }
     ensures room { KeepsRoom state.old state.new }
+    ensures tickets_kept { KeepsTickets state.old state.new }
 {
     let ticket = state.ticket_in_service(call);
     state.end_call(call, end);
@@ -84,6 +85,7 @@ fn withdraw(state: &mut State<ClientUnit>, ticket: Ticket)
     ensures placed { IsThereOnce state.old → IsThereOnce state.new }
     ensures tickets { HasTickets state.old → HasTickets state.new }
     ensures room { KeepsRoom state.old state.new }
+    ensures tickets_kept { KeepsTickets state.old state.new }
 {
     state.cancel(ticket);
     state.collect(ticket);
@@ -168,6 +170,7 @@ impl DrivenCalls {
         ensures err { OnErr result (self.new ≡ self.old) }
         ensures had_room { uncollected self.old.object.tickets < self.old.object.most → IsOk result × (self.new.object.most ≡ self.old.object.most) }
         ensures room_kept { KeepsRoom self.old.object self.new.object }
+        ensures tickets_kept { KeepsTickets self.old.object self.new.object }
     {
         if !self.state.has_room() {
             if self.state.is_fixed() {
@@ -188,6 +191,7 @@ impl DrivenCalls {
         ensures serving { self.new.object.serving ≡ Some (new_call self.old.object.state.next arriving) }
         ensures happened { self.new.happened ≡ self.old.happened ++ Served arriving ∷ [] }
         ensures room_kept { KeepsRoom self.old.object self.new.object }
+        ensures tickets_kept { KeepsTickets self.old.object self.new.object }
     {
         self.state.take_in(arriving);
         self.place += 1;
@@ -209,6 +213,7 @@ impl DrivenCalls {
         ensures live { IfSome result (λ ticket. is_live self.new.object.tickets ticket ≡ true) }
         ensures full { IfNone result (is_full longest (count_by (is_on arriving.entry) self.old.object.state.waiting) ≡ true) }
         ensures room_kept { KeepsRoom self.old.object self.new.object }
+        ensures tickets_kept { KeepsTickets self.old.object self.new.object }
     {
         let queueing = Queueing {
             max_length: longest,
@@ -317,6 +322,7 @@ impl DrivenCalls {
         ensures serving { self.new.object.serving ≡ result }
         ensures happened { self.new.happened ≡ self.old.happened ++ Selected e ∷ [] }
         ensures room_kept { KeepsRoom self.old.object self.new.object }
+        ensures tickets_kept { KeepsTickets self.old.object self.new.object }
     {
         let call = self.state.take_on(e);
         self.happened = self.happened.then(&Happening::Selected(e));
@@ -332,6 +338,7 @@ impl DrivenCalls {
         ensures serving { self.new.object.serving ≡ None }
         ensures happened { self.new.happened ≡ self.old.happened ++ Ended end ∷ [] }
         ensures room_kept { KeepsRoom self.old.object self.new.object }
+        ensures tickets_kept { KeepsTickets self.old.object self.new.object }
     {
         finish(&mut self.state, call, end);
         self.happened = self.happened.then(&Happening::Ended(end));
@@ -346,6 +353,7 @@ impl DrivenCalls {
         ensures serving { self.new.object.serving ≡ None }
         ensures happened { self.new.happened ≡ self.old.happened ++ RequeuedElsewhere ∷ [] }
         ensures room_kept { KeepsRoom self.old.object self.new.object }
+        ensures tickets_kept { KeepsTickets self.old.object self.new.object }
     {
         finish(&mut self.state, call, End::Completed(call.value));
         self.happened = self.happened.then(&Happening::RequeuedElsewhere);
@@ -388,6 +396,7 @@ impl DrivenCalls {
         ensures live { IfSome result (λ ticket. is_live self.new.object.tickets ticket ≡ true) }
         ensures full { IfNone result (is_full longest (count_by (is_on target) self.old.object.state.waiting) ≡ true) }
         ensures room_kept { KeepsRoom self.old.object self.new.object }
+        ensures tickets_kept { KeepsTickets self.old.object self.new.object }
     {
         let queueing = Queueing {
             max_length: longest,
@@ -429,6 +438,7 @@ impl DrivenCalls {
         ensures live { IfSome result (λ ticket. is_live self.new.object.tickets ticket ≡ true) }
         ensures full { IfNone result (is_full longest (count_by (is_on requeue.target) self.old.object.state.waiting) ≡ true) }
         ensures room_kept { KeepsRoom self.old.object self.new.object }
+        ensures tickets_kept { KeepsTickets self.old.object self.new.object }
     {
         let moved = if requeue.due {
             self.make_due(call)
@@ -447,6 +457,7 @@ impl DrivenCalls {
         ensures none { IfNone result (self.new ≡ self.old) }
         ensures happened { self.new.happened ≡ self.old.happened ++ cancellation_of result }
         ensures room_kept { KeepsRoom self.old.object self.new.object }
+        ensures tickets_kept { KeepsTickets self.old.object self.new.object }
     {
         let ticket = self.state.first_due()?;
         let call = self.state.waiting_call(ticket)?;
@@ -465,6 +476,7 @@ impl DrivenCalls {
         ensures happened { IfSome result (λ _. self.new.happened ≡ self.old.happened ++ Broken ∷ []) }
         ensures same { IfNone result (self.new.happened ≡ self.old.happened) }
         ensures room_kept { KeepsRoom self.old.object self.new.object }
+        ensures tickets_kept { KeepsTickets self.old.object self.new.object }
     {
         let call = self.state.take_oldest()?;
         finish(&mut self.state, call, End::ProgramError);
@@ -482,6 +494,7 @@ impl DrivenCalls {
         ensures serving { self.new.object.serving ≡ None }
         ensures happened { self.new.happened ≡ self.old.happened ++ Cancelled ticket.number ∷ [] }
         ensures room_kept { KeepsRoom self.old.object self.new.object }
+        ensures tickets_kept { KeepsTickets self.old.object self.new.object }
     {
         withdraw(&mut self.state, ticket);
         self.happened = self.happened.then(&Happening::Cancelled(ticket.number));
@@ -499,6 +512,7 @@ impl DrivenCalls {
         ensures happened { self.new.happened ≡ self.old.happened ++ Marked ticket.number ∷ [] }
         ensures rests { (closed : List ℕ) → IsAtRest self.old.object closed → IsAtRest self.new.object closed }
         ensures room_kept { KeepsRoom self.old.object self.new.object }
+        ensures tickets_kept { KeepsTickets self.old.object self.new.object }
     {
         self.state.attempt_cancel(ticket);
         self.happened = self.happened.then(&Happening::Marked(ticket.number));

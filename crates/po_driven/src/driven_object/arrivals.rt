@@ -152,6 +152,7 @@ impl DrivenObject {
     }
 
     /// Accepts a call whose barrier propagated an exception: it ends by Program_Error, after all queued calls (9.5.3).
+    #[tactic(auto, using(crate::proofs::Tickets::kept_then))]
     fn accept_raised(&mut self, arriving: Arriving<u64>, step: &mut NamedCall) -> Action
         requires { IsReady self.old.calls arriving.entry }
         ensures tells { Tells result self.new }

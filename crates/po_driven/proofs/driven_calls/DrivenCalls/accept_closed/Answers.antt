@@ -1,4 +1,4 @@
-use Rattle.std.proofs.Common.{◌≡◌, ◌+◌, ◌<◌, ◌==◌, ◌∙◌, None, ap, ap₂, sym, subst, refl, true, count_by, length, arith}
+use Rattle.std.proofs.Common.{◌≡◌, ◌+◌, ◌<◌, ◌==◌, ◌∙◌, None, Some, ap, ap₂, sym, subst, refl, true, false, count_by, length, arith}
 use Rattle.std.specs.Prelude.{IsSome}
 use Rattle.std.specs.List.{All, find}
 use Rattle.po_engine.specs.Arrival.{Increases}
@@ -8,12 +8,13 @@ use Rattle.po_engine.specs.Tickets.{is_live, uncollected}
 use Rattle.po_engine.specs.WaitingCalls.{has_number, is_on}
 use Rattle.po_engine.proofs.Absent.{eq_self}
 use Rattle.po_engine.proofs.TicketCounts.{one-more}
-use Rattle.po_driven.specs.DrivenCallsView.{DrivenCallsView}
+use Rattle.po_driven.specs.DrivenCallsView.{DrivenCallsView, KeepsTickets}
 use Rattle.po_driven.specs.OnePlace.{calls_in_service}
 use Rattle.po_driven.specs.declared.happening.Happening.TheVariants.{Arrived}
 use Rattle.po_driven.proofs.Held.{collected, entered_len, entered_unit, full_ended, full_len, live_set}
 use Rattle.po_driven.proofs.Leads.{arrived}
 use Rattle.po_driven.proofs.Spots.{begun, entered, same_calls}
+use Rattle.po_driven.proofs.Tickets.{kept_then, one_collected, one_entered, one_given}
 use Rattle.po_driven.proofs.Traces.{below_next, full_of, queued_on, room_of, traced_on}
 use Rattle.po_driven.proofs.driven_calls.DrivenCalls.accept_closed.Goals as goal
 
@@ -96,3 +97,25 @@ returns-clause-found c =
     let room = room_of c.enter-is_queued.result (is_full c.args.longest (count_by (is_on x.entry) m.state.waiting)) e.queued c.if-not-is_queued.false in
     let own = ap (has_number n) t.call ∙ subst (λ k. (c.self.inside.state.state.next == k) ≡ true) (sym t.number) (eq_self c.self.inside.state.state.next) in
     subst (λ v. IsSome (find (has_number n) v.state.waiting)) (sym e.state) (queued_on (has_number n) c.args.longest m.state x own room)
+
+pub returns-then-not-is_queued-clause-tickets_kept : goal.returns-then-not-is_queued-clause-tickets_kept
+returns-then-not-is_queued-clause-tickets_kept c =
+    let s = c.self.inside.state in let longest = c.args.longest in
+    let m = c.take_in.new.self in let n = c.enter-is_queued.new.self in let q = c.collect.new.self in
+    let t = c.take_in.ensures in let e = c.enter-is_queued.ensures in let k = c.collect.ensures in
+    let x = c.take_in.result.0 in let ticket = c.take_in.result.1 in
+    let full = full_of c.enter-is_queued.result (is_full longest (count_by (is_on x.entry) m.state.waiting)) e.queued c.if-not-is_queued.true in
+    let live = subst (λ v. is_live v.tickets ticket ≡ true) (sym e.state) (live_set s.tickets m.tickets ticket t.ticket) in
+    let over = subst (λ v. IsSome (find (has_ended ticket.number) v.state.ended)) (sym e.state) (full_ended longest m.state x ticket.number (ap (λ y. y.number) t.call ∙ sym t.number) full) in
+    subst (λ v. KeepsTickets v.object q) c.self.view_is
+    (kept_then s m q (one_given s m ticket.key (Some ticket.number) t.key t.ticket (ap (λ v. v.state.ended) t.state))
+    (kept_then m n q (one_entered m n longest x (ap (λ v. v.tickets) e.state) (ap (λ v. v.state) e.state))
+    (one_collected n q ticket c.collect.result live over k.taken k.left (ap (λ v. v.state.ended) k.rest))))
+
+pub returns-clause-tickets_kept : goal.returns-clause-tickets_kept
+returns-clause-tickets_kept c =
+    let s = c.self.inside.state in let m = c.take_in.new.self in let n = c.enter-is_queued.new.self in
+    let t = c.take_in.ensures in let e = c.enter-is_queued.ensures in let ticket = c.take_in.result.1 in
+    subst (λ v. KeepsTickets v.object n) c.self.view_is
+    (kept_then s m n (one_given s m ticket.key (Some ticket.number) t.key t.ticket (ap (λ v. v.state.ended) t.state))
+    (one_entered m n c.args.longest c.take_in.result.0 (ap (λ v. v.tickets) e.state) (ap (λ v. v.state) e.state)))

@@ -10,9 +10,10 @@ use Rattle.po_driven.proofs.Held.{length_taken}
 use Rattle.po_driven.proofs.Leads.{broken}
 use Rattle.po_driven.proofs.Left.{all_left, rises_left}
 use Rattle.po_driven.proofs.Spots.{took}
+use Rattle.po_driven.proofs.Tickets.{kept_then, same_tickets}
 use Rattle.po_driven.proofs.Traces.{traced_on}
 use Rattle.po_driven.specs.declared.happening.Happening.TheVariants.{Broken}
-use Rattle.po_driven.specs.DrivenCallsView.{DrivenCallsView}
+use Rattle.po_driven.specs.DrivenCallsView.{DrivenCallsView, KeepsTickets}
 use Rattle.po_driven.proofs.driven_calls.DrivenCalls.break_oldest.Goals as goal
 
 pub invariant_of-self-2 : goal.invariant_of-self-2
@@ -31,3 +32,8 @@ invariant_of-self-2 c =
     (f.tickets (subst HasTickets (sym t.state) (omega (arith, c.self.invariant.tickets, ap calls_in_service idle, length_taken (λ x. true) s.state.waiting c.take_oldest.result first))))
     (λ r. subst (λ v. Increases v.places) (sym (f.state)) (subst (λ v. Increases v.places) (sym t.state) (rises_left s.places r)))
     (subst (λ v. All (λ j. j < i.place) v.places) (sym f.state) (subst (λ v. All (λ j. j < i.place) v.places) (sym t.state) (all_left (λ j. j < i.place) s.places c.self.invariant.later)))
+
+pub returns-clause-tickets_kept : goal.returns-clause-tickets_kept
+returns-clause-tickets_kept c =
+    let s = c.self.inside.state in let m = c.take_oldest.new.self in let n = c.finish.new.state in let t = c.take_oldest.ensures in
+    subst (λ v. KeepsTickets v.object n) c.self.view_is (kept_then s m n (same_tickets s m (ap (λ v. v.tickets) t.state) (ap (λ v. v.state.ended) t.state)) c.finish.ensures.tickets_kept)

@@ -1,15 +1,17 @@
-use Rattle.std.proofs.Common.{◌≡◌, ◌∙◌, None, Some, ap, sym, subst, arith}
+use Rattle.std.proofs.Common.{ℕ, ◌≡◌, ◌∙◌, None, Some, ap, sym, subst, arith}
 use Rattle.std.specs.List.{find}
+use Rattle.po_engine.specs.ObjectState.{ObjectState}
 use Rattle.po_engine.specs.WaitingCalls.{has_number}
 use Rattle.po_driven.specs.AtRest.{IsAtRest}
 use Rattle.po_driven.proofs.Leads.{marked}
 use Rattle.po_driven.proofs.Held.{attempted_unit, length_marked}
-use Rattle.po_driven.proofs.Rests.{rests_marked}
+use Rattle.po_driven.proofs.Rests.{marks, rests_marked}
 use Rattle.po_driven.proofs.Spots.{attempted}
 use Rattle.po_driven.specs.OnePlace.{HasTickets}
+use Rattle.po_driven.proofs.Tickets.{same_tickets}
 use Rattle.po_driven.proofs.Traces.{traced_on}
 use Rattle.po_driven.specs.declared.happening.Happening.TheVariants.{Marked}
-use Rattle.po_driven.specs.DrivenCallsView.{DrivenCallsView}
+use Rattle.po_driven.specs.DrivenCallsView.{DrivenCallsView, KeepsTickets}
 use Rattle.po_driven.proofs.driven_calls.DrivenCalls.mark.Goals as goal
 
 pub invariant_of-self : goal.invariant_of-self
@@ -32,3 +34,10 @@ returns-clause-rests c = λ closed rest.
     let i = c.self.inside in let n = c.args.ticket.number in let a = c.attempt_cancel.ensures.state in
     let found = subst (λ v. find (has_number n) v.object.state.waiting ≡ Some c.args.call) (sym c.self.view_is) c.requires.found in
     rests_marked i.state c.attempt_cancel.new.self n c.args.call found c.requires.without_abort (ap (λ v. v.state) a) (ap (λ v. v.serving) a) closed (subst (λ v. IsAtRest v.object closed) (sym c.self.view_is) rest)
+
+pub returns-clause-tickets_kept : goal.returns-clause-tickets_kept
+returns-clause-tickets_kept c =
+    let s = c.self.inside.state in let m = c.attempt_cancel.new.self in let a = c.attempt_cancel.ensures.state in let n = c.args.ticket.number in
+    let found = subst (λ v. find (has_number n) v.object.state.waiting ≡ Some c.args.call) (sym c.self.view_is) c.requires.found in
+    let is = ap (λ v. v.state) a ∙ marks s.state n c.args.call (find (has_number n) s.state.waiting) found c.requires.without_abort in
+    subst (λ v. KeepsTickets v.object m) c.self.view_is (same_tickets s m (ap (λ v. v.tickets) a) (ap (λ (t : ObjectState ℕ ℕ). t.ended) is))

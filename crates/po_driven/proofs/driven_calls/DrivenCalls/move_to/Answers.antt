@@ -9,12 +9,13 @@ use Rattle.po_engine.specs.Step.{is_full}
 use Rattle.po_engine.specs.Tickets.{is_live, uncollected}
 use Rattle.po_engine.specs.WaitingCalls.{has_number, is_on}
 use Rattle.po_engine.proofs.Absent.{eq_self}
-use Rattle.po_driven.specs.DrivenCallsView.{DrivenCallsView}
+use Rattle.po_driven.specs.DrivenCallsView.{DrivenCallsView, KeepsTickets}
 use Rattle.po_driven.specs.OnePlace.{calls_in_service}
 use Rattle.po_driven.specs.declared.happening.Happening.TheVariants.{Requeued}
 use Rattle.po_driven.proofs.Held.{collected, concluded_is, entered_len, entered_unit, full_ended, full_len}
 use Rattle.po_driven.proofs.Leads.{requeued}
 use Rattle.po_driven.proofs.Spots.{entered, same_calls}
+use Rattle.po_driven.proofs.Tickets.{kept_then, one_collected, one_entered}
 use Rattle.po_driven.proofs.Traces.{again_if, below_next, full_of, moved_on, room_of, traced_on}
 use Rattle.po_driven.proofs.driven_calls.DrivenCalls.move_to.Goals as goal
 
@@ -93,3 +94,25 @@ returns-clause-found c =
     let room = room_of c.conclude-is_queued.result (is_full c.args.longest (count_by (is_on t) s.waiting)) again c.if-not-is_queued.false in
     let own = subst (λ k. has_number k c.args.call ≡ true) (sym c.ticket_in_service-ticket.ensures.number) (eq_self c.args.call.number) in
     subst (λ v. IsSome (find (has_number n) v.state.waiting)) (sym e.state) (moved_on (has_number n) c.args.longest s c.args.call t c.args.with_abort own room c.requires.kept)
+
+pub returns-then-not-is_queued-clause-tickets_kept : goal.returns-then-not-is_queued-clause-tickets_kept
+returns-then-not-is_queued-clause-tickets_kept c =
+    let s = c.self.inside.state in let x = c.args.call in let longest = c.args.longest in
+    let n = c.conclude-is_queued.new.self in let q = c.collect.new.self in
+    let e = c.conclude-is_queued.ensures in let k = c.collect.ensures in let ticket = c.ticket_in_service-ticket.result in
+    let y = record x { entry = c.args.target; without_abort = not c.args.with_abort } in
+    let again = e.queued ∙ again_if longest s.state x c.args.target c.args.with_abort c.requires.kept in
+    let full = full_of c.conclude-is_queued.result (is_full longest (count_by (is_on c.args.target) s.state.waiting)) again c.if-not-is_queued.true in
+    let moved = ap (λ v. v.state) e.state ∙ concluded_is longest s.state x c.args.target c.args.with_abort c.requires.kept in
+    let live = subst (λ v. is_live v.tickets ticket ≡ true) (sym e.state) c.ticket_in_service-ticket.ensures.live in
+    let over = subst (λ (v : ObjectState ℕ ℕ). IsSome (find (has_ended ticket.number) v.ended)) (sym moved) (full_ended longest s.state y ticket.number (sym c.ticket_in_service-ticket.ensures.number) full) in
+    subst (λ v. KeepsTickets v.object q) c.self.view_is
+    (kept_then s n q (one_entered s n longest y (ap (λ v. v.tickets) e.state) moved) (one_collected n q ticket c.collect.result live over k.taken k.left (ap (λ v. v.state.ended) k.rest)))
+
+pub returns-clause-tickets_kept : goal.returns-clause-tickets_kept
+returns-clause-tickets_kept c =
+    let s = c.self.inside.state in let x = c.args.call in let longest = c.args.longest in let n = c.conclude-is_queued.new.self in
+    let e = c.conclude-is_queued.ensures in
+    let y = record x { entry = c.args.target; without_abort = not c.args.with_abort } in
+    let moved = ap (λ v. v.state) e.state ∙ concluded_is longest s.state x c.args.target c.args.with_abort c.requires.kept in
+    subst (λ v. KeepsTickets v.object n) c.self.view_is (one_entered s n longest y (ap (λ v. v.tickets) e.state) moved)

@@ -7,9 +7,10 @@ use Rattle.po_driven.specs.OnePlace.{HasTickets, calls_in_service}
 use Rattle.po_driven.proofs.Held.{length_taken}
 use Rattle.po_driven.proofs.Spots.{took}
 use Rattle.po_driven.proofs.Leads.{selected}
+use Rattle.po_driven.proofs.Tickets.{same_tickets}
 use Rattle.po_driven.proofs.Traces.{traced_on}
 use Rattle.po_driven.specs.declared.happening.Happening.TheVariants.{Selected}
-use Rattle.po_driven.specs.DrivenCallsView.{DrivenCallsView}
+use Rattle.po_driven.specs.DrivenCallsView.{DrivenCallsView, KeepsTickets}
 use Rattle.po_driven.proofs.driven_calls.DrivenCalls.select.Goals as goal
 
 pub invariant_of-self : goal.invariant_of-self
@@ -25,3 +26,8 @@ invariant_of-self c =
     (subst HasTickets (sym a.state) (omega (arith, c.self.invariant.tickets, ap calls_in_service idle, length_taken (is_on c.args.e) s.state.waiting c.take_on-call.result (sym a.found))))
     (λ r. subst (λ v. Increases v.places) (sym a.state) (increases_without (is_on c.args.e) s.state.waiting s.places r))
     (subst (λ v. All (λ j. j < i.place) v.places) (sym a.state) (All-places (λ j. j < i.place) (is_on c.args.e) s.state.waiting s.places c.self.invariant.later))
+
+pub returns-clause-tickets_kept : goal.returns-clause-tickets_kept
+returns-clause-tickets_kept c =
+    let s = c.self.inside.state in let n = c.take_on-call.new.self in let a = c.take_on-call.ensures in
+    subst (λ v. KeepsTickets v.object n) c.self.view_is (same_tickets s n (ap (λ v. v.tickets) a.state) (ap (λ v. v.state.ended) a.state))

@@ -1,6 +1,9 @@
 use Rattle.std.proofs.Common.{ℕ, ◌∙◌, ◌∷◌, [], Option, ap, refl}
 use Rattle.po_unit.specs.declared.outcome.Outcome.TheVariants.{Requeue as RequeueTo}
 use Rattle.po_calls.specs.declared.end.End.TheVariants.{Completed}
+use Rattle.po_engine.specs.Driving.{new_call}
+use Rattle.po_engine.specs.Ending.{ended_as}
+use Rattle.po_driven.proofs.Tickets.{one_ended}
 use Rattle.po_driven.specs.DrivenCallsView.{DrivenCallsView, passed_twice}
 use Rattle.po_driven.specs.declared.happening.Happening.TheVariants.{Ended, Requeued, Selected, Served}
 use Rattle.po_driven.proofs.Twice.{twice_between}
@@ -20,6 +23,7 @@ returns c =
         entries = ap (λ t. t.object.state.unit) calls;
         limits = limits;
         room = record { fixed = ap (λ t. t.object.is_fixed) calls; most = λ fixed. ap (λ t. t.object.most) calls };
+        tickets = one_ended d.calls.object _ (ended_as (Completed a.value) (new_call d.calls.object.state.next a)) (ap (λ t. t.object.tickets) calls) (ap (λ t. t.object.state.ended) calls);
       };
       accepted = λ is. refl;
       may = λ yes. may;

@@ -1,5 +1,8 @@
 use Rattle.std.proofs.Common.{◌∙◌, ◌∷◌, [], ap, sym, refl}
 use Rattle.po_calls.specs.declared.end.End.TheVariants.{Cancelled as IsCancelled}
+use Rattle.po_engine.specs.Driving.{new_call}
+use Rattle.po_engine.specs.Ending.{ended_as}
+use Rattle.po_driven.proofs.Tickets.{one_ended}
 use Rattle.po_driven.specs.DrivenCallsView.{passed}
 use Rattle.po_driven.specs.declared.happening.Happening.TheVariants.{Arrived, Cancelled}
 use Rattle.po_driven.proofs.Alone.{turned_between}
@@ -21,6 +24,7 @@ returns c =
         entries = ap (λ t. t.object.state.unit) calls;
         limits = limits;
         room = record { fixed = ap (λ t. t.object.is_fixed) calls; most = λ fixed. ap (λ t. t.object.most) calls };
+        tickets = one_ended d.calls.object _ (ended_as IsCancelled (new_call d.calls.object.state.next a)) (ap (λ t. t.object.tickets) calls) (ap (λ t. t.object.state.ended) calls);
       };
       accepted = λ arrives it. refl;
       alone = λ yes. alone;
