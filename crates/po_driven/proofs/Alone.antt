@@ -1,20 +1,22 @@
 -- A call that arrives alone, with a closed barrier: it waits, or it is turned away.
-use Rattle.std.proofs.Common.{ℕ, ◌≡◌, ◌∙◌, ◌<◌, ◌==◌, max, List, [], ◌∷◌, ◌++◌, length, false, true, Option, None, Some, ap, refl, sym, subst, arith, append_assoc, append-nil, inl, inr, count_by}
+use Rattle.std.proofs.Common.{ℕ, ◌≡◌, ◌∙◌, ◌<◌, ◌==◌, nat_le, List, [], ◌∷◌, ◌++◌, length, false, true, Option, None, Some, ap, refl, sym, subst, arith, append_assoc, append-nil, inl, inr, count_by}
 use Rattle.std.specs.Prelude.{IsSome, IsSomeAnd}
 use Rattle.std.specs.List.{All, find, slice_index}
-use Rattle.std.proofs.lemmas.Bool.{cases_Bool, ne_eqb}
+use Rattle.std.proofs.lemmas.Bool.{cases_Bool}
+use Rattle.std.proofs.lemmas.Bool.Decides.{nat_tests}
 use Rattle.std.proofs.lemmas.List.Elements.{All-nil, All-push}
 use Rattle.po_calls.specs.declared.call.Call.{Call}
 use Rattle.po_calls.specs.declared.end.End.TheVariants.{Cancelled as IsCancelled}
 use Rattle.po_engine.specs.declared.arriving.Arriving.{Arriving}
 use Rattle.po_engine.specs.Driving.{counted, new_call}
+use Rattle.po_engine.specs.Ending.{ended_as}
 use Rattle.po_engine.specs.ObjectState.{ObjectState}
 use Rattle.po_engine.specs.Step.{enter, is_full}
 use Rattle.po_engine.specs.Tickets.{is_live, is_number, number_at}
 use Rattle.po_engine.specs.WaitingCalls.{has_number, is_due, is_on}
 use Rattle.po_engine.proofs.Absent.{eq_self}
 use Rattle.po_driven.specs.AtRest.{ToldBelow, told}
-use Rattle.po_driven.specs.DrivenCallsView.{IsTraced, KeepsRoom, passed}
+use Rattle.po_driven.specs.DrivenCallsView.{IsTraced, KeepsRoom, KeepsTickets, passed}
 use Rattle.po_driven.specs.DrivenView.{DrivenView, IsDriven}
 use Rattle.po_driven.specs.Happening.{cancellation_of}
 use Rattle.po_driven.specs.Noted.{full_at, longest_on}
@@ -24,20 +26,18 @@ use Rattle.po_driven.specs.declared.phase.Phase.TheVariants.{Asked, Resting, Set
 use Rattle.po_driven.specs.declared.words.NamedCall.{NamedCall}
 use Rattle.po_driven.proofs.Between.{resting_idle}
 use Rattle.po_driven.proofs.Passing.{cancelled_traced, in_queue, queue_traced}
+use Rattle.po_driven.proofs.Tickets.{one_issued, one_passed, same_tickets}
 use Rattle.po_driven.proofs.Traces.{found_last}
 
 -- an empty queue isn't full
-full_never : (limit : ℕ) → is_full (full_at limit 0) 0 ≡ false
-full_never limit = elim (cases_Bool (limit == 0)) [
-  | inl none ↦ rw none refl
-  | inr some ↦ rw some (ne_eqb 0 (max limit 0) (λ e. absurd (ne_zero limit some (omega (arith, e)))))
-]
+full_never : (limit : ℕ) → is_full (full_at limit) 0 ≡ false
+full_never limit = elim (cases_Bool (limit == 0)) [ inl none ↦ rw none refl | inr some ↦ rw some (never limit some) ]
   where
-    ne_zero : (n : ℕ) → (n == 0) ≡ false → n ≡ 0 → ⊥
-    ne_zero n h e = let bad : true ≡ false = sym (ap (λ k. k == 0) e) ∙ h in absurd (cc)
+    never : (n : ℕ) → (n == 0) ≡ false → nat_le n 0 ≡ false
+    never n h = grind (arith, nat_tests, h)
 
 pub open_alone : (d : DrivenView) (e : ℕ) → d.calls.object.state.waiting ≡ [] → is_full (longest_on d e) 0 ≡ false
-open_alone d e none = ap (λ xs. is_full (full_at (slice_index d.limits e) (count_by (is_on e) xs)) 0) none ∙ full_never (slice_index d.limits e)
+open_alone d e none = full_never (slice_index d.limits e)
 
 -- what is queued after a call has arrived alone
 entered_alone : (limit : Option ℕ) (s : ObjectState ℕ ℕ) (x : Call ℕ) → s.waiting ≡ [] → is_full limit 0 ≡ false → (enter limit s x).waiting ≡ x ∷ []
@@ -62,10 +62,10 @@ module _ (d new : DrivenView) (a : Arriving ℕ) (alone : ArrivesAlone a d) wher
   pub waits_between : (step : NamedCall) → IsDriven d → IsTraced new.calls → new.limits ≡ d.limits → new.phase ≡ Resting → new.closed ≡ a.entry ∷ []
       → new.calls.object.state ≡ enter (longest_on d a.entry) (counted d.calls.object.state) its → new.calls.object.state.unit ≡ d.calls.object.state.unit
       → new.calls.object.serving ≡ None → new.calls.happened ≡ d.calls.happened ++ Arrived a (longest_on d a.entry) ∷ []
-      → KeepsRoom d.calls.object new.calls.object → step.caller ≡ a.value → step.number ≡ d.calls.object.state.next
+      → KeepsRoom d.calls.object new.calls.object → KeepsTickets d.calls.object new.calls.object → step.caller ≡ a.value → step.number ≡ d.calls.object.state.next
       → is_live new.calls.object.tickets (record { key = step.key; number = step.number }) ≡ true
       → IsSome (find (has_number step.number) new.calls.object.state.waiting) → IsSome (find (is_on a.entry) new.calls.object.state.waiting) → WaitsBetween a step d new
-  waits_between step is traced limits resting closed state unit idle noted room caller number live found on =
+  waits_between step is traced limits resting closed state unit idle noted room tickets caller number live found on =
       let asked : DrivenView = record new { phase = Asked a.entry; closed = [] } in
       let waiting = ap (λ s. s.waiting) state ∙ entered_alone (longest_on d a.entry) (counted d.calls.object.state) its alone.alone (open_alone d a.entry alone.alone) in
       record {
@@ -80,7 +80,7 @@ module _ (d new : DrivenView) (a : Arriving ℕ) (alone : ArrivesAlone a d) wher
         issues = record {
           tells = refl;
           kept = tt;
-          setup = record { entries = unit; limits = limits; room = room };
+          setup = record { entries = unit; limits = limits; room = room; tickets = tickets };
           accepted = λ may e. absurd (cc);
           refused = λ no. absurd (no alone.may);
           room = λ few e. absurd (cc);
@@ -94,7 +94,7 @@ module _ (d new : DrivenView) (a : Arriving ℕ) (alone : ArrivesAlone a d) wher
         answers = record {
           tells = resting;
           kept = tt;
-          setup = record { entries = refl; limits = refl; room = record { fixed = refl; most = λ fixed. refl } };
+          setup = record { entries = refl; limits = refl; room = record { fixed = refl; most = λ fixed. refl }; tickets = same_tickets new.calls.object new.calls.object refl refl };
           accepted = λ e q r. absurd (cc);
           refused = λ no. absurd (no a.entry refl);
           closed = λ e q. closed ∙ ap (λ k. k ∷ []) (asked_same a.entry e q);
@@ -141,7 +141,7 @@ module _ (d new : DrivenView) (a : Arriving ℕ) (alone : ArrivesAlone a d) (due
   -- it is turned away: what leads there
   pub turned_between : IsDriven d → new.calls ≡ ended.calls → new.limits ≡ d.limits → new.phase ≡ Resting → new.closed ≡ [] → TurnsAwayBetween a d new
   turned_between is calls limits resting closed =
-      let idle = resting_idle d is alone.may.resting in
+      let idle = resting_idle d is alone.may.accepts.resting in
       let found = due_alone d.calls.object.state.clock away queued.calls.object.state.waiting only due in
       let told : NamedCall = record { caller = a.value; key = length d.calls.object.tickets; number = d.calls.object.state.next } in
       record {
@@ -165,7 +165,7 @@ module _ (d new : DrivenView) (a : Arriving ℕ) (alone : ArrivesAlone a d) (due
         issues = record {
           tells = refl;
           kept = tt;
-          setup = record { entries = refl; limits = refl; room = record { fixed = refl; most = λ fixed. refl } };
+          setup = record { entries = refl; limits = refl; room = record { fixed = refl; most = λ fixed. refl }; tickets = one_issued d.calls.object queued.calls.object d.calls.object.state.next refl refl };
           accepted = λ may e. absurd (cc);
           refused = λ no. absurd (no alone.may);
           room = λ few e. absurd (cc);
@@ -182,7 +182,7 @@ module _ (d new : DrivenView) (a : Arriving ℕ) (alone : ArrivesAlone a d) (due
         answers = record {
           tells = refl;
           kept = tt;
-          setup = record { entries = refl; limits = refl; room = record { fixed = refl; most = λ fixed. refl } };
+          setup = record { entries = refl; limits = refl; room = record { fixed = refl; most = λ fixed. refl }; tickets = one_passed queued.calls.object ended.calls.object d.calls.object.tickets (ended_as IsCancelled away) refl refl refl };
           accepted = λ e q r. absurd (cc);
           refused = λ no. absurd (no a.entry refl);
           closed = λ e q. ap (λ k. k ∷ []) (asked_same a.entry e q);
@@ -199,6 +199,7 @@ module _ (d new : DrivenView) (a : Arriving ℕ) (alone : ArrivesAlone a d) (due
             entries = ap (λ t. t.object.state.unit) calls;
             limits = limits;
             room = record { fixed = ap (λ t. t.object.is_fixed) calls; most = λ fixed. ap (λ t. t.object.most) calls };
+            tickets = same_tickets ended.calls.object new.calls.object (ap (λ t. t.object.tickets) calls) (ap (λ t. t.object.state.ended) calls);
           };
           accepted = λ waits e. absurd (cc);
           refused = λ no. absurd (no tt);

@@ -1,24 +1,26 @@
 -- The objects in between when several steps are carried out in one.
-use Rattle.std.proofs.Common.{ℕ, ◌≡◌, ◌≢◌, ◌∙◌, ◌+◌, ◌<◌, List, [], ◌∷◌, ◌++◌, false, Option, None, Some, ap, ap₂, refl, sym, subst, arith, append_assoc, cond, count_by}
+use Rattle.std.proofs.Common.{ℕ, ◌≡◌, ◌≢◌, ◌∙◌, ◌+◌, ◌<◌, List, [], ◌∷◌, ◌++◌, false, true, Option, None, Some, ap, ap₂, refl, sym, subst, arith, append_assoc, cond, count_by}
 use Rattle.std.specs.Prelude.{IsSome, IsSomeAnd}
 use Rattle.std.specs.List.{find, slice_get}
 use Rattle.po_calls.specs.declared.call.Call.{Call}
+use Rattle.po_calls.specs.declared.end.End.{End}
 use Rattle.po_calls.specs.declared.end.End.TheVariants.{Completed as IsCompleted, Raised}
+use Rattle.po_engine.specs.Ending.{ended_as}
 use Rattle.po_engine.specs.declared.arriving.Arriving.{Arriving}
 use Rattle.po_engine.specs.Driving.{new_call}
 use Rattle.po_engine.specs.WaitingCalls.{is_due}
 use Rattle.po_driven.specs.Answering.{Breaks, LooksOn, Moves, is_withdrawn}
-use Rattle.po_driven.specs.DrivenCallsView.{DrivenCallsView, passed}
+use Rattle.po_driven.specs.DrivenCallsView.{DrivenCallsView, KeepsTickets, passed}
 use Rattle.po_driven.specs.DrivenView.{Awaits, DrivenView, Fresh, IsDriven, KeepsAll, KeepsSetup, LeavesNamed, MayIssue, Tells}
 use Rattle.po_driven.specs.Happening.{arrives, cancellation_of}
-use Rattle.po_driven.specs.Noted.{IsNoRequeue, Names, Notes, serviced}
+use Rattle.po_driven.specs.Noted.{IsNoRequeue, Names, Notes, finalized, serviced}
 use Rattle.po_driven.specs.Passing.{HasTarget, IsTaken, MayServe, WasServed}
 use Rattle.po_driven.specs.Servicing.{Services}
-use Rattle.po_driven.specs.Steps.{EndsBody, Issues}
+use Rattle.po_driven.specs.Steps.{EndsBody, Finalizes, Issues}
 use Rattle.po_driven.specs.declared.action.Action.{Action}
 use Rattle.po_driven.specs.declared.action.Action.TheVariants.{Rest, Evaluate, Run, Queued, Cancelled, ProgramError, NoMemory, Refused}
 use Rattle.po_driven.specs.declared.happening.Happening.{Happening}
-use Rattle.po_driven.specs.declared.happening.Happening.TheVariants.{Ended, RequeuedElsewhere as HasLeft, Served}
+use Rattle.po_driven.specs.declared.happening.Happening.TheVariants.{Ended, Finalized, RequeuedElsewhere as HasLeft, Served}
 use Rattle.po_driven.specs.declared.phase.Phase.TheVariants.{Resting, Running, Settling}
 use Rattle.po_driven.specs.declared.words.Barrier.TheVariants.{Open}
 use Rattle.po_driven.specs.declared.words.BodyEnd.{BodyEnd}
@@ -27,6 +29,8 @@ use Rattle.po_driven.specs.declared.words.NamedCall.{NamedCall}
 use Rattle.po_driven.specs.declared.words.Requeue.{Requeue}
 use Rattle.po_engine.proofs.Sums.{sum_by-push}
 use Rattle.po_driven.proofs.Passing.{body_traced, in_body}
+use Rattle.po_driven.proofs.Setups.{setup_then}
+use Rattle.po_driven.proofs.Tickets.{kept_then, one_ended, one_issued, one_passed}
 
 -- the object while the body of this call runs
 abbrev pub running : DrivenView → Arriving ℕ → DrivenView
@@ -56,14 +60,14 @@ resting_idle d is resting =
 
 -- a call that may have been served is accepted
 pub may_issue : (d : DrivenView) (e : ℕ) → MayServe d → e < d.calls.object.state.unit → MayIssue d e
-may_issue d e may entry = record { resting = may.resting; alive = may.alive; entry = entry; number = may.number; place = omega (arith, may.place) }
+may_issue d e may entry = record { accepts = may.accepts; entry = entry }
 
 -- a call with an open barrier is issued, and its body runs
 pub issues_open : (d : DrivenView) (a : Arriving ℕ) → MayIssue d a.entry → is_withdrawn a ≡ false → Issues a Open (named a) d (running d a) (Run a.entry)
 issues_open d a may stays = record {
   tells = refl;
   kept = tt;
-  setup = record { entries = refl; limits = refl; room = record { fixed = refl; most = λ fixed. refl } };
+  setup = record { entries = refl; limits = refl; room = record { fixed = refl; most = λ fixed. refl }; tickets = one_issued d.calls.object (in_body d.calls a).object d.calls.object.state.next refl refl };
   accepted = λ is e. absurd (cc);
   refused = λ no. absurd (no may);
   room = λ few e. absurd (cc);
@@ -125,6 +129,40 @@ module _ (u v : DrivenView) (waiting : u.calls.object.state.waiting ≡ v.calls.
   same_breaks NoMemory new h = h
   same_breaks Refused new h = h
 
+-- the object once it is finalized
+abbrev pub final : DrivenView → DrivenView
+final d = record d { calls = record d.calls { object = record d.calls.object { state = record d.calls.object.state { finalized = true } }; happened = d.calls.happened ++ Finalized ∷ [] } }
+
+final_is : (d : DrivenView) (r : Action) → r ≢ Refused → finalized r d ≡ Finalized ∷ serviced r d
+final_is d Rest ne = refl
+final_is d (Evaluate e) ne = refl
+final_is d (Run e) ne = refl
+final_is d (Queued e) ne = refl
+final_is d Cancelled ne = refl
+final_is d ProgramError ne = refl
+final_is d NoMemory ne = refl
+final_is d Refused ne = absurd (ne refl)
+
+-- then its queued calls end
+pub finalizes : (d m new : DrivenView) (step : NamedCall) (r : Action) → d.phase ≡ Resting → m ≡ final d → Services step m new r → new.closed ≡ [] → Breaks r m new → Finalizes step d new r
+finalizes d m new step r resting is serves fresh breaks =
+    let s = subst (λ v. Services step v new r) is serves in record {
+      tells = s.tells;
+      kept = s.proceeds d new;
+      setup = record {
+        entries = s.setup.entries;
+        limits = s.setup.limits;
+        room = record { fixed = s.setup.room.fixed; most = s.setup.room.most };
+        tickets = record { live = s.setup.tickets.live; left = s.setup.tickets.left };
+      };
+      accepted = λ e. s.answers;
+      refused = λ ne. absurd (ne resting);
+      fresh = fresh_of r new fresh;
+      noted = s.noted ∙ append_assoc d.calls.happened (Finalized ∷ []) (serviced r (final d)) ∙ ap (λ hs. d.calls.happened ++ Finalized ∷ hs) (same_serviced (final d) d refl refl r) ∙ ap (λ hs. d.calls.happened ++ hs) (sym (final_is d r s.answers));
+      names = same_names (final d) d refl refl r step new s.names;
+      breaks = λ e. same_breaks (final d) d refl refl r new (subst (λ v. Breaks r v new) is breaks);
+    }
+
 two_noted : (hs : List Happening) (g h : Happening) (more : List Happening) → (hs ++ g ∷ h ∷ []) ++ more ≡ (hs ++ g ∷ []) ++ h ∷ more
 two_noted hs g h more = append_assoc hs (g ∷ h ∷ []) more ∙ sym (append_assoc hs (g ∷ []) (h ∷ more))
 
@@ -138,6 +176,22 @@ module _ (d : DrivenView) (a : Arriving ℕ) where
   abbrev pub left_calls : DrivenCallsView
   left_calls = passed d.calls a (IsCompleted a.value) (Served a ∷ HasLeft ∷ [])
 
+  -- the setup stays while a call passes
+  pub passed_setup : (end : End ℕ) (hs : List Happening) → KeepsSetup d (settling d (passed d.calls a end hs))
+  passed_setup end hs = record {
+    entries = refl;
+    limits = refl;
+    room = record { fixed = refl; most = λ fixed. refl };
+    tickets = one_ended d.calls.object (passed d.calls a end hs).object (ended_as end (new_call d.calls.object.state.next a)) refl refl;
+  }
+
+  -- the ticket of the call that has passed is given up, and no other
+  left_kept : (v new : DrivenView) (end : End ℕ) → v.calls.object.tickets ≡ d.calls.object.tickets → v.calls.object.state.ended ≡ d.calls.object.state.ended ++ ended_as end (new_call d.calls.object.state.next a) ∷ []
+      → KeepsTickets v.calls.object new.calls.object → KeepsTickets (running d a).calls.object new.calls.object
+  left_kept v new end tickets ended kept =
+      kept_then (running d a).calls.object v.calls.object new.calls.object
+      (one_passed (running d a).calls.object v.calls.object d.calls.object.tickets (ended_as end (new_call d.calls.object.state.next a)) refl tickets ended) kept
+
   its_value : (x : Call ℕ) → Some (new_call d.calls.object.state.next a) ≡ Some x → a.value ≡ x.value
   its_value x e = let same : new_call d.calls.object.state.next a ≡ x = cc in ap (λ y. y.value) same
 
@@ -146,7 +200,7 @@ module _ (d : DrivenView) (a : Arriving ℕ) where
       let v = settling d completed_calls in let m = running d a in record {
         tells = s.tells;
         kept = s.proceeds m new;
-        setup = record { entries = s.setup.entries; limits = s.setup.limits; room = record { fixed = s.setup.room.fixed; most = s.setup.room.most } };
+        setup = record { entries = s.setup.entries; limits = s.setup.limits; room = record { fixed = s.setup.room.fixed; most = s.setup.room.most }; tickets = left_kept v new (IsCompleted a.value) refl refl s.setup.tickets };
         accepted = λ some no. s.answers;
         refused = λ none. absurd (cc);
         fresh = fresh_of r new fresh;
@@ -167,7 +221,7 @@ module _ (d : DrivenView) (a : Arriving ℕ) where
       let v = settling d left_calls in let m = running d a in record {
         tells = s.tells;
         kept = s.proceeds m new;
-        setup = record { entries = s.setup.entries; limits = s.setup.limits; room = record { fixed = s.setup.room.fixed; most = s.setup.room.most } };
+        setup = record { entries = s.setup.entries; limits = s.setup.limits; room = record { fixed = s.setup.room.fixed; most = s.setup.room.most }; tickets = left_kept v new (IsCompleted a.value) refl refl s.setup.tickets };
         accepted = λ some no. s.answers;
         refused = λ none. absurd (cc);
         fresh = fresh_of r new fresh;
@@ -188,7 +242,7 @@ module _ (d : DrivenView) (a : Arriving ℕ) where
       let v = settling d failed_calls in let m = running d a in record {
         tells = s.tells;
         kept = s.proceeds m new;
-        setup = record { entries = s.setup.entries; limits = s.setup.limits; room = record { fixed = s.setup.room.fixed; most = s.setup.room.most } };
+        setup = record { entries = s.setup.entries; limits = s.setup.limits; room = record { fixed = s.setup.room.fixed; most = s.setup.room.most }; tickets = left_kept v new (Raised 0) refl refl s.setup.tickets };
         accepted = λ some no. s.answers;
         refused = λ none. absurd (cc);
         fresh = fresh_of r new fresh;
@@ -263,7 +317,7 @@ module _ (d m new : DrivenView) (a : Arriving ℕ) (end : BodyEnd) (step : Named
   pub body_accepted : r ≢ Refused
   body_accepted =
       let awaits : Awaits Running m.calls.object m.closed = subst (λ p. Awaits p m.calls.object m.closed) running now.waits.awaits in
-      accepted_at end m r step m.calls.object.serving refl awaits (target_in end d m setup.entries was.target) (omega (arith, place_served d m a is now noted, was.may.place)) ends.accepted ends.moves
+      accepted_at end m r step m.calls.object.serving refl awaits (target_in end d m setup.entries was.target) (omega (arith, place_served d m a is now noted, was.may.second)) ends.accepted ends.moves
 
   is_taken : IsTaken r
   is_taken = taken_of m new r body_accepted ends.tells ends.kept running
@@ -273,3 +327,78 @@ module _ (d m new : DrivenView) (a : Arriving ℕ) (end : BodyEnd) (step : Named
 
   pub body_named : (before after : NamedCall) → LeavesNamed r before after
   body_named before after = named_taken r before after is_taken
+
+call_value : (x y : Call ℕ) → Some x ≡ Some y → x.value ≡ y.value
+call_value x y e = let same : x ≡ y = cc in ap (λ z. z.value) same
+
+not_idle : (o : Option (Call ℕ)) (x : Call ℕ) → o ≡ Some x → o ≡ None → ⊥
+not_idle o x is none = let bad : None ≡ Some x = sym none ∙ is in absurd (cc)
+
+module _ (d m new : DrivenView) (x : Call ℕ) (step : NamedCall) (r : Action) (in_service : d.calls.object.serving ≡ Some x) (setup : KeepsSetup d m)
+    (waiting : m.calls.object.state.waiting ≡ d.calls.object.state.waiting) (clock : m.calls.object.state.clock ≡ d.calls.object.state.clock)
+    (s : Services step m new r) (fresh : new.closed ≡ []) where
+  since : (h : Happening) → Notes (h ∷ []) d m → new.calls.happened ≡ d.calls.happened ++ h ∷ serviced r d
+  since h noted =
+      s.noted ∙ ap (λ l. l ++ serviced r m) noted ∙ append_assoc d.calls.happened (h ∷ []) (serviced r m)
+      ∙ ap (λ hs. d.calls.happened ++ h ∷ hs) (same_serviced m d waiting clock r)
+
+  its : (y : Call ℕ) → d.calls.object.serving ≡ Some y → x.value ≡ y.value
+  its y e = call_value x y (sym in_service ∙ e)
+
+  -- the body of the call in service completed, or failed, or requeued it elsewhere, and the queues were serviced
+  pub completes : Notes (Ended (IsCompleted x.value) ∷ []) d m → LooksOn r d.calls.object.state.waiting [] → EndsBody Completed step d new r
+  completes noted looks = record {
+    tells = s.tells;
+    kept = s.proceeds d new;
+    setup = setup_then d m new setup s.setup;
+    accepted = λ some no. s.answers;
+    refused = λ none. absurd (not_idle d.calls.object.serving x in_service none);
+    fresh = fresh_of r new fresh;
+    noted = λ y e. since (Ended (IsCompleted x.value)) noted ∙ ap (λ n. d.calls.happened ++ Ended (IsCompleted n) ∷ serviced r d) (its y e);
+    names = λ no. same_names m d waiting clock r step new s.names;
+    unmoved = λ q e no. absurd (cc);
+    moves = λ q y e is. absurd (cc);
+    ticket = s.unqueued step new;
+    full = λ q e. absurd (cc);
+    looks_on = λ some e. subst (λ l. LooksOn r d.calls.object.state.waiting l) (sym fresh) looks;
+    leaves = λ some e. absurd (cc);
+    breaks = λ some e. absurd (cc);
+  }
+
+  pub leaves : Notes (HasLeft ∷ []) d m → LooksOn r d.calls.object.state.waiting [] → EndsBody RequeuedElsewhere step d new r
+  leaves noted looks = record {
+    tells = s.tells;
+    kept = s.proceeds d new;
+    setup = setup_then d m new setup s.setup;
+    accepted = λ some no. s.answers;
+    refused = λ none. absurd (not_idle d.calls.object.serving x in_service none);
+    fresh = fresh_of r new fresh;
+    noted = λ y e. since HasLeft noted;
+    names = λ no. same_names m d waiting clock r step new s.names;
+    unmoved = λ q e no. absurd (cc);
+    moves = λ q y e is. absurd (cc);
+    ticket = s.unqueued step new;
+    full = λ q e. absurd (cc);
+    looks_on = λ some e. absurd (cc);
+    leaves = λ some e. subst (λ l. LooksOn r d.calls.object.state.waiting l) (sym fresh) looks;
+    breaks = λ some e. absurd (cc);
+  }
+
+  pub fails : Notes (Ended (Raised 0) ∷ []) d m → Breaks r m new → EndsBody Failed step d new r
+  fails noted breaks = record {
+    tells = s.tells;
+    kept = s.proceeds d new;
+    setup = setup_then d m new setup s.setup;
+    accepted = λ some no. s.answers;
+    refused = λ none. absurd (not_idle d.calls.object.serving x in_service none);
+    fresh = fresh_of r new fresh;
+    noted = λ y e. since (Ended (Raised 0)) noted;
+    names = λ no. same_names m d waiting clock r step new s.names;
+    unmoved = λ q e no. absurd (cc);
+    moves = λ q y e is. absurd (cc);
+    ticket = s.unqueued step new;
+    full = λ q e. absurd (cc);
+    looks_on = λ some e. absurd (cc);
+    leaves = λ some e. absurd (cc);
+    breaks = λ some e. same_breaks m d waiting clock r new breaks;
+  }

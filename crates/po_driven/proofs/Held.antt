@@ -1,8 +1,9 @@
 -- Which calls have tickets, as calls come and go.
-use Rattle.std.proofs.Common.{◌≡◌, ℕ, ◌+◌, List, [], ◌∷◌, ◌++◌, length, length-append, count_by, not, ◌&&◌, Bool, true, false, cond, ◌==◌, if◌then◌else◌, Option, Some, None, ap, refl, sym, subst, arith, inl, inr}
+use Rattle.std.proofs.Common.{◌≡◌, ℕ, ◌+◌, List, [], ◌∷◌, ◌++◌, length, length-append, map, count_by, not, ◌&&◌, Bool, true, false, cond, ◌==◌, if◌then◌else◌, Option, Some, None, ap, refl, sym, subst, ◌∙◌, arith, inl, inr}
 use Rattle.std.specs.Prelude.{IsSome, OnSome}
 use Rattle.std.specs.List.{find}
 use Rattle.std.proofs.lemmas.Bool.{cases_Bool, eqb-true}
+use Rattle.std.proofs.lemmas.List.{length-map}
 use Rattle.po_calls.specs.declared.call.Call.{Call}
 use Rattle.po_unit.specs.declared.outcome.Outcome.TheVariants.{Requeue}
 use Rattle.po_calls.specs.declared.end.End.{End}
@@ -12,12 +13,12 @@ use Rattle.po_engine.specs.declared.ended.Ended.{Ended}
 use Rattle.po_engine.specs.Ending.{ended_as, has_ended}
 use Rattle.po_engine.specs.Finding.{without_first}
 use Rattle.po_calls.specs.declared.end.CallStatus.TheVariants.{Unknown}
-use Rattle.po_engine.specs.WaitingCalls.{has_number, is_on}
+use Rattle.po_engine.specs.WaitingCalls.{has_number, is_on, mark}
 use Rattle.po_engine.specs.Tickets.{is_live, is_number, number_at, status_among, status_by, end_at, SetsTicket, uncollected}
 use Rattle.po_engine.proofs.Lists.{without_none}
 use Rattle.po_engine.proofs.TicketCounts.{one-less}
 use Rattle.po_engine.specs.ObjectState.{ObjectState}
-use Rattle.po_engine.specs.Step.{cancel, end_call, enter, is_full, conclude}
+use Rattle.po_engine.specs.Step.{attempt_cancel, cancel, end_call, enter, is_full, conclude, queue}
 use Rattle.po_engine.proofs.Absent.{eq_self}
 use Rattle.po_driven.specs.OnePlace.{calls_in_service}
 use Rattle.po_driven.proofs.Numbers.{found_number}
@@ -35,6 +36,10 @@ module _ (test : Call ℕ → Bool) where
   pub length_taken : (xs : List (Call ℕ)) (o : Option (Call ℕ)) → find test xs ≡ o → length (without_first test xs) + calls_in_service o ≡ length xs
   length_taken xs None h = omega (arith, ap (λ (l : List (Call ℕ)). length l) (without_none test xs h))
   length_taken xs (Some y) h = found_len xs y h
+
+-- the ticket that was set is live
+pub live_set : (old new : List (Option ℕ)) (ticket : Ticket) → SetsTicket old new ticket.key (Some ticket.number) → is_live new ticket ≡ true
+live_set old new ticket sets = ap (is_number ticket.number) sets.changed ∙ eq_self ticket.number
 
 number_of : (n : ℕ) (o : Option ℕ) → is_number n o ≡ true → o ≡ Some n
 number_of n None h = let bad : false ≡ true = h in absurd (cc)
@@ -87,3 +92,24 @@ pub concluded_is : (limit : Option ℕ) (s : ObjectState ℕ ℕ) (x : Call ℕ)
     → conclude limit s x (Requeue target with_abort x.value) ≡ enter limit s (record x { entry = target; without_abort = not with_abort })
 concluded_is limit s x target true kept = concluded_if (true && x.aborted) (end_call s x Cancelled) (enter limit s (record x { entry = target; without_abort = not true })) (kept refl)
 concluded_is limit s x target false kept = refl
+
+-- a mark leaves as many queued calls as there were, and the number of entries
+pub attempted_unit : (s : ObjectState ℕ ℕ) (n : ℕ) (o : Option (Call ℕ)) → (attempt_cancel s n o).unit ≡ s.unit
+attempted_unit s n None = refl
+attempted_unit s n (Some x) = unit_if x.without_abort
+  where
+    unit_if : (b : Bool) → (if b then record s { waiting = map (mark n) s.waiting } else cancel s n (Some x)).unit ≡ s.unit
+    unit_if true = refl
+    unit_if false = refl
+
+pub length_marked : (s : ObjectState ℕ ℕ) (n : ℕ) (x : Call ℕ) → find (has_number n) s.waiting ≡ Some x → x.without_abort ≡ true
+    → length (attempt_cancel s n (find (has_number n) s.waiting)).waiting ≡ length s.waiting
+length_marked s n x found kept = rw (found, kept) (length-map s.waiting (mark n))
+
+-- the number of entries stays when a call arrives on a queue
+pub entered_unit : (limit : Option ℕ) (s : ObjectState ℕ ℕ) (x : Call ℕ) → (enter limit s x).unit ≡ s.unit
+entered_unit limit s x = unit_if (is_full limit (count_by (is_on x.entry) s.waiting))
+  where
+    unit_if : (b : Bool) → (if b then end_call s x ProgramError else queue s x).unit ≡ s.unit
+    unit_if true = refl
+    unit_if false = refl

@@ -11,7 +11,7 @@ use Rattle.po_engine.specs.declared.ended.Ended.{Ended}
 use Rattle.po_engine.specs.Ending.{ended_as}
 use Rattle.po_engine.specs.WaitingCalls.{has_number, is_on, mark}
 use Rattle.std.specs.List.{count_by}
-use Rattle.po_engine.specs.Driving.{admitted, counted, new_call}
+use Rattle.po_engine.specs.Driving.{counted, new_call}
 use Rattle.po_engine.specs.ObjectState.{ObjectState}
 use Rattle.po_engine.specs.StateView.{StateView}
 use Rattle.po_engine.specs.Step.{attempt_cancel, cancel, end_call, enter, is_full, conclude, queue, take_out}
@@ -97,9 +97,9 @@ module _ (o n : StateView ℕ ℕ) where
   served a is held d l =
       led d (λ s. counted s) (Some (new_call d.state.next a)) l is (held ∙ ap (λ s. Some (new_call s.next a)) l.state) (λ left h. same_left d.elsewhere left (counted d.state) h)
 
-  pub arrived : (a : Arriving ℕ) (limit : Option ℕ) → n.state ≡ admitted limit (counted o.state) (new_call o.state.next a) false → n.serving ≡ None → (d : Driving) → IsLedTo d o → IsLedTo (happen (Arrived a limit) d) n
+  pub arrived : (a : Arriving ℕ) (limit : Option ℕ) → n.state ≡ enter limit (counted o.state) (new_call o.state.next a) → n.serving ≡ None → (d : Driving) → IsLedTo d o → IsLedTo (happen (Arrived a limit) d) n
   arrived a limit is held d l =
-      led d (λ s. admitted limit (counted s) (new_call s.next a) false) None l is held (λ left h. enter_left d.elsewhere left limit (counted d.state) (new_call d.state.next a) h)
+      led d (λ s. enter limit (counted s) (new_call s.next a)) None l is held (λ left h. enter_left d.elsewhere left limit (counted d.state) (new_call d.state.next a) h)
 
   pub selected : (e : ℕ) → n.state ≡ take_out o.state (is_on e) → n.serving ≡ find (is_on e) o.state.waiting → (d : Driving) → IsLedTo d o → IsLedTo (happen (Selected e) d) n
   selected e is held d l =

@@ -7,6 +7,8 @@ mod Lengths
 mod Numbers
 mod Passing
 mod Rests
+mod Setups
 mod Spots
+mod Tickets
 mod Traces
 mod Twice

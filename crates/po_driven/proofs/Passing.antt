@@ -1,7 +1,7 @@
 -- A call that is accepted and ends at once: what its two parts of a step do, one after the other.
 use Rattle.std.proofs.Common.{ℕ, ◌≡◌, ◌∙◌, ◌+◌, ◌<◌, List, [], ◌∷◌, ◌++◌, length, Bool, true, false, not, Option, None, Some, ap, refl, sym, subst, arith, append_assoc, length-append, cond, count_by, is_some}
 use Rattle.std.specs.List.{All, find}
-use Rattle.std.proofs.lemmas.List.Elements.{All-push, All-weaker}
+use Rattle.std.proofs.lemmas.List.Elements.{All-push}
 use Rattle.po_unit.specs.declared.outcome.Outcome.{Outcome}
 use Rattle.po_unit.specs.declared.outcome.Outcome.TheVariants.{Requeue as RequeueTo}
 use Rattle.po_calls.specs.declared.call.Call.{Call}
@@ -23,7 +23,7 @@ use Rattle.po_driven.specs.declared.happening.Happening.TheVariants.{Arrived, Ca
 use Rattle.po_driven.proofs.Held.{concluded_is}
 use Rattle.po_driven.proofs.Leads.{arrived, cancelled, ended, gone_elsewhere, requeued, selected, served}
 use Rattle.po_driven.proofs.Spots.{begun, cancelled as cancelled_once, joined, over, rejoined, took}
-use Rattle.po_driven.proofs.Traces.{traced_on}
+use Rattle.po_driven.proofs.Traces.{below_more, traced_on}
 
 -- the calls while the body of this call runs
 abbrev pub in_body : DrivenCallsView → Arriving ℕ → DrivenCallsView
@@ -40,9 +40,6 @@ in_body t a = record {
 
 one_more : (tickets : List (Option ℕ)) (n : ℕ) → uncollected (tickets ++ Some n ∷ []) ≡ uncollected tickets + 1
 one_more tickets n = sum_by-push (λ o. cond (is_some o) 1 0) tickets (Some n)
-
-below_more : (k : ℕ) (places : List ℕ) → All (λ j. j < k) places → All (λ j. j < k + 1) places
-below_more k places h = All-weaker (λ j. j < k) (λ j. j < k + 1) (λ j lt. omega (arith, lt)) places h
 
 -- what holds of them
 pub body_traced : (t : DrivenCallsView) (a : Arriving ℕ) → IsTraced t → t.object.serving ≡ None → IsTraced (in_body t a)

@@ -31,7 +31,7 @@ none_marked t n (x ∷ xs) h =
     let still : is_due t (mark n x) ≡ false = marked_due t (has_number n x) x ∙ off in
     simp still (none_marked t n xs later)
 
-marks : (s : ObjectState ℕ ℕ) (n : ℕ) (x : Call ℕ) (o : Option (Call ℕ)) → o ≡ Some x → x.without_abort ≡ true → attempt_cancel s n o ≡ record s { waiting = map (mark n) s.waiting }
+pub marks : (s : ObjectState ℕ ℕ) (n : ℕ) (x : Call ℕ) (o : Option (Call ℕ)) → o ≡ Some x → x.without_abort ≡ true → attempt_cancel s n o ≡ record s { waiting = map (mark n) s.waiting }
 marks s n x o found without_abort = rw (found, without_abort) refl
 
 -- a mark leaves an object at rest

@@ -3,13 +3,13 @@ use Rattle.std.proofs.Common.{◌≡◌, ℕ, ◌+◌, ◌≤◌, map, refl, ap,
 use Rattle.std.specs.List.{count_by, find}
 use Rattle.po_calls.specs.declared.call.Call.{Call}
 use Rattle.po_calls.specs.declared.end.End.{End}
-use Rattle.po_calls.specs.declared.end.End.TheVariants.{Cancelled}
+use Rattle.po_calls.specs.declared.end.End.TheVariants.{Cancelled, ProgramError}
 use Rattle.po_engine.specs.ObjectState.{ObjectState}
 use Rattle.po_engine.specs.StateView.{StateView}
-use Rattle.po_engine.specs.WaitingCalls.{has_number, mark}
+use Rattle.po_engine.specs.WaitingCalls.{has_number, is_on, mark}
 use Rattle.po_engine.specs.Ending.{ended_as, has_ended}
 use Rattle.po_engine.proofs.Lists.{without_none}
-use Rattle.po_engine.specs.Step.{end_call, queue, take_out, cancel, attempt_cancel}
+use Rattle.po_engine.specs.Step.{end_call, enter, is_full, queue, take_out, cancel, attempt_cancel}
 use Rattle.po_engine.proofs.Sums.{sum_by-push, sum_by-without, sum_by-mapped}
 use Rattle.po_driven.specs.OnePlace.{times_in_service, times_in, IsThereOnce}
 use Rattle.po_engine.specs.Driving.{counted}
@@ -102,12 +102,28 @@ joined a b x h number st ha p =
           (ap₂ (times_in n) st ha ∙ omega (arith, p.each n, ap (times_in_service n) h, in_range n a.state.next x number p.low, sum_by-push (λ y. cond (has_number n y) 1 0) a.state.waiting x));
     }
 
+same_spot : (n : ℕ) (x y : Call ℕ) → y.number ≡ x.number → one_if n y ≡ one_if n x
+same_spot n x y number = ap (λ k. one_if n (record y { number = k })) number
+
 -- the call in service, with its number, is queued
 pub rejoined : (a b : StateView ℕ ℕ) (x y : Call ℕ) → a.serving ≡ Some x → y.number ≡ x.number → b.state ≡ queue a.state y → b.serving ≡ None → IsThereOnce a → IsThereOnce b
 rejoined a b x y h number st ha p = moved a b (queue a.state y) None st ha refl (λ n. omega (arith, ap (times_in_service n) h, sum_by-push (λ z. cond (has_number n z) 1 0) a.state.waiting y, same_spot n x y number)) p
+
+-- the call in service, with its number, is queued, or ends if the queue is full
+pub entered : (a b : StateView ℕ ℕ) (limit : Option ℕ) (x y : Call ℕ) → a.serving ≡ Some x → y.number ≡ x.number → b.state ≡ enter limit a.state y → b.serving ≡ None → IsThereOnce a → IsThereOnce b
+entered a b limit x y h number st ha p = entered_if (is_full limit (count_by (is_on y.entry) a.state.waiting)) st
   where
-    same_spot : (n : ℕ) (x y : Call ℕ) → y.number ≡ x.number → one_if n y ≡ one_if n x
-    same_spot n x y number = ap (λ k. one_if n (record y { number = k })) number
+    entered_if : (full : Bool) → b.state ≡ (if full then end_call a.state y ProgramError else queue a.state y) → IsThereOnce b
+    entered_if true is = moved a b (end_call a.state y ProgramError) None is ha refl (λ n. omega (arith, places-end_call n a.state y ProgramError, ap (times_in_service n) h, same_spot n x y number)) p
+    entered_if false is = rejoined a b x y h number is ha p
+
+-- the same calls are there after a ticket is given up
+pub same_calls : (a b : StateView ℕ ℕ) → b.state ≡ a.state → b.serving ≡ a.serving → IsThereOnce a → IsThereOnce b
+same_calls a b st ha p = moved a b a.state a.serving st ha refl (λ n. refl) p
+
+-- the call in service changes, but keeps its number
+pub turned : (a b : StateView ℕ ℕ) (x y : Call ℕ) → a.serving ≡ Some x → y.number ≡ x.number → b.state ≡ a.state → b.serving ≡ Some y → IsThereOnce a → IsThereOnce b
+turned a b x y h number st ha p = moved a b a.state (Some y) st ha refl (λ n. omega (arith, ap (times_in_service n) h, same_spot n x y number)) p
 
 pub took : (a b : StateView ℕ ℕ) (test : Call ℕ → Bool) (o : Option (Call ℕ)) → a.serving ≡ None → find test a.state.waiting ≡ o → b.state ≡ take_out a.state test → b.serving ≡ o → IsThereOnce a → IsThereOnce b
 took a b test o h f st ha p = moved a b (take_out a.state test) o st ha refl (λ n. spots-take n a.state a.serving test o h f) p

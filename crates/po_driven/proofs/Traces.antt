@@ -1,24 +1,22 @@
 -- What happens is added to what has happened.
-use Rattle.std.proofs.Common.{ℕ, ◌+◌, ◌<◌, ◌≤◌, ◌≡◌, ◌∙◌, List, [], ◌∷◌, ◌++◌, ◌==◌, Bool, true, false, not, ◌&&◌, if◌then◌else◌, Option, None, Some, IsSome, count_by, nat_eq, nat_le, nat_lt, inl, inr, ap, ap₂, refl, sym, subst, arith}
+use Rattle.std.proofs.Common.{ℕ, ◌+◌, ◌<◌, ◌≤◌, ◌≡◌, ◌∙◌, List, [], ◌∷◌, ◌++◌, Bool, true, false, not, ◌&&◌, if◌then◌else◌, Option, IsSome, count_by, nat_le, nat_lt, inl, inr, ap, ap₂, refl, sym, subst, arith}
 use Rattle.std.specs.List.{All, find}
-use Rattle.std.specs.Option.{option_eq}
 use Rattle.std.proofs.lemmas.Bool.{cases_Bool}
-use Rattle.std.proofs.lemmas.Bool.Decides.{nat_tests}
 use Rattle.std.proofs.lemmas.List.Elements.{All-weaker}
 use Rattle.po_unit.specs.declared.outcome.Outcome.TheVariants.{Requeue}
 use Rattle.po_calls.specs.declared.call.Call.{Call}
-use Rattle.po_calls.specs.declared.end.End.TheVariants.{Cancelled}
 use Rattle.po_engine.specs.Ending.{has_ended}
 use Rattle.po_engine.specs.WaitingCalls.{has_number, is_on}
 use Rattle.po_engine.specs.Arrival.{Increases}
 use Rattle.po_engine.specs.ObjectState.{ObjectState}
 use Rattle.po_engine.specs.StateView.{StateView}
-use Rattle.po_engine.specs.Step.{enter, end_call, is_full, conclude}
+use Rattle.po_engine.specs.Step.{enter, is_full, is_queued_again, conclude}
 use Rattle.po_engine.proofs.Sums.{sum_by-push}
 use Rattle.po_driven.specs.Happening.{Driving, arrives, happen, opening, replay}
 use Rattle.po_driven.specs.OnePlace.{HasTickets, IsInOnePlace, IsLedTo, IsThereOnce, times_in_service, places_with, times_in}
 use Rattle.po_driven.specs.DrivenCallsView.{DrivenCallsView, IsTraced, led_by}
 use Rattle.po_driven.specs.declared.happening.Happening.{Happening}
+use Rattle.po_driven.proofs.Held.{concluded_is}
 
 replay_on : (d : Driving) (hs : List Happening) (h : Happening) → replay d (hs ++ h ∷ []) ≡ happen h (replay d hs)
 replay_on d [] h = refl
@@ -58,45 +56,40 @@ traced_on old new h t unit noted at goes once tickets rises later =
       place = at ∙ omega (arith, t.place, sum_by-push (λ g. if arrives g then 1 else 0) old.happened h) ∙ ap (count_by arrives) (sym noted);
     }
 
+-- places that are below this one are below the next one
+pub below_more : (k : ℕ) (places : List ℕ) → All (λ j. j < k) places → All (λ j. j < k + 1) places
+below_more k places h = All-weaker (λ j. j < k) (λ j. j < k + 1) (λ j lt. omega (arith, lt)) places h
+
 -- places that are at most this one are below the next one
 pub below_next : (k : ℕ) (places : List ℕ) → All (λ j. j ≤ k) places → All (λ j. j < k + 1) places
 below_next k places h = All-weaker (λ j. j ≤ k) (λ j. j < k + 1) (λ j le. omega (arith, le)) places h
-
-same_test : (most n : ℕ) → nat_eq most n ≡ (n == most)
-same_test most n = grind (arith, nat_tests)
-
-full_is : (limit : Option ℕ) (n : ℕ) → option_eq nat_eq limit (Some n) ≡ is_full limit n
-full_is None n = refl
-full_is (Some most) n = same_test most n
 
 pub found_last : (p : Call ℕ → Bool) (xs : List (Call ℕ)) (x : Call ℕ) → p x ≡ true → IsSome (find p (xs ++ x ∷ []))
 found_last p [] x is = rw is refl
 found_last p (y ∷ xs) x is = elim (cases_Bool (p y)) [ inl here ↦ rw here refl | inr there ↦ rw there (found_last p xs x is) ]
 
--- a queue of exactly this length is full
-pub full_when : (limit : Option ℕ) (n count : ℕ) (b : Bool) → b ≡ option_eq nat_eq limit (Some n) → n ≡ count → b ≡ true → is_full limit count ≡ true
-full_when limit n count b test is on = sym (ap (is_full limit) is) ∙ sym (full_is limit n) ∙ sym test ∙ on
-
--- and one of another length isn't
-pub room_when : (limit : Option ℕ) (n count : ℕ) (b : Bool) → b ≡ option_eq nat_eq limit (Some n) → n ≡ count → b ≡ false → is_full limit count ≡ false
-room_when limit n count b test is off = sym (ap (is_full limit) is) ∙ sym (full_is limit n) ∙ sym test ∙ off
-
 -- a call that finds a queue which isn't full is found there, by any test that it passes
-pub queued_on : (p : Call ℕ → Bool) (limit : Option ℕ) (s : ObjectState ℕ ℕ) (x : Call ℕ) (n : ℕ) (b : Bool) → p x ≡ true → b ≡ option_eq nat_eq limit (Some n) → n ≡ count_by (is_on x.entry) s.waiting → b ≡ false
-    → IsSome (find p (enter limit s x).waiting)
-queued_on p limit s x n b is test count off =
-    let room : is_full limit (count_by (is_on x.entry) s.waiting) ≡ false = sym (ap (is_full limit) count) ∙ sym (full_is limit n) ∙ sym test ∙ off in
-    rw room (found_last p s.waiting x is)
-
-queued_if : (p : Call ℕ → Bool) (b : Bool) (s t : ObjectState ℕ ℕ) → b ≡ false → IsSome (find p t.waiting) → IsSome (find p (if b then s else t).waiting)
-queued_if p true s t off h = absurd (cc)
-queued_if p false s t off h = h
+pub queued_on : (p : Call ℕ → Bool) (limit : Option ℕ) (s : ObjectState ℕ ℕ) (x : Call ℕ) → p x ≡ true → is_full limit (count_by (is_on x.entry) s.waiting) ≡ false → IsSome (find p (enter limit s x).waiting)
+queued_on p limit s x is room = rw room (found_last p s.waiting x is)
 
 -- so is one that is requeued, unless it is cancelled
-pub moved_on : (p : Call ℕ → Bool) (limit : Option ℕ) (s : ObjectState ℕ ℕ) (x : Call ℕ) (target : ℕ) (with_abort : Bool) (n : ℕ) (b : Bool) → ((without_abort : Bool) → p (record x { entry = target; without_abort = without_abort }) ≡ true)
-    → b ≡ option_eq nat_eq limit (Some n) → n ≡ count_by (is_on target) s.waiting → b ≡ false
-    → ((with_abort ≡ true) → (x.aborted ≡ false)) → IsSome (find p (conclude limit s x (Requeue target with_abort x.value)).waiting)
-moved_on p limit s x target true n b is test count off kept =
-    let y = record x { entry = target; without_abort = not true } in
-    queued_if p (true && x.aborted) (end_call s x Cancelled) (enter limit s y) (kept refl) (queued_on p limit s y n b (is (not true)) test count off)
-moved_on p limit s x target false n b is test count off kept = queued_on p limit s (record x { entry = target; without_abort = not false }) n b (is (not false)) test count off
+pub moved_on : (p : Call ℕ → Bool) (limit : Option ℕ) (s : ObjectState ℕ ℕ) (x : Call ℕ) (target : ℕ) (with_abort : Bool) → p (record x { entry = target; without_abort = not with_abort }) ≡ true
+    → is_full limit (count_by (is_on target) s.waiting) ≡ false → ((with_abort ≡ true) → (x.aborted ≡ false)) → IsSome (find p (conclude limit s x (Requeue target with_abort x.value)).waiting)
+moved_on p limit s x target with_abort is room kept =
+    subst (λ (t : ObjectState ℕ ℕ). IsSome (find p t.waiting)) (sym (concluded_is limit s x target with_abort kept))
+    (queued_on p limit s (record x { entry = target; without_abort = not with_abort }) is room)
+
+-- a call that isn't queued has found a full queue, and one that is queued hasn't
+pub full_of : (queued full : Bool) → queued ≡ not full → queued ≡ false → full ≡ true
+full_of queued true is off = refl
+full_of queued false is off = absurd (cc)
+
+pub room_of : (queued full : Bool) → queued ≡ not full → queued ≡ true → full ≡ false
+room_of queued true is on = absurd (cc)
+room_of queued false is on = refl
+
+-- a requeue that isn't cancelled is queued unless the queue is full
+pub again_if : (limit : Option ℕ) (s : ObjectState ℕ ℕ) (x : Call ℕ) (target : ℕ) (with_abort : Bool) → ((with_abort ≡ true) → (x.aborted ≡ false))
+    → is_queued_again limit s x (Requeue target with_abort x.value) ≡ not (is_full limit (count_by (is_on target) s.waiting))
+again_if limit s x target true kept = rw (kept refl) refl
+again_if limit s x target false kept = refl

@@ -6,6 +6,7 @@ use Rattle.po_calls.specs.declared.call.Call.{Call}
 use Rattle.po_calls.specs.declared.end.End.TheVariants.{Completed as IsCompleted}
 use Rattle.po_engine.specs.declared.arriving.Arriving.{Arriving}
 use Rattle.po_engine.specs.Driving.{new_call}
+use Rattle.po_engine.specs.Ending.{ended_as}
 use Rattle.po_engine.specs.Step.{is_full}
 use Rattle.po_engine.specs.Tickets.{is_number}
 use Rattle.po_engine.specs.WaitingCalls.{has_number, is_on}
@@ -24,6 +25,7 @@ use Rattle.po_driven.specs.declared.words.Requeue.{Requeue}
 use Rattle.po_driven.proofs.Alone.{asked_same, below_alone, last_number, open_alone}
 use Rattle.po_driven.proofs.Between.{issues_open, may_issue, named, resting_idle, running, running_driven}
 use Rattle.po_driven.proofs.Passing.{in_second_body, in_second_queue, moved_call, noted_twice, second_body_traced, second_queue_traced}
+use Rattle.po_driven.proofs.Tickets.{one_passed, same_tickets}
 use Rattle.po_driven.proofs.Traces.{found_last}
 
 same_requeue : (q r : Requeue) → Requeued r ≡ Requeued q → r ≡ q
@@ -58,7 +60,7 @@ module _ (d new : DrivenView) (a : Arriving ℕ) (r : Requeue) (may : MayServeTw
   ticket = record { caller = a.value; key = length d.calls.object.tickets; number = d.calls.object.state.next }
 
   idle : d.calls.object.serving ≡ None
-  idle = resting_idle d is may.served.may.resting
+  idle = resting_idle d is may.served.may.accepts.resting
 
   room : is_full limit 0 ≡ false
   room = open_alone d r.target may.alone
@@ -75,7 +77,7 @@ module _ (d new : DrivenView) (a : Arriving ℕ) (r : Requeue) (may : MayServeTw
       (subst (λ y. Moves (Queued r.target) r y ticket (running d a)) (same_call its x in_service) (may.kept, refl, refl))
 
   may_requeue : (q : Requeue) → Requeued r ≡ Requeued q → MayRequeue (running d a) q
-  may_requeue q e = subst (λ z. MayRequeue (running d a) z) (same_requeue q r e) (may.target, omega (arith, may.served.may.place))
+  may_requeue q e = subst (λ z. MayRequeue (running d a) z) (same_requeue q r e) (may.target, omega (arith, may.served.may.second))
 
   pub twice_between : new.calls ≡ passed_twice d.calls a (IsCompleted a.value) (Served a ∷ WasRequeued (RequeueTo r.target r.with_abort a.value) limit ∷ Selected r.target ∷ Ended (IsCompleted a.value) ∷ [])
       → new.limits ≡ d.limits → new.phase ≡ Resting → new.closed ≡ [] → ServesTwiceBetween a r d new
@@ -104,7 +106,7 @@ module _ (d new : DrivenView) (a : Arriving ℕ) (r : Requeue) (may : MayServeTw
     requeues = record {
       tells = refl;
       kept = tt;
-      setup = record { entries = refl; limits = refl; room = record { fixed = refl; most = λ fixed. refl } };
+      setup = record { entries = refl; limits = refl; room = record { fixed = refl; most = λ fixed. refl }; tickets = same_tickets (running d a).calls.object queued.calls.object refl refl };
       accepted = λ some no. absurd no;
       refused = λ none. absurd (cc);
       fresh = refl;
@@ -124,7 +126,7 @@ module _ (d new : DrivenView) (a : Arriving ℕ) (r : Requeue) (may : MayServeTw
     answers = record {
       tells = refl;
       kept = tt;
-      setup = record { entries = refl; limits = refl; room = record { fixed = refl; most = λ fixed. refl } };
+      setup = record { entries = refl; limits = refl; room = record { fixed = refl; most = λ fixed. refl }; tickets = same_tickets queued.calls.object second.calls.object refl refl };
       accepted = λ e q n. absurd (cc);
       refused = λ no. absurd (no r.target refl);
       closed = λ e q. refl;
@@ -141,6 +143,7 @@ module _ (d new : DrivenView) (a : Arriving ℕ) (r : Requeue) (may : MayServeTw
         entries = ap (λ t. t.object.state.unit) calls;
         limits = limits;
         room = record { fixed = ap (λ t. t.object.is_fixed) calls; most = λ fixed. ap (λ t. t.object.most) calls };
+        tickets = one_passed second.calls.object new.calls.object d.calls.object.tickets (ended_as (IsCompleted a.value) its) refl (ap (λ t. t.object.tickets) calls) (ap (λ t. t.object.state.ended) calls);
       };
       accepted = λ some no n. absurd (cc);
       refused = λ none. absurd (cc);

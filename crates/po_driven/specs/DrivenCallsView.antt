@@ -2,10 +2,12 @@
 -- What contracts see of the calls of a driven object with their history, and what always holds of them (this project's own).
 use Rattle.std.specs.Prelude.{ℕ, ◌≡◌, ◌<◌, ◌+◌, List, [], ◌∷◌, ◌++◌, length, Bool, true, None, All, count_by}
 use Rattle.po_calls.specs.declared.end.End.{End}
+use Rattle.po_calls.specs.declared.ticket.Ticket.{Ticket}
 use Rattle.po_engine.specs.declared.arriving.Arriving.{Arriving}
 use Rattle.po_engine.specs.Driving.{counted, new_call}
 use Rattle.po_engine.specs.Step.{end_call}
-use Rattle.po_engine.specs.Tickets.{uncollected}
+use Rattle.po_engine.specs.Ending.{has_ended}
+use Rattle.po_engine.specs.Tickets.{is_live, uncollected}
 use Rattle.po_engine.specs.Arrival.{Increases}
 use Rattle.po_engine.specs.ObjectState.{opening_state}
 use Rattle.po_engine.specs.StateView.{StateView}
@@ -59,21 +61,18 @@ pub record IsTraced (t : DrivenCallsView) : Type 0 where
   -- the present place is the number of arrivals so far
   pub place : t.place ≡ count_by arrives t.happened
 
--- One more call on this entry may be accepted: no body runs, there is memory for it, its command has begun, the entry exists,
--- and a number and a place are left.
-pub record IsReady (t : DrivenCallsView) (e : ℕ) : Type 0 where
-  pub idle : t.object.serving ≡ None
-  pub room : uncollected t.object.tickets < t.object.most
-  pub begun : t.object.before ≡ length t.object.state.ended
-  pub entry : e < t.object.state.unit
-  pub number : t.object.state.next < 18_446_744_073_709_551_615
-  pub place : t.place < 340_282_366_920_938_463_463_374_607_431_768_211_455
-
 -- A call may be accepted that ends at once: no body runs, and a number and a place are left.
 pub record MayPass (t : DrivenCallsView) : Type 0 where
   pub idle : t.object.serving ≡ None
   pub number : t.object.state.next < 18_446_744_073_709_551_615
   pub place : t.place < 340_282_366_920_938_463_463_374_607_431_768_211_455
+
+-- One more call on this entry may be accepted: it may pass, there is memory for it, its command has begun, and the entry exists.
+pub record IsReady (t : DrivenCallsView) (e : ℕ) : Type 0 where
+  pub passes : MayPass t
+  pub room : uncollected t.object.tickets < t.object.most
+  pub begun : t.object.before ≡ length t.object.state.ended
+  pub entry : e < t.object.state.unit
 
 -- The calls after one more was accepted and has ended in this way, and this has happened. It took no room, and no ticket is left.
 abbrev pub passed : DrivenCallsView → Arriving ℕ → End ℕ → List Happening → DrivenCallsView
@@ -95,3 +94,9 @@ passed_twice t a end hs = record (passed t a end hs) { place = t.place + 2 }
 pub record KeepsRoom (old new : StateView ℕ ℕ) : Type 0 where
   pub fixed : new.is_fixed ≡ old.is_fixed
   pub most : old.is_fixed ≡ true → new.most ≡ old.most
+
+-- A live ticket stays live until its call has ended or was requeued elsewhere: the engine counts both as ended. No call that has
+-- ended comes back.
+pub record KeepsTickets (old new : StateView ℕ ℕ) : Type 0 where
+  pub live : (ticket : Ticket) → is_live old.tickets ticket ≡ true → count_by (has_ended ticket.number) new.state.ended ≡ 0 → is_live new.tickets ticket ≡ true
+  pub left : (n : ℕ) → count_by (has_ended n) new.state.ended ≡ 0 → count_by (has_ended n) old.state.ended ≡ 0

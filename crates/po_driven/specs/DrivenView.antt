@@ -4,7 +4,7 @@ use Rattle.std.specs.Prelude.{ℕ, replicate, ◌≡◌, ◌≢◌, ◌<◌, Lis
 use Rattle.po_engine.specs.WaitingCalls.{is_on}
 use Rattle.po_engine.specs.StateView.{StateView}
 use Rattle.po_driven.specs.AtRest.{AskedBelow, IsAtRest, ToldBelow}
-use Rattle.po_driven.specs.DrivenCallsView.{KeepsRoom, DrivenCallsView, IsTraced}
+use Rattle.po_driven.specs.DrivenCallsView.{KeepsRoom, KeepsTickets, DrivenCallsView, IsTraced}
 use Rattle.po_driven.specs.declared.phase.Phase.{Phase}
 use Rattle.po_driven.specs.declared.phase.Phase.TheVariants.{Resting, Asked, Running, Settling, Breaking}
 use Rattle.po_driven.specs.declared.action.Action.{Action}
@@ -47,14 +47,17 @@ pub record IsDriven (d : DrivenView) : Type 0 where
   pub traced : IsTraced d.calls
   pub waits : IsWaiting d
 
--- A call on this entry is accepted: the object waits for a command and isn't finalized, the entry exists, and numbers and
--- places are left.
-pub record MayIssue (d : DrivenView) (e : ℕ) : Type 0 where
+-- Calls are accepted: the object waits for a command and isn't finalized, and a number and a place are left.
+pub record AcceptsCalls (d : DrivenView) : Type 0 where
   pub resting : d.phase ≡ Resting
   pub alive : d.calls.object.state.finalized ≡ false
-  pub entry : e < d.calls.object.state.unit
   pub number : d.calls.object.state.next < 18_446_744_073_709_551_615
   pub place : d.calls.place < 340_282_366_920_938_463_463_374_607_431_768_211_455
+
+-- A call on this entry is accepted: calls are, and the entry exists.
+pub record MayIssue (d : DrivenView) (e : ℕ) : Type 0 where
+  pub accepts : AcceptsCalls d
+  pub entry : e < d.calls.object.state.unit
 
 -- What the client is told is right: what it is to do next is what the object waits for.
 abbrev pub Tells : Action → DrivenView → Type 0
@@ -86,11 +89,12 @@ LeavesNamed Refused old new = new ≡ old
 LeavesNamed other old new = Unit {0}
 
 -- The setup of an object stays: how many entries it has, the limits of their queues, whether its memory is fixed, and if so,
--- for how many calls.
+-- for how many calls. And so do the tickets of calls that haven't ended.
 pub record KeepsSetup (old new : DrivenView) : Type 0 where
   pub entries : new.calls.object.state.unit ≡ old.calls.object.state.unit
   pub limits : new.limits ≡ old.limits
   pub room : KeepsRoom old.calls.object new.calls.object
+  pub tickets : KeepsTickets old.calls.object new.calls.object
 
 -- which entries count as reported closed once the client has answered for this one
 abbrev pub closed_after : List ℕ → ℕ → Barrier → List ℕ

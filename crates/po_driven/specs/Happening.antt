@@ -9,8 +9,8 @@ use Rattle.po_calls.specs.declared.end.End.{End}
 use Rattle.po_calls.specs.declared.end.End.TheVariants.{ProgramError}
 use Rattle.po_engine.specs.WaitingCalls.{has_number, is_on}
 use Rattle.po_engine.specs.ObjectState.{ObjectState, opening_state}
-use Rattle.po_engine.specs.Step.{end_call, conclude, take_out, cancel, attempt_cancel}
-use Rattle.po_engine.specs.Driving.{admitted, counted, in_service, new_call, take_oldest}
+use Rattle.po_engine.specs.Step.{end_call, enter, conclude, take_out, cancel, attempt_cancel}
+use Rattle.po_engine.specs.Driving.{counted, new_call, take_oldest}
 use Rattle.po_driven.specs.declared.happening.Happening.{Happening}
 use Rattle.po_driven.specs.declared.happening.Happening.TheVariants.{Served, Arrived, Selected, Ended, RequeuedElsewhere, Due, Requeued, Broken, Cancelled, Marked, Finalized}
 
@@ -51,8 +51,8 @@ after_requeue d (Some x) o limit = record d { state = conclude limit d.state x o
 
 -- the calls after one thing has happened
 abbrev pub happen : Happening → Driving → Driving
-happen (Served a) d = record d { state = admitted None (counted d.state) (new_call d.state.next a) true; serving = in_service (new_call d.state.next a) true }
-happen (Arrived a limit) d = record d { state = admitted limit (counted d.state) (new_call d.state.next a) false; serving = in_service (new_call d.state.next a) false }
+happen (Served a) d = record d { state = counted d.state; serving = Some (new_call d.state.next a) }
+happen (Arrived a limit) d = record d { state = enter limit (counted d.state) (new_call d.state.next a); serving = None }
 happen (Selected e) d = record d { state = take_out d.state (is_on e); serving = find (is_on e) d.state.waiting }
 happen (Ended end) d = after_end d d.serving end
 happen RequeuedElsewhere d = after_leaving d d.serving

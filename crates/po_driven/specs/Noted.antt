@@ -1,6 +1,6 @@
 -- SPDX-License-Identifier: MIT
 -- What an answer says has happened, and whom it names (9.5.2 to 9.5.4, 9.7.2, D.7).
-use Rattle.std.specs.Prelude.{ℕ, ◌≡◌, ◌==◌, List, [], ◌∷◌, ◌++◌, max, Bool, true, false, Option, Some, None, find, count_by, IsSome, IsSomeAnd, if◌then◌else◌}
+use Rattle.std.specs.Prelude.{ℕ, ◌≡◌, ◌==◌, List, [], ◌∷◌, ◌++◌, Bool, true, false, Option, Some, None, find, count_by, IsSome, IsSomeAnd, if◌then◌else◌}
 use Rattle.std.specs.List.{slice_get, slice_index}
 use Rattle.po_unit.specs.declared.outcome.Outcome.TheVariants.{Requeue as RequeueTo}
 use Rattle.po_calls.specs.declared.call.Call.{Call}
@@ -25,13 +25,13 @@ use Rattle.po_driven.specs.declared.words.Cancellation.{Cancellation}
 use Rattle.po_driven.specs.declared.words.Cancellation.TheVariants.{Made, Kept, Unknown, Refused as IsRefused}
 use Rattle.po_driven.specs.declared.words.NamedCall.{NamedCall}
 
--- the length at which a queue is full, given its limit (0 means none) and how many calls are queued on it
-abbrev pub full_at : ℕ → ℕ → Option ℕ
-full_at limit count = if limit == 0 then None else Some (max limit count)
+-- the length from which on a queue is full, given its limit: 0 means none
+abbrev pub full_at : ℕ → Option ℕ
+full_at limit = if limit == 0 then None else Some limit
 
--- the length at which the queue of the entry is full
+-- the length from which on the queue of the entry is full
 abbrev pub longest_on : DrivenView → ℕ → Option ℕ
-longest_on d e = full_at (slice_index d.limits e) (count_by (is_on e) d.calls.object.state.waiting)
+longest_on d e = full_at (slice_index d.limits e)
 
 -- what has happened if an object that services its queues gives this answer
 abbrev pub serviced : Action → DrivenView → List Happening

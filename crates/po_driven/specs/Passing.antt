@@ -7,25 +7,21 @@ use Rattle.po_engine.specs.Driving.{new_call}
 use Rattle.po_engine.specs.Tickets.{uncollected}
 use Rattle.po_engine.specs.WaitingCalls.{is_due}
 use Rattle.po_driven.specs.Answering.{is_cancelled, is_withdrawn}
-use Rattle.po_driven.specs.DrivenView.{DrivenView, IsDriven, KeepsAll, KeepsSetup, MayIssue}
+use Rattle.po_driven.specs.DrivenView.{AcceptsCalls, DrivenView, IsDriven, KeepsAll, KeepsSetup, MayIssue}
 use Rattle.po_driven.specs.Noted.{IsNoRequeue}
 use Rattle.po_driven.specs.Steps.{EndsBody, Evaluates, GoesOn, Issues}
 use Rattle.po_driven.specs.declared.action.Action.{Action}
 use Rattle.po_driven.specs.declared.action.Action.TheVariants.{Rest, Run, Queued, Cancelled, NoMemory, Refused}
-use Rattle.po_driven.specs.declared.phase.Phase.TheVariants.{Resting}
 use Rattle.po_driven.specs.declared.words.Barrier.TheVariants.{Closed, Open}
 use Rattle.po_driven.specs.declared.words.BodyEnd.{BodyEnd}
 use Rattle.po_driven.specs.declared.words.BodyEnd.TheVariants.{Completed, Requeued}
 use Rattle.po_driven.specs.declared.words.NamedCall.{NamedCall}
 use Rattle.po_driven.specs.declared.words.Requeue.{Requeue}
 
--- A call is accepted even if its body has run already: the object waits for a command and isn't finalized, and a number is left,
--- and places for an arrival and a requeue.
+-- A call is accepted even if its body has run already: calls are accepted, and a second place is left, for a requeue.
 pub record MayServe (d : DrivenView) : Type 0 where
-  pub resting : d.phase ≡ Resting
-  pub alive : d.calls.object.state.finalized ≡ false
-  pub number : d.calls.object.state.next < 18_446_744_073_709_551_615
-  pub place : d.calls.place + 1 < 340_282_366_920_938_463_463_374_607_431_768_211_455
+  pub accepts : AcceptsCalls d
+  pub second : d.calls.place + 1 < 340_282_366_920_938_463_463_374_607_431_768_211_455
 
 -- An object that is asked to be ready says whether it is, or that it has no memory.
 abbrev pub SaysReady : Action → Type 0
@@ -44,6 +40,8 @@ pub record MakesReady (old new : DrivenView) (action : Action) : Type 0 where
   pub accepted : MayServe old → action ≢ Refused
   pub refused : (MayServe old → ⊥) → action ≡ Refused
   pub room : uncollected old.calls.object.tickets < old.calls.object.most → action ≢ NoMemory
+  -- if there is room, no memory is taken
+  pub taken : uncollected old.calls.object.tickets < old.calls.object.most → new.calls.object.most ≡ old.calls.object.most
   pub same : new ≡ record old { calls = record old.calls { object = record old.calls.object { most = new.calls.object.most; before = new.calls.object.before } } }
 
 -- The entry to which a body requeued its call within the object exists.

@@ -1,26 +1,27 @@
 // SPDX-License-Identifier: MIT
 //! The calls of a driven object with what has happened to them.
 
-ghost use Rattle.std.specs.Prelude.{◌≡◌, ◌<◌, ◌+◌, ◌++◌, ◌∷◌, [], ℕ, None, Some, IsSome, IfSome, IfNone, IfOk, IsOk, OnOk, OnErr, true, false, find, length, List, nat_lt, count_by, if◌then◌else◌};
+ghost use Rattle.std.specs.Prelude.{◌≡◌, ◌<◌, ◌+◌, ◌++◌, ◌∷◌, [], ℕ, None, Some, IsSome, IfSome, IfNone, IfOk, IsOk, OnOk, OnErr, true, false, All, find, length, List, nat_lt, count_by, if◌then◌else◌};
 ghost use Rattle.std.specs.List.{slice_get};
 ghost use Rattle.po_engine.specs.Calls.{places_without};
 ghost use Rattle.po_engine.specs.Tickets.{is_live, uncollected};
 ghost use Rattle.po_engine.specs.WaitingCalls.{is_on, is_due, has_number};
-ghost use Rattle.po_engine.specs.Driving.{admitted, counted, new_call};
+ghost use Rattle.po_engine.specs.Arrival.{Increases};
+ghost use Rattle.po_engine.specs.Driving.{counted, new_call};
 ghost use Rattle.po_engine.specs.StateView.{NamesEntry};
-ghost use Rattle.po_engine.specs.Step.{end_call, take_out, conclude, cancel, attempt_cancel, is_full};
+ghost use Rattle.po_engine.specs.Step.{end_call, enter, take_out, conclude, cancel, attempt_cancel, is_full};
 ghost use Rattle.po_unit.specs.declared.outcome.Outcome.TheVariants.{Requeue as RequeueTo};
 ghost use Rattle.po_calls.specs.declared.end.End.TheVariants.{Cancelled as IsCancelled, Completed};
 ghost use Rattle.po_driven.specs.AtRest.{IsAtRest};
 ghost use Rattle.po_driven.specs.Happening.{cancellation_of, end_oldest, make_due as due};
-ghost use Rattle.po_driven.specs.DrivenCallsView.{IsReady, IsTraced, KeepsRoom, MayPass, opening_calls, passed, passed_twice};
+ghost use Rattle.po_driven.specs.OnePlace.{HasTickets, IsThereOnce};
+ghost use Rattle.po_driven.specs.DrivenCallsView.{IsReady, IsTraced, KeepsRoom, KeepsTickets, MayPass, opening_calls, passed, passed_twice};
 ghost use Rattle.po_driven.specs.declared.happening.Happening.TheVariants.{Served, Arrived, Selected, Ended, RequeuedElsewhere, Due, Requeued, Broken, Cancelled, Marked, Finalized};
 
 use crate::client_unit::ClientUnit;
 use crate::happening::Happening;
-use crate::steps::{admit, break_oldest, conclude, finish, forget, make_due, mark, take, withdraw};
 use crate::words::Requeue;
-use po_calls::{Call, End, Ticket};
+use po_calls::{Call, Deadline, End, Ticket};
 use po_engine::{Arriving, Queueing, State};
 use po_history::Trace;
 use po_unit::Outcome;
@@ -45,6 +46,49 @@ impl Model for DrivenCalls {
     ghost view = { λ t. record { object = t.state; place = t.place; happened = t.happened.items } };
 
     ghost invariant = { λ t. IsKept (record { object = t.state; place = t.place; happened = t.happened.items }) };
+}
+
+/// Ends the call in service in this way, and gives up its ticket.
+#[inline(always)]
+fn finish(state: &mut State<ClientUnit>, call: Call<u64>, end: End<u64>)
+    requires { state.old.serving ≡ Some call }
+    ensures state { state.new ≡ record state.old {
+      state = end_call state.old.state call end;
+      serving = None;
+      tickets = state.new.tickets;
+      most = state.new.most;
+    } }
+    ensures placed { IsThereOnce state.old → IsThereOnce state.new }
+    ensures tickets { HasTickets state.old → HasTickets state.new }
+    ensures room { KeepsRoom state.old state.new }
+    ensures tickets_kept { KeepsTickets state.old state.new }
+{
+    let ticket = state.ticket_in_service(call);
+    state.end_call(call, end);
+    state.collect(ticket);
+}
+
+/// Cancels a queued call, and gives up its ticket.
+fn withdraw(state: &mut State<ClientUnit>, ticket: Ticket)
+    requires serving { state.old.serving ≡ None }
+    requires live { is_live state.old.tickets ticket ≡ true }
+    requires found { IsSome (find (has_number ticket.number) state.old.state.waiting) }
+    ensures state { state.new ≡ record state.old {
+      state = cancel state.old.state ticket.number (find (has_number ticket.number) state.old.state.waiting);
+      places = state.new.places;
+      tickets = state.new.tickets;
+      most = state.new.most;
+    } }
+    ensures unit { state.new.state.unit ≡ state.old.state.unit }
+    ensures kept { (k : ℕ) → All (λ j. j < k) state.old.places → All (λ j. j < k) state.new.places }
+    ensures rises { Increases state.old.places → Increases state.new.places }
+    ensures placed { IsThereOnce state.old → IsThereOnce state.new }
+    ensures tickets { HasTickets state.old → HasTickets state.new }
+    ensures room { KeepsRoom state.old state.new }
+    ensures tickets_kept { KeepsTickets state.old state.new }
+{
+    state.cancel(ticket);
+    state.collect(ticket);
 }
 
 impl DrivenCalls {
@@ -124,8 +168,9 @@ impl DrivenCalls {
         ensures room { OnOk result (uncollected self.new.object.tickets < self.new.object.most) }
         ensures begun { OnOk result (self.new.object.before ≡ length self.new.object.state.ended) }
         ensures err { OnErr result (self.new ≡ self.old) }
-        ensures had_room { uncollected self.old.object.tickets < self.old.object.most → IsOk result }
+        ensures had_room { uncollected self.old.object.tickets < self.old.object.most → IsOk result × (self.new.object.most ≡ self.old.object.most) }
         ensures room_kept { KeepsRoom self.old.object self.new.object }
+        ensures tickets_kept { KeepsTickets self.old.object self.new.object }
     {
         if !self.state.has_room() {
             if self.state.is_fixed() {
@@ -146,22 +191,19 @@ impl DrivenCalls {
         ensures serving { self.new.object.serving ≡ Some (new_call self.old.object.state.next arriving) }
         ensures happened { self.new.happened ≡ self.old.happened ++ Served arriving ∷ [] }
         ensures room_kept { KeepsRoom self.old.object self.new.object }
+        ensures tickets_kept { KeepsTickets self.old.object self.new.object }
     {
-        let queueing = Queueing {
-            max_length: None,
-            place: self.place,
-        };
-        admit(&mut self.state, queueing, arriving, true);
+        self.state.take_in(arriving);
         self.place += 1;
         self.happened = self.happened.then(&Happening::Served(arriving));
     }
 
-    /// Accepts a call with a closed barrier. It is queued, and its ticket is returned; or it ends, if the queue of its entry
-    /// already has this length (9.5.3, D.7).
+    /// Accepts a call with a closed barrier. It is queued, and its ticket is returned; or it ends, if as many calls as this are
+    /// queued on its entry (9.5.3, D.7).
     #[inline(always)]
     pub fn accept_closed(&mut self, arriving: Arriving<u64>, longest: Option<u64>) -> Option<Ticket>
         requires { IsReady self.old arriving.entry }
-        ensures state { self.new.object.state ≡ admitted longest (counted self.old.object.state) (new_call self.old.object.state.next arriving) false }
+        ensures state { self.new.object.state ≡ enter longest (counted self.old.object.state) (new_call self.old.object.state.next arriving) }
         ensures unit { self.new.object.state.unit ≡ self.old.object.state.unit }
         ensures serving { self.new.object.serving ≡ None }
         ensures happened { self.new.happened ≡ self.old.happened ++ Arrived arriving longest ∷ [] }
@@ -171,17 +213,18 @@ impl DrivenCalls {
         ensures live { IfSome result (λ ticket. is_live self.new.object.tickets ticket ≡ true) }
         ensures full { IfNone result (is_full longest (count_by (is_on arriving.entry) self.old.object.state.waiting) ≡ true) }
         ensures room_kept { KeepsRoom self.old.object self.new.object }
+        ensures tickets_kept { KeepsTickets self.old.object self.new.object }
     {
         let queueing = Queueing {
             max_length: longest,
             place: self.place,
         };
-        let is_full = longest == Some(self.state.count(arriving.entry));
-        let ticket = admit(&mut self.state, queueing, arriving, false);
+        let (call, ticket) = self.state.take_in(arriving);
+        let is_queued = self.state.enter(queueing, call);
         self.place += 1;
         self.happened = self.happened.then(&Happening::Arrived(arriving, longest));
-        if is_full {
-            forget(&mut self.state, ticket);
+        if !is_queued {
+            self.state.collect(ticket);
             return None;
         }
         Some(ticket)
@@ -279,8 +322,9 @@ impl DrivenCalls {
         ensures serving { self.new.object.serving ≡ result }
         ensures happened { self.new.happened ≡ self.old.happened ++ Selected e ∷ [] }
         ensures room_kept { KeepsRoom self.old.object self.new.object }
+        ensures tickets_kept { KeepsTickets self.old.object self.new.object }
     {
-        let call = take(&mut self.state, e);
+        let call = self.state.take_on(e);
         self.happened = self.happened.then(&Happening::Selected(e));
         call
     }
@@ -294,6 +338,7 @@ impl DrivenCalls {
         ensures serving { self.new.object.serving ≡ None }
         ensures happened { self.new.happened ≡ self.old.happened ++ Ended end ∷ [] }
         ensures room_kept { KeepsRoom self.old.object self.new.object }
+        ensures tickets_kept { KeepsTickets self.old.object self.new.object }
     {
         finish(&mut self.state, call, end);
         self.happened = self.happened.then(&Happening::Ended(end));
@@ -308,6 +353,7 @@ impl DrivenCalls {
         ensures serving { self.new.object.serving ≡ None }
         ensures happened { self.new.happened ≡ self.old.happened ++ RequeuedElsewhere ∷ [] }
         ensures room_kept { KeepsRoom self.old.object self.new.object }
+        ensures tickets_kept { KeepsTickets self.old.object self.new.object }
     {
         finish(&mut self.state, call, End::Completed(call.value));
         self.happened = self.happened.then(&Happening::RequeuedElsewhere);
@@ -322,13 +368,13 @@ impl DrivenCalls {
           happened = self.old.happened ++ Due ∷ [];
         } }
     {
-        let moved = make_due(&mut self.state, call);
+        let moved = self.state.set_deadline(call, Deadline::At(0));
         self.happened = self.happened.then(&Happening::Due);
         moved
     }
 
-    /// Moves the call in service, which its body requeued, to the end of the queue of its new entry, and returns its ticket. If
-    /// that queue already has this length, the call ends instead (9.5.4, D.7).
+    /// Moves the call in service, which its body requeued, to the end of the queue of its new entry, and returns its ticket. If as
+    /// many calls as this are queued there, the call ends instead (9.5.4, D.7).
     fn move_to(
         &mut self,
         call: Call<u64>,
@@ -350,23 +396,23 @@ impl DrivenCalls {
         ensures live { IfSome result (λ ticket. is_live self.new.object.tickets ticket ≡ true) }
         ensures full { IfNone result (is_full longest (count_by (is_on target) self.old.object.state.waiting) ≡ true) }
         ensures room_kept { KeepsRoom self.old.object self.new.object }
+        ensures tickets_kept { KeepsTickets self.old.object self.new.object }
     {
         let queueing = Queueing {
             max_length: longest,
             place: self.place,
         };
-        let is_full = longest == Some(self.state.count(target));
         let ticket = self.state.ticket_in_service(call);
         let outcome = Outcome::Requeue {
             target,
             with_abort,
             value: call.value,
         };
-        conclude(&mut self.state, queueing, call, outcome);
+        let is_queued = self.state.conclude(queueing, call, outcome);
         self.place += 1;
         self.happened = self.happened.then(&Happening::Requeued(outcome, longest));
-        if is_full {
-            forget(&mut self.state, ticket);
+        if !is_queued {
+            self.state.collect(ticket);
             return None;
         }
         Some(ticket)
@@ -392,6 +438,7 @@ impl DrivenCalls {
         ensures live { IfSome result (λ ticket. is_live self.new.object.tickets ticket ≡ true) }
         ensures full { IfNone result (is_full longest (count_by (is_on requeue.target) self.old.object.state.waiting) ≡ true) }
         ensures room_kept { KeepsRoom self.old.object self.new.object }
+        ensures tickets_kept { KeepsTickets self.old.object self.new.object }
     {
         let moved = if requeue.due {
             self.make_due(call)
@@ -410,6 +457,7 @@ impl DrivenCalls {
         ensures none { IfNone result (self.new ≡ self.old) }
         ensures happened { self.new.happened ≡ self.old.happened ++ cancellation_of result }
         ensures room_kept { KeepsRoom self.old.object self.new.object }
+        ensures tickets_kept { KeepsTickets self.old.object self.new.object }
     {
         let ticket = self.state.first_due()?;
         let call = self.state.waiting_call(ticket)?;
@@ -428,8 +476,10 @@ impl DrivenCalls {
         ensures happened { IfSome result (λ _. self.new.happened ≡ self.old.happened ++ Broken ∷ []) }
         ensures same { IfNone result (self.new.happened ≡ self.old.happened) }
         ensures room_kept { KeepsRoom self.old.object self.new.object }
+        ensures tickets_kept { KeepsTickets self.old.object self.new.object }
     {
-        let call = break_oldest(&mut self.state)?;
+        let call = self.state.take_oldest()?;
+        finish(&mut self.state, call, End::ProgramError);
         self.happened = self.happened.then(&Happening::Broken);
         Some(call)
     }
@@ -444,6 +494,7 @@ impl DrivenCalls {
         ensures serving { self.new.object.serving ≡ None }
         ensures happened { self.new.happened ≡ self.old.happened ++ Cancelled ticket.number ∷ [] }
         ensures room_kept { KeepsRoom self.old.object self.new.object }
+        ensures tickets_kept { KeepsTickets self.old.object self.new.object }
     {
         withdraw(&mut self.state, ticket);
         self.happened = self.happened.then(&Happening::Cancelled(ticket.number));
@@ -461,8 +512,9 @@ impl DrivenCalls {
         ensures happened { self.new.happened ≡ self.old.happened ++ Marked ticket.number ∷ [] }
         ensures rests { (closed : List ℕ) → IsAtRest self.old.object closed → IsAtRest self.new.object closed }
         ensures room_kept { KeepsRoom self.old.object self.new.object }
+        ensures tickets_kept { KeepsTickets self.old.object self.new.object }
     {
-        mark(&mut self.state, ticket, call);
+        self.state.attempt_cancel(ticket);
         self.happened = self.happened.then(&Happening::Marked(ticket.number));
     }
 

@@ -123,18 +123,13 @@ impl DrivenObject {
         true
     }
 
-    /// Returns the length at which the queue of the entry is full, if there is one. A queue with more calls than a lowered
-    /// limit allows is full.
+    /// Returns the length from which on the queue of the entry is full, if there is one.
     fn longest(&self, e: u16) -> Option<u64>
         requires { e < self.now.calls.object.state.unit }
         ensures { result ≡ longest_on self.now e }
     {
         let longest = self.limits[usize::from(e)];
-        if longest == 0 {
-            None
-        } else {
-            Some(longest.max(self.calls.state().count(e)))
-        }
+        if longest == 0 { None } else { Some(longest) }
     }
 
     /// Attempts to cancel the queued call of the ticket, because its time has come or its caller was aborted. If the call is

@@ -10,7 +10,7 @@ use po_unit::Outcome;
 pub enum Happening {
     /// A call with an open barrier is accepted, and its body runs.
     Served(Arriving<u64>),
-    /// A call with a closed barrier is accepted: it is queued, or ends if its queue already has this length.
+    /// A call with a closed barrier is accepted: it is queued, or ends if this many or more are queued on its entry.
     Arrived(Arriving<u64>, Option<u64>),
     /// The first call on the entry is selected, and its body runs.
     Selected(u16),
@@ -20,7 +20,7 @@ pub enum Happening {
     RequeuedElsewhere,
     /// The call whose body has run is due from now on.
     Due,
-    /// The call whose body has run is requeued, or ends if its new queue already has this length.
+    /// The call whose body has run is requeued, or ends if this many or more are queued on its new entry.
     Requeued(Outcome<u64>, Option<u64>),
     /// The call that was queued first of all ends by Program_Error.
     Broken,

@@ -17,7 +17,6 @@ mod driven_calls;
 mod driven_object;
 mod happening;
 mod phase;
-mod steps;
 mod words;
 
 pub use action::Action;

@@ -54,9 +54,9 @@ module _ {S : Type 0} (m : Meaning S ℕ) (lawful : IsLawful m) (keeps : KeepsCa
   -- a call arrives
   pub issues_leads : (e v : ℕ) (t : Deadline) (step : NamedCall) (a : Action) → IsCarriedOut a → MayIssue d e → Issues (entry_call e v t) (said (barrier_in m now e)) step d n a → Leads m s (Issue now.next 0 e v t ∷ []) u n
   issues_leads e v t step a carried may i =
-      let is = same_at Resting may.resting in
+      let is = same_at Resting may.accepts.resting in
       subst (λ r. Leads m r (Issue now.next 0 e v t ∷ []) u n) (sym is.state)
-      (issue_leads m u d n f.entries f.limits f.driven i.setup after s.ended is.ended e v t step a carried may.resting (closed_at Resting may.resting) may i)
+      (issue_leads m u d n f.entries f.limits f.driven i.setup after s.ended is.ended e v t step a carried may.accepts.resting (closed_at Resting may.accepts.resting) may i)
 
   -- the client asks for what is next
   pub goes_on_leads : (step : NamedCall) (a : Action) → WaitsForNext d.phase → GoesOn step d n a → Leads m s [] u n

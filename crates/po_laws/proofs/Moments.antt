@@ -44,7 +44,7 @@ zeros (suc n) zero = refl
 zeros (suc n) (suc e) = zeros n e
 
 pub longest_none : (d : DrivenView) (e : ℕ) → NoLimits d → longest_on d e ≡ None
-longest_none d e none = ap (λ k. full_at k (count_by (is_on e) d.calls.object.state.waiting)) (none e)
+longest_none d e none = ap full_at (none e)
 
 one_told : (e k : ℕ) (b : Bool) → (e == k) ≡ b → (b || false) ≡ true → e ≡ k
 one_told e k true is h = eqb-true e k is

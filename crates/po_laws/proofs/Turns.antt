@@ -241,5 +241,5 @@ module _ {S : Type 0} (m : Meaning S ℕ) where
       issue_leads phase are may i =
           let is = before.traced.leads.state in
           let entry : e < m.entries u = subst (λ k. e < k) (sym entries) may.entry in
-          let number : now.next < 18_446_744_073_709_551_615 = subst (λ s. s.next < 18_446_744_073_709_551_615) is may.number in
-          (((begins phase are may.alive, entry, refl, number), tt), (tt, tt), issued_on (barrier_in m now e) i)
+          let number : now.next < 18_446_744_073_709_551_615 = subst (λ s. s.next < 18_446_744_073_709_551_615) is may.accepts.number in
+          (((begins phase are may.accepts.alive, entry, refl, number), tt), (tt, tt), issued_on (barrier_in m now e) i)

@@ -5,7 +5,7 @@ ghost use Rattle.std.specs.Prelude.{◌≡◌, ◌≢◌, ◌<◌, [], ℕ, None
 ghost use Rattle.po_engine.specs.Tickets.{uncollected};
 ghost use Rattle.po_engine.specs.WaitingCalls.{is_on};
 ghost use Rattle.po_engine.specs.declared.arriving.Arriving.{Arriving};
-ghost use Rattle.po_driven.specs.DrivenView.{DrivenView, KeepsSetup, Tells, Fresh, KeepsAll, LeavesNamed, MayIssue};
+ghost use Rattle.po_driven.specs.DrivenView.{AcceptsCalls, DrivenView, KeepsSetup, Tells, Fresh, KeepsAll, LeavesNamed, MayIssue};
 ghost use Rattle.po_driven.specs.DrivenCallsView.{IsReady};
 ghost use Rattle.po_driven.specs.Answering.{AnswersCall, FollowsBarrier};
 ghost use Rattle.po_driven.specs.Noted.{Notes, issued, NamesCaller, NamesTicket, HasTicket, EndsWhereFull};
@@ -25,15 +25,23 @@ use po_history::Trace;
 use std::alloc::AllocError;
 
 impl DrivenObject {
+    /// Returns whether calls are accepted now.
+    #[inline(always)]
+    pub(super) fn accepts_calls(&self) -> bool
+        ensures yes { result ≡ true → AcceptsCalls self.now }
+        ensures no { AcceptsCalls self.now → result ≡ true }
+    {
+        self.phase == Phase::Resting
+            && !self.calls.state().is_finalized()
+            && self.calls.has_numbers()
+    }
+
     /// Returns whether a call on the entry is accepted now.
     pub(super) fn may_issue(&self, e: u16) -> bool
         ensures yes { result ≡ true → MayIssue self.now e }
         ensures no { MayIssue self.now e → result ≡ true }
     {
-        self.phase == Phase::Resting
-            && !self.calls.state().is_finalized()
-            && e < self.entries()
-            && self.calls.has_numbers()
+        self.accepts_calls() && e < self.entries()
     }
 
     /// Issues a call. The client reports what the barrier of its entry says (9.5.3).
@@ -144,6 +152,7 @@ impl DrivenObject {
     }
 
     /// Accepts a call whose barrier propagated an exception: it ends by Program_Error, after all queued calls (9.5.3).
+    #[tactic(auto, using(crate::proofs::Tickets::kept_then))]
     fn accept_raised(&mut self, arriving: Arriving<u64>, step: &mut NamedCall) -> Action
         requires { IsReady self.old.calls arriving.entry }
         ensures tells { Tells result self.new }

@@ -33,10 +33,7 @@ impl DrivenObject {
         ensures yes { result ≡ true → MayServe self.now }
         ensures no { MayServe self.now → result ≡ true }
     {
-        self.phase == Phase::Resting
-            && !self.calls.state().is_finalized()
-            && self.calls.has_numbers()
-            && self.calls.has_places()
+        self.accepts_calls() && self.calls.has_places()
     }
 
     /// Makes room for one more call. If the answer is `Rest`, `served` accepts a call of any entry now, whatever its body does, and

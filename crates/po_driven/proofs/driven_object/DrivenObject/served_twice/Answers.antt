@@ -1,6 +1,9 @@
 use Rattle.std.proofs.Common.{ℕ, ◌∙◌, ◌∷◌, [], Option, ap, refl}
 use Rattle.po_unit.specs.declared.outcome.Outcome.TheVariants.{Requeue as RequeueTo}
 use Rattle.po_calls.specs.declared.end.End.TheVariants.{Completed}
+use Rattle.po_engine.specs.Driving.{new_call}
+use Rattle.po_engine.specs.Ending.{ended_as}
+use Rattle.po_driven.proofs.Tickets.{one_ended}
 use Rattle.po_driven.specs.DrivenCallsView.{DrivenCallsView, passed_twice}
 use Rattle.po_driven.specs.declared.happening.Happening.TheVariants.{Ended, Requeued, Selected, Served}
 use Rattle.po_driven.proofs.Twice.{twice_between}
@@ -13,13 +16,14 @@ returns c =
     let told : DrivenCallsView → Option ℕ → DrivenCallsView = λ t l. passed_twice t a (Completed a.value) (Served a ∷ Requeued (RequeueTo r.target r.with_abort a.value) l ∷ Selected r.target ∷ Ended (Completed a.value) ∷ []) in
     let calls = c.accept_served_twice.ensures ∙ ap (λ v. told v.calls c.longest-longest.result) c.self.view_is ∙ ap (told d.calls) c.longest-longest.ensures in
     let limits = ap (λ v. v.limits) c.self.view_is in
-    let resting = ap (λ v. v.phase) c.self.view_is ∙ may.served.may.resting in
+    let resting = ap (λ v. v.phase) c.self.view_is ∙ may.served.may.accepts.resting in
     record {
       kept = λ no. absurd (cc);
       setup = record {
         entries = ap (λ t. t.object.state.unit) calls;
         limits = limits;
         room = record { fixed = ap (λ t. t.object.is_fixed) calls; most = λ fixed. ap (λ t. t.object.most) calls };
+        tickets = one_ended d.calls.object _ (ended_as (Completed a.value) (new_call d.calls.object.state.next a)) (ap (λ t. t.object.tickets) calls) (ap (λ t. t.object.state.ended) calls);
       };
       accepted = λ is. refl;
       may = λ yes. may;

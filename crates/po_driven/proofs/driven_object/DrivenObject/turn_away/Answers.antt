@@ -1,5 +1,8 @@
 use Rattle.std.proofs.Common.{◌∙◌, ◌∷◌, [], ap, sym, refl}
 use Rattle.po_calls.specs.declared.end.End.TheVariants.{Cancelled as IsCancelled}
+use Rattle.po_engine.specs.Driving.{new_call}
+use Rattle.po_engine.specs.Ending.{ended_as}
+use Rattle.po_driven.proofs.Tickets.{one_ended}
 use Rattle.po_driven.specs.DrivenCallsView.{passed}
 use Rattle.po_driven.specs.declared.happening.Happening.TheVariants.{Arrived, Cancelled}
 use Rattle.po_driven.proofs.Alone.{turned_between}
@@ -14,13 +17,14 @@ returns c =
     ∙ ap (λ v. passed v.calls a IsCancelled (Arrived a c.longest-longest.result ∷ Cancelled v.calls.object.state.next ∷ [])) c.self.view_is
     ∙ ap (λ l. passed d.calls a IsCancelled (Arrived a l ∷ Cancelled d.calls.object.state.next ∷ [])) c.longest-longest.ensures in
     let limits = ap (λ v. v.limits) c.self.view_is in
-    let resting = ap (λ v. v.phase) c.self.view_is ∙ alone.may.resting in
+    let resting = ap (λ v. v.phase) c.self.view_is ∙ alone.may.accepts.resting in
     record {
       kept = λ no. absurd (cc);
       setup = record {
         entries = ap (λ t. t.object.state.unit) calls;
         limits = limits;
         room = record { fixed = ap (λ t. t.object.is_fixed) calls; most = λ fixed. ap (λ t. t.object.most) calls };
+        tickets = one_ended d.calls.object _ (ended_as IsCancelled (new_call d.calls.object.state.next a)) (ap (λ t. t.object.tickets) calls) (ap (λ t. t.object.state.ended) calls);
       };
       accepted = λ arrives it. refl;
       alone = λ yes. alone;

@@ -4,6 +4,7 @@ use Rattle.po_engine.specs.Step.{enter}
 use Rattle.po_driven.specs.DrivenCallsView.{KeepsRoom}
 use Rattle.po_driven.specs.declared.happening.Happening.TheVariants.{Arrived}
 use Rattle.po_driven.proofs.Alone.{waits_between}
+use Rattle.po_driven.proofs.Tickets.{kept_then, same_tickets}
 use Rattle.po_driven.proofs.driven_object.DrivenObject.wait.Goals as goal
 
 pub returns-clause-waits : goal.returns-clause-waits
@@ -26,15 +27,18 @@ returns-clause-waits c =
           let was = ap (λ v. v.calls.object.is_fixed) set ∙ fixed in
           k.room_kept.most (c.make_room.ensures.room_kept.fixed ∙ was) ∙ c.make_room.ensures.room_kept.most was ∙ ap (λ v. v.calls.object.most) set;
     } in
+    let made = c.make_room.new.self.object in
+    let tickets = kept_then d.calls.object made c.accept_closed.new.self.object
+    (same_tickets d.calls.object made (ap (λ t. t.object.tickets) roomy ∙ ap (λ v. v.calls.object.tickets) set) (ap (λ t. t.object.state.ended) roomy ∙ ap (λ v. v.calls.object.state.ended) set)) k.tickets_kept in
     let number = k.number ∙ ap (λ t. t.object.state.next) roomy ∙ ap (λ v. v.calls.object.state.next) set in
     let limits = ap (λ v. v.limits) set in
-    let resting = ap (λ v. v.phase) set ∙ alone.may.resting in
+    let resting = ap (λ v. v.phase) set ∙ alone.may.accepts.resting in
     let closed = c.then-self-inside.ensures ∙ ap (λ l. l ++ a.entry ∷ []) c.new.ensures in
     record {
       kept = λ no. absurd (cc);
-      setup = record { entries = unit; limits = limits; room = room };
+      setup = record { entries = unit; limits = limits; room = room; tickets = tickets };
       accepted = λ arrives it few. refl;
       alone = λ yes. alone;
       stays = λ yes. sym c.is_due.ensures ∙ c.if-is_due.false;
-      through = λ yes. waits_between d _ a alone _ c.recall_invariant.ensures c.recall_invariant-2.ensures limits resting closed state unit k.serving noted room refl number k.live k.found k.queued;
+      through = λ yes. waits_between d _ a alone _ c.recall_invariant.ensures c.recall_invariant-2.ensures limits resting closed state unit k.serving noted room tickets refl number k.live k.found k.queued;
     }
