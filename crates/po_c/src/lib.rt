@@ -364,7 +364,7 @@ pub extern "C" fn pobj_is_idle(alloc: Global, handle: &mut Handle) -> bool
     is_idle
 }
 
-/// Queues a call of this caller that arrives alone and isn't due, and whose barrier is closed however many calls are queued.
+/// Queues a call of this caller that arrives alone and isn't due, and whose barrier is closed whatever the number of queued calls.
 #[unsafe(no_mangle)]
 pub extern "C" fn pobj_wait(
     alloc: Global,
@@ -387,7 +387,7 @@ pub extern "C" fn pobj_wait(
     is_queued
 }
 
-/// Cancels a call of this caller that arrives alone and is due, and whose barrier is closed however many calls are queued.
+/// Cancels a call of this caller that arrives alone and is due, and whose barrier is closed whatever the number of queued calls.
 #[unsafe(no_mangle)]
 pub extern "C" fn pobj_turn_away(
     alloc: Global,

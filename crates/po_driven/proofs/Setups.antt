@@ -1,5 +1,5 @@
 -- The setup stays through one step after the other.
-use Rattle.std.proofs.Common.{◌≡◌, ◌∙◌, ap, refl}
+use Rattle.std.proofs.Common.{◌≡◌, ◌∙◌, ap}
 use Rattle.po_driven.specs.DrivenView.{DrivenView, KeepsSetup}
 use Rattle.po_driven.proofs.Tickets.{kept_then, same_tickets}
 

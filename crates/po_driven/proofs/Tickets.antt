@@ -1,5 +1,5 @@
 -- Live tickets stay so until their calls have left.
-use Rattle.std.proofs.Common.{ℕ, zero, suc, ◌≡◌, ◌∙◌, ◌+◌, List, [], ◌∷◌, ◌++◌, ◌==◌, length, Bool, true, false, cond, Option, None, Some, ap, refl, sym, subst, arith, inl, inr}
+use Rattle.std.proofs.Common.{ℕ, zero, suc, ◌≡◌, ◌∙◌, List, [], ◌∷◌, ◌++◌, Bool, true, false, cond, Option, None, Some, ap, sym, subst, arith, inl, inr}
 use Rattle.std.specs.Prelude.{IfNone, OnSome, IsSome, if◌then◌else◌}
 use Rattle.std.specs.List.{count_by, find}
 use Rattle.std.proofs.lemmas.Bool.{cases_Bool, cases_eq, eqb-true}

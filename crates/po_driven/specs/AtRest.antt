@@ -10,7 +10,7 @@ use Rattle.po_engine.specs.StateView.{StateView}
 abbrev pub told : List ℕ → ℕ → Bool
 told closed e = list_any (λ k. k == e) closed
 
--- Each queued call on an entry below this one is on one that was reported closed.
+-- Each entry below this one that has a queued call was reported closed.
 abbrev pub ToldBelow : List ℕ → ℕ → List (Call ℕ) → Type 0
 ToldBelow closed from waiting = All (λ x. x.entry < from → told closed x.entry ≡ true) waiting
 

@@ -54,8 +54,9 @@ pub record IsTraced (t : DrivenCallsView) : Type 0 where
   pub placed : IsInOnePlace (led_by t)
   -- those that are queued or in service have a ticket, and no other has one
   pub tickets : HasTickets t.object
-  -- The places kept for the queued calls rise, and are below the present one, as the engine requires. It isn't these two that
-  -- say that the queues are in order of arrival (9.5.3, D.4), but `leads`: a call that is queued goes after the others.
+  -- The places kept for the queued calls rise, and are below the present one, as the engine requires. That the
+  -- queues are in order of arrival (9.5.3, D.4) follows not from these two but from `leads`: a call that is queued goes after the
+  -- others.
   pub rises : Increases t.object.places
   pub later : All (λ k. k < t.place) t.object.places
   -- the present place is the number of arrivals so far
@@ -90,7 +91,7 @@ passed t a end hs = record {
 abbrev pub passed_twice : DrivenCallsView → Arriving ℕ → End ℕ → List Happening → DrivenCallsView
 passed_twice t a end hs = record (passed t a end hs) { place = t.place + 2 }
 
--- Whether the memory is fixed never changes, and if it is, neither does the number of calls that it is for.
+-- Whether the memory is fixed never changes. If it is fixed, the number of calls that it is for never changes either.
 pub record KeepsRoom (old new : StateView ℕ ℕ) : Type 0 where
   pub fixed : new.is_fixed ≡ old.is_fixed
   pub most : old.is_fixed ≡ true → new.most ≡ old.most

@@ -61,8 +61,8 @@ Names Cancelled step old new = IsSomeAnd (find (is_due old.calls.object.state.cl
 Names ProgramError step old new = IsSomeAnd (slice_get old.calls.object.state.waiting 0) (λ x. step.caller ≡ x.value)
 Names other step old new = Unit {0}
 
--- Whom the answer to an issued call names: its caller, except if its barrier raised: then the caller of the call that was
--- queued first of all.
+-- Whom the answer to an issued call names: its caller, or, if its barrier raised, the caller of the call that was queued first of
+-- all.
 abbrev pub NamesCaller : Action → Arriving ℕ → Barrier → NamedCall → DrivenView → Type 0
 NamesCaller NoMemory a barrier step old = Unit {0}
 NamesCaller Refused a barrier step old = Unit {0}

@@ -1,6 +1,6 @@
 -- SPDX-License-Identifier: MIT
--- Steps in one, for a call that nothing keeps waiting: there are objects in between that the contracts of all the steps lead
--- through (9.5.2 to 9.5.4, 9.7.3).
+-- Functions that do several steps, for calls of open entries and for calls that arrive while none is queued: the objects in
+-- between, to which the contracts of the steps lead (9.5.2 to 9.5.4, 9.7.3).
 use Rattle.std.specs.Prelude.{ℕ, ◌≡◌, ◌≢◌, ◌<◌, ◌+◌, [], Bool, true, false}
 use Rattle.po_engine.specs.declared.arriving.Arriving.{Arriving}
 use Rattle.po_engine.specs.Driving.{new_call}
@@ -30,7 +30,7 @@ SaysReady NoMemory = Unit {0}
 SaysReady Refused = Unit {0}
 SaysReady other = ⊥
 
--- An object makes room for a call whose body will have run when it is told of it: nothing else changes.
+-- An object makes room for a call whose body will have run when the client reports the call: nothing else changes.
 pub record MakesReady (old new : DrivenView) (action : Action) : Type 0 where
   pub kept : KeepsAll action old new
   pub setup : KeepsSetup old new
@@ -72,7 +72,7 @@ IsTaken NoMemory = ⊥
 IsTaken Refused = ⊥
 IsTaken other = Unit {0}
 
--- A call is told of whose barrier was open, and whose body has run and ended in this way (9.5.2, 9.5.3).
+-- The client reports a call whose barrier was open, and whose body has run and ended in this way (9.5.2, 9.5.3).
 pub record Serves (a : Arriving ℕ) (end : BodyEnd) (step : NamedCall) (old new : DrivenView) (action : Action) : Type 0 where
   pub kept : KeepsAll action old new
   pub setup : KeepsSetup old new
@@ -107,7 +107,8 @@ pub record ServesTwiceBetween (a : Arriving ℕ) (r : Requeue) (old new : Driven
   pub answers : Evaluates Open named queued second (Run r.target)
   pub ends : EndsBody Completed named second new Rest
 
--- A call is told of that was served, requeued by its body to an open entry of the object, and completed there (9.5.2 to 9.5.4).
+-- The client reports a call that was served, requeued by its body to an open entry of the object, and completed there (9.5.2 to
+-- 9.5.4).
 pub record ServesTwice (a : Arriving ℕ) (r : Requeue) (old new : DrivenView) (is_told : Bool) : Type 0 where
   pub kept : is_told ≡ false → new ≡ old
   pub setup : KeepsSetup old new
@@ -133,7 +134,7 @@ pub record WaitsBetween (a : Arriving ℕ) (step : NamedCall) (old new : DrivenV
   pub issues : Issues a Closed step old asked (Queued a.entry)
   pub answers : Evaluates Closed step asked new Rest
 
--- A call arrives alone, isn't due, and its barrier is closed however many calls are queued: it waits (9.5.3).
+-- A call arrives alone, isn't due, and its barrier is closed whatever the number of queued calls: it waits (9.5.3).
 pub record Waits (a : Arriving ℕ) (step : NamedCall) (old new : DrivenView) (waits : Bool) : Type 0 where
   pub kept : waits ≡ false → new ≡ old
   pub setup : KeepsSetup old new
@@ -154,7 +155,7 @@ pub record TurnsAwayBetween (a : Arriving ℕ) (old new : DrivenView) : Type 0 w
   pub answers : Evaluates Closed named asked cancelled Cancelled
   pub goes_on : GoesOn named cancelled new Rest
 
--- A call arrives alone, is due, and its barrier is closed however many calls are queued: it is cancelled (9.7.2, 9.7.3).
+-- A call arrives alone, is due, and its barrier is closed whatever the number of queued calls: it is cancelled (9.7.2, 9.7.3).
 pub record TurnsAway (a : Arriving ℕ) (old new : DrivenView) (is_away : Bool) : Type 0 where
   pub kept : is_away ≡ false → new ≡ old
   pub setup : KeepsSetup old new

@@ -7,8 +7,8 @@
 //! it is `State` of `po_engine`, with a unit (`ClientUnit`) of which only the number of entries is known.
 //!
 //! `po_c` makes a library for C of it. Begin with src/action.rt and src/words.rt, which say what an object and its client tell
-//! each other, and then read src/driven_object.rt and the files of its methods: arrivals.rt, bodies.rt, servicing.rt, and passing.rt
-//! with the steps in one.
+//! each other, and then read src/driven_object.rt and the files of its methods: arrivals.rt, bodies.rt, servicing.rt, and passing.rt,
+//! whose functions do several steps.
 #![tactic(auto)]
 
 mod action;

@@ -1,5 +1,5 @@
 // SPDX-License-Identifier: MIT
-//! Steps in one, for calls that nothing keeps waiting.
+//! Functions that do several steps, for calls of open entries and for calls that arrive while none is queued.
 
 ghost use Rattle.std.specs.Prelude.{◌≡◌, ◌≢◌, ◌<◌, true, false};
 ghost use Rattle.po_engine.specs.Tickets.{uncollected};
@@ -221,7 +221,7 @@ impl DrivenObject {
         }
     }
 
-    /// Queues a call that arrives alone and isn't due, and whose barrier is closed however many calls are queued: `issue` and
+    /// Queues a call that arrives alone and isn't due, and whose barrier is closed whatever the number of queued calls: `issue` and
     /// `answer` in one. Then the object is at rest. Returns false, and changes nothing, if that isn't so or there is no memory
     /// (9.5.3).
     #[inline(always)]
@@ -248,7 +248,7 @@ impl DrivenObject {
         true
     }
 
-    /// Cancels a call that arrives alone and is due, and whose barrier is closed however many calls are queued: `issue`, `answer`
+    /// Cancels a call that arrives alone and is due, and whose barrier is closed whatever the number of queued calls: `issue`, `answer`
     /// and `next` in one. Then the object is at rest. Returns false, and changes nothing, if that isn't so (9.7.2, 9.7.3).
     #[inline(always)]
     pub fn turn_away(&mut self, arriving: Arriving<u64>) -> bool

@@ -1,4 +1,4 @@
-use Rattle.std.proofs.Common.{◌≡◌, ◌+◌, ◌<◌, ◌==◌, ◌∙◌, None, Some, ap, ap₂, sym, subst, refl, true, false, count_by, length, arith}
+use Rattle.std.proofs.Common.{◌≡◌, ◌+◌, ◌<◌, ◌==◌, ◌∙◌, None, Some, ap, ap₂, sym, subst, refl, true, count_by, length, arith}
 use Rattle.std.specs.Prelude.{IsSome}
 use Rattle.std.specs.List.{All, find}
 use Rattle.po_engine.specs.Arrival.{Increases}
