@@ -2,6 +2,7 @@
 """Random scripts on the protected unit of an Ada text: any scripts, or those without the commands by which GNAT is known to
 differ. These are conditional calls, if the text uses Count or requeues, and `cancel` and `timed`, if it requeues."""
 
+import itertools
 import random
 
 import text_program
@@ -16,9 +17,9 @@ class Maker:
         subtypes = texts.shape(text, []).subtypes
         self.discriminants = [self.small(subtypes[one.mark.lower()]) for one in text.unit.discriminants]
         self.shape = texts.shape(text, self.discriminants)
-        words = {element.lower for element in text_program.elements_of(text.unit.text)}
-        self.has_conditional = not leaves_out or not words & {"count", "requeue"}
+        words = [element.lower for element in text_program.elements_of(text.unit.text)]
         self.has_cancel = not leaves_out or "requeue" not in words
+        self.has_conditional = self.has_cancel and (not leaves_out or ("'", "count") not in itertools.pairwise(words))
         self.public = {kind: [one for one in text.unit.operations if one.kind == kind and one.is_public]
                        for kind in text_program.OPERATIONS}
         self.weights = {id(one): chance.choice([1, 1, 4, 12]) for one in text.unit.operations}
