@@ -199,7 +199,9 @@ class Reader:
             rest = rest[len(modes):]
             if words and (words[0] in ("access", "aliased") or "null" in words[:2]):
                 raise Refused(f"a parameter of an access type: {self.written(part)}")
-            mark, *default = split(rest, ":=")
+            mark, *default = split(rest, ":=") or [[]]
+            if not mark:
+                raise Refused(f"no subtype after the colon in: {self.written(part)}")
             mode = " ".join(modes) or "in"
             for element in names:
                 if element.text != ",":

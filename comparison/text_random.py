@@ -1,11 +1,18 @@
 # SPDX-License-Identifier: MIT
 """Random scripts on the protected unit of an Ada text: any scripts, or those without the commands by which GNAT is known to
-differ. These are conditional calls, if the text uses Count or requeues, and `cancel` and `timed`, if it requeues."""
+differ. These are `cond`, if the text uses Count or requeues, and `cancel` and `timed`, if it requeues without abort."""
 
+import itertools
 import random
 
 import text_program
 import texts
+
+
+def protects(words):
+    """Returns whether the text has a requeue without abort, which protects a call against cancellation."""
+    requeues = [words[at:] for at, word in enumerate(words) if word == "requeue"]
+    return any("abort" not in itertools.takewhile(lambda word: word != ";", rest) for rest in requeues)
 
 
 class Maker:
@@ -16,9 +23,10 @@ class Maker:
         subtypes = texts.shape(text, []).subtypes
         self.discriminants = [self.small(subtypes[one.mark.lower()]) for one in text.unit.discriminants]
         self.shape = texts.shape(text, self.discriminants)
-        words = {element.lower for element in text_program.elements_of(text.unit.text)}
-        self.has_conditional = not leaves_out or not words & {"count", "requeue"}
-        self.has_cancel = not leaves_out or "requeue" not in words
+        words = [element.lower for element in text_program.elements_of(text.unit.text)]
+        counts = "requeue" in words or ("'", "count") in itertools.pairwise(words)
+        self.has_conditional = not leaves_out or not counts
+        self.has_cancel = not leaves_out or not protects(words)
         self.public = {kind: [one for one in text.unit.operations if one.kind == kind and one.is_public]
                        for kind in text_program.OPERATIONS}
         self.weights = {id(one): chance.choice([1, 1, 4, 12]) for one in text.unit.operations}

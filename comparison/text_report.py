@@ -73,10 +73,7 @@ def answers(text, script, ours):
 
 def stored(file):
     """Returns the answer that is kept beside the script."""
-    kept = file.with_suffix(".out")
-    if not kept.exists():
-        raise programs.Missing(f"this pobj can't run texts, and there is no {kept}")
-    return programs.comparable(kept.read_text())
+    return programs.comparable(file.with_suffix(".out").read_text())
 
 
 def print_first_difference(ours, theirs):
@@ -88,7 +85,10 @@ def print_first_difference(ours, theirs):
 
 
 def compare_stored(text, file):
-    """Compares the stored answer with GNAT's, and returns the status."""
+    """Compares the stored answer with GNAT's, or writes GNAT's if none is stored. Returns the status."""
+    if not file.with_suffix(".out").exists():
+        print(*answers(text, programs.text_of(file), [])[1], sep="\n")
+        raise programs.Missing(f"this pobj can't run texts, and there is no {file.with_suffix('.out')}: these are GNAT's answers")
     ours, theirs = answers(text, programs.text_of(file), stored(file))
     if ours == theirs:
         print("same as the stored answer")

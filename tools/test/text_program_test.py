@@ -109,6 +109,7 @@ class Reading(unittest.TestCase):
     def test_refusals(self):
         for text, why in (("", "0 protected"), (TWO, "2 protected"), ("generic " + TWO.partition(" protected B")[0], "generic"),
                           ("protected A is ( end A; protected body A is end A;", "ends too early"), ("protected A is end A;", "no body"),
+                          ("protected A is entry E (X : ); end A; protected body A is end A;", "no subtype"),
                           ("protected A is entry E (X : access Integer); end A; protected body A is end A;", "access")):
             with self.assertRaisesRegex(text_program.Refused, why):
                 text_program.read(text)
