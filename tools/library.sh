@@ -200,7 +200,7 @@ put_ada() {
   cp -r "$top"/bindings/ada/*.* "$top"/bindings/ada/{changes,parts,tests/hangs.adb} "$1/share/pobj/ada/"
 }
 
-# Puts into the folder what users read: a README of its own, the licence, the pages, and the scripts of examples.
+# Puts into the folder what users read: the README of this name in tools/, the licence, the pages, and the scripts of examples.
 put_pages() {
   mkdir -p "$1/docs/pictures"
   sed "s,@version@,$(version)," "$top/tools/$2" >"$1/README.md"
@@ -227,6 +227,14 @@ put_all() {
   (cd "$to" && find . -type f ! -name SHA256SUMS | LC_ALL=C sort | xargs sha256sum >SHA256SUMS)
 }
 
+# Prints the name of the archive for the target.
+archive_name() {
+  case $1 in
+    x86_64) echo "pobj-$(version)-x86_64-linux" ;;
+    *) echo "pobj-$(version)-$1_linux" ;;
+  esac
+}
+
 # Packs the folder of this name in the room into an archive: the same bytes from the same files.
 pack() {
   (cd "$1" && find "$2" | LC_ALL=C sort | tar -c --no-recursion --mtime=@0 --owner=0 --group=0 --numeric-owner -T - | gzip -n >"$top/$2.tar.gz")
@@ -234,26 +242,18 @@ pack() {
 
 # Carries out `pobj dist` for `target`: builds everything, and puts it into one archive, the same bytes from the same sources.
 dist() {
-  local name room
+  local name room programs=""
   if [ $# -ne 0 ]; then
     say "dist takes no words but --target"
     exit 2
   fi
-  if [ "$target" = x86_64 ]; then
-    name=pobj-$(version)-x86_64-linux
-    build all
-  else
-    name=pobj-$(version)-${target}_linux
-    need_rt "the library has to be built"
-  fi
+  [ "$target" != x86_64 ] || programs="the programs, "
+  if [ -n "$programs" ]; then build all; else need_rt "the library has to be built"; fi
   need_library
+  name=$(archive_name "$target")
   room=$(mktemp -d)
   put_all "$room/$name" "$target"
   pack "$room" "$name"
   rm -rf "$room"
-  if [ "$target" = x86_64 ]; then
-    say "$name.tar.gz has the programs, the library, the runtime for Ada, the pages, and checksums"
-  else
-    say "$name.tar.gz has the library, the runtime for Ada, the pages, and checksums, but no programs"
-  fi
+  say "$name.tar.gz has ${programs}the library, the runtime for Ada, the pages and checksums"
 }
