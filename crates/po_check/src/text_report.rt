@@ -71,6 +71,7 @@ impl<W: Sink> Report for TextReport<W> {
     ghost use Rattle.std.specs.Prelude.{None, ◌||◌};
 
     ghost told = { λ _. None };
+
     ghost failed = { λ r. W.failed r.sink || W.stuck r.sink };
 
     fn report(
