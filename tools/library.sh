@@ -227,14 +227,6 @@ put_all() {
   (cd "$to" && find . -type f ! -name SHA256SUMS | LC_ALL=C sort | xargs sha256sum >SHA256SUMS)
 }
 
-# Prints the name of the archive for the target.
-archive_name() {
-  case $1 in
-    x86_64) echo "pobj-$(version)-x86_64-linux" ;;
-    *) echo "pobj-$(version)-$1_linux" ;;
-  esac
-}
-
 # Packs the folder of this name in the room into an archive: the same bytes from the same files.
 pack() {
   (cd "$1" && find "$2" | LC_ALL=C sort | tar -c --no-recursion --mtime=@0 --owner=0 --group=0 --numeric-owner -T - | gzip -n >"$top/$2.tar.gz")
@@ -250,7 +242,7 @@ dist() {
   [ "$target" != x86_64 ] || programs="the programs, "
   if [ -n "$programs" ]; then build all; else need_rt "the library has to be built"; fi
   need_library
-  name=$(archive_name "$target")
+  name=pobj-$(version)-$target-linux
   room=$(mktemp -d)
   put_all "$room/$name" "$target"
   pack "$room" "$name"

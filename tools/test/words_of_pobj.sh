@@ -253,7 +253,7 @@ broken_off_there() {
 # What the archive for aarch64 has: no programs, and of its `pobj` what is for Ada.
 packs_for_aarch64() {
   local name path to
-  name=pobj-$(cat VERSION)-aarch64_linux
+  name=pobj-$(cat VERSION)-aarch64-linux
   call_with_tools 0 dist --target aarch64
   tar -C "$scratch" -xzf "$scratch/build/$name.tar.gz" || fail "there is no archive $name.tar.gz"
   to=$scratch/$name
