@@ -10,8 +10,6 @@
 
 mod error;
 mod operations;
-#[cfg(test)]
-mod tests;
 mod unit;
 mod values;
 
