@@ -10,6 +10,8 @@
 
 mod error;
 mod operations;
+#[cfg(test)]
+mod tests;
 mod unit;
 mod values;
 

@@ -1,7 +1,7 @@
 -- What is said about lines that are put together, and how far a check has come.
-use Rattle.std.proofs.Common.{◌≡◌, ℕ, suc, ◌+◌, ◌<◌, ◌≤◌, Bool, true, false, cond, eqb, ltb, List, [], ◌∷◌, ◌++◌, length, take, Option, Some, None, Result, Ok, Err, IfOk, refl, sym, ap, ◌∙◌, inl, inr, arith, append_assoc, length-append}
+use Rattle.std.proofs.Common.{◌≡◌, ℕ, suc, ◌+◌, ◌≤◌, Bool, true, false, cond, eqb, ltb, List, [], ◌∷◌, ◌++◌, length, take, Option, Some, None, Result, Ok, Err, IfOk, OnOk, refl, sym, ap, ◌∙◌, inl, inr, arith, append_assoc, length-append}
 use Rattle.std.proofs.lemmas.Bool.{cases_Bool, lt-ltb, le-ltb, ltb-true, ltb-false}
-use Rattle.std.proofs.lemmas.List.{append-nil, take_all, take_at, length-take-le, take-append-le}
+use Rattle.std.proofs.lemmas.List.{append-nil, take_all, take_at, length-take-le}
 use Rattle.po_language.specs.declared.command.FaultKind.{FaultKind}
 use Rattle.po_language.specs.declared.command.FaultKind.TheVariants.{ScriptTooLong, LineTooLong}
 use Rattle.po_language.specs.Units.{UnitList}
@@ -52,6 +52,10 @@ says_kept units known line = elim (cases_Bool (ltb 4096 (length line))) [
 pub ok_weaker : {T E : Type 0} (P Q : T → Type 0) (r : Result T E) → ((v : T) → P v → Q v) → IfOk r P → IfOk r Q
 ok_weaker P Q (Ok v) f h = f v h
 ok_weaker P Q (Err e) f h = tt
+
+pub ok_both : {T E : Type 0} (P : T → Type 0) (Q : Type 0) (r : Result T E) → IfOk r P → OnOk r Q → IfOk r (λ v. P v × Q)
+ok_both P Q (Ok v) p q = (p, q)
+ok_both P Q (Err e) p q = tt
 
 module _ (units : ScriptUnits) where
   -- one more line

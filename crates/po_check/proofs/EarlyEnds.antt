@@ -70,8 +70,8 @@ module _ (units : ScriptUnits) where
   -- an end that no read caused
   pub early_other : (fault : CheckError) (bytes : List ℕ) (start now : Option (List Claim)) (failed before mid after : Bool) → failed ≡ false → mid ≡ before → FailsAs fault mid after → TellsFirst start now (claims_of units bytes) → EndsEarly units fault bytes start now failed before after
   early_other Read bytes start now failed before mid after fine kept fails told = absurd fails
-  early_other Write bytes start now failed before mid after fine kept fails told = (fine, (fails, told))
-  early_other Memory bytes start now failed before mid after fine kept fails told = (fine, (fails ∙ kept, told))
+  early_other Write bytes start now failed before mid after fine kept fails told = (fine, fails, told)
+  early_other Memory bytes start now failed before mid after fine kept fails told = (fine, fails ∙ kept, told)
 
   -- the end if the line that a newline ends was to be told
   pub newline_early : (known : Known) (verdict : Verdict) (facts : Option Facts) (bytes more : List ℕ) (start now later : Option (List Claim)) → StandsBy units known verdict facts bytes start now → length bytes < 67108864 → TellsFirst now later (line_says units known bytes) → TellsFirst start later (claims_of units (bytes ++ 10 ∷ more))

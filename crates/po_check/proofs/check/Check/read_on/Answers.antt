@@ -1,11 +1,11 @@
-use Rattle.std.proofs.Common.{◌≡◌, ◌<◌, ◌++◌, ◌∷◌, ◌∙◌, [], length, refl, inl, inr, ap, arith}
+use Rattle.std.proofs.Common.{◌<◌, ◌++◌, ◌∷◌, ◌∙◌, [], length, refl, inl, inr, ap, arith}
 use Rattle.std.proofs.lemmas.List.{append-nil, length-append}
 use Rattle.std.proofs.lemmas.Result.{err_from_is_err_and}
 use Rattle.po_script.specs.Cutter.{waiting}
 use Rattle.po_script.proofs.CutterLemmas.{few_reads}
 use Rattle.po_script.proofs.EndLemmas.{err_weaker}
 use Rattle.po_check.specs.declared.error.CheckError.{CheckError}
-use Rattle.po_check.proofs.CheckLemmas.{letter_stands, ok_weaker}
+use Rattle.po_check.proofs.CheckLemmas.{letter_stands, ok_weaker, ok_both}
 use Rattle.po_check.proofs.EarlyEnds.{early_other}
 use Rattle.po_check.proofs.check.Check.read_on.Goals as goal
 
@@ -20,7 +20,7 @@ returns-in-Err-clause-err g c =
     let s = i.so_far.1 in
     let e = c.in-Err.ensures.err in
     let cuts = e.2 i.so_far.0 _ _ s.cuts in
-    (i.so_far.0, rw (e.1, append-nil) at cuts.source.consumed, (e.0, (i.fine, s.tells.told)))
+    (i.so_far.0, rw (e.1, append-nil) at cuts.source.consumed, (e.0, i.fine, s.tells.told))
 
 pub loop-step-preserved-in-Letter : goal.loop-step-preserved-in-Letter
 loop-step-preserved-in-Letter g c =
@@ -78,8 +78,8 @@ returns-in-End-clause-ok g c =
     let cuts = k.2 i.so_far.0 _ _ s.cuts in
     let read = c.in-Ok.ensures.fine ∙ i.read ∙ c.requires.reader.0 in
     ok_weaker _ _ c.finish.result (λ verdict ends.
-    let told = ends i.so_far.0 _ _ _ _ _ (record { cuts = cuts; tells = s.tells }) in
-    (i.so_far.0, rw (k.0, append-nil) at cuts.source.consumed, record { whole = inl (k.1, rw c.in-End.is at c.in-Ok.ensures.end refl); read = read; told = told.0; verdict_is = told.1 })) c.finish.ensures.ok
+    let told = ends.0 i.so_far.0 _ _ _ _ _ (record { cuts = cuts; tells = s.tells }) in
+    (i.so_far.0, rw (k.0, append-nil) at cuts.source.consumed, record { whole = inl (k.1, rw c.in-End.is at c.in-Ok.ensures.end refl); read = read; written = ends.1 ∙ i.fine; told = told.0; verdict_is = told.1 })) (ok_both _ _ c.finish.result c.finish.ensures.ok c.finish.ensures.fine)
 
 pub returns-in-End-clause-err : goal.returns-in-End-clause-err
 returns-in-End-clause-err g c =
@@ -105,8 +105,8 @@ returns-in-Past-clause-ok g c =
     let read = c.in-Ok.ensures.fine ∙ i.read ∙ c.requires.reader.0 in
     let past : 67108864 < length (i.so_far.0 ++ waiting c.next.new.self) = omega (arith, cuts.total_is, k.1, length-append i.so_far.0 (waiting c.next.new.self), ap length k.0.2) in
     ok_weaker _ _ c.past_limit.result (λ verdict ends.
-    let told = ends i.so_far.0 _ _ _ _ _ (record { cuts = cuts; tells = s.tells }) in
-    (i.so_far.0 ++ waiting c.next.new.self, cuts.source.consumed, record { whole = inr past; read = read; told = told.0; verdict_is = told.1 })) c.past_limit.ensures.ok
+    let told = ends.0 i.so_far.0 _ _ _ _ _ (record { cuts = cuts; tells = s.tells }) in
+    (i.so_far.0 ++ waiting c.next.new.self, cuts.source.consumed, record { whole = inr past; read = read; written = ends.1 ∙ i.fine; told = told.0; verdict_is = told.1 })) (ok_both _ _ c.past_limit.result c.past_limit.ensures.ok c.past_limit.ensures.fine)
 
 pub returns-in-Past-clause-err : goal.returns-in-Past-clause-err
 returns-in-Past-clause-err g c =
