@@ -7,7 +7,7 @@
 most_edits=180
 
 # How many words all pages together may have, outside of code.
-most_words=24000
+most_words=22700
 
 # Each crate of crates.txt has a row in the map, and each row has a crate.
 map_is_whole() {
