@@ -1,0 +1,4 @@
+-- SPDX-License-Identifier: MIT
+pub mod Exceptions
+pub mod Operators
+pub mod Values
