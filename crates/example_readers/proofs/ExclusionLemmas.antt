@@ -5,7 +5,7 @@ use Rattle.std.proofs.lemmas.Bool.Decides.{nat_tests}
 use Rattle.std.proofs.lemmas.List.Elements.{All-nil}
 use Rattle.po_calls.specs.declared.call.Call.{Call}
 use Rattle.po_history.specs.declared.event.Event.{Event}
-use Rattle.po_history.specs.declared.event.Event.TheVariants.{Issue, Ran, Cancel, Tick, Final, Serve, Break, Expire}
+use Rattle.po_history.specs.declared.event.Event.TheVariants.{Issue, Procedure, Cancel, Tick, Finalize, Serve, Break, Expire}
 use Rattle.po_engine.specs.WaitingCalls.{is_on}
 use Rattle.po_engine.specs.ObjectState.{ObjectState, counts_in}
 use Rattle.po_engine.specs.Step.{step, Needs, replay, IsLegal}
@@ -94,9 +94,9 @@ body_moves s (suc (suc (suc e))) v turns low open_now = absurd (omega arith)
 read_done_moves : (none : Bool) (s : ReadersWritersState) (owner v : ℕ) (reply : Result ℕ ℕ) → (s.readers == 0) ≡ none
     → reply ≡ (read_done s v).1
     → Moves s (read_done s v).0 0
-    (if has_left 0 (Ran owner 0 v reply) then 1 else 0)
+    (if has_left 0 (Procedure owner 0 v reply) then 1 else 0)
     0
-    (if has_left 1 (Ran owner 0 v reply) then 1 else 0)
+    (if has_left 1 (Procedure owner 0 v reply) then 1 else 0)
 read_done_moves true s owner v reply is replies = rw (replies, is) (moves_nothing s s refl)
 read_done_moves false s owner v reply is replies =
     let some = is_some s.readers is in
@@ -113,9 +113,9 @@ read_done_moves false s owner v reply is replies =
 write_done_moves : (none : Bool) (s : ReadersWritersState) (owner v : ℕ) (reply : Result ℕ ℕ) → (s.writers == 0) ≡ none
     → reply ≡ (write_done s v).1
     → Moves s (write_done s v).0 0
-    (if has_left 0 (Ran owner 1 v reply) then 1 else 0)
+    (if has_left 0 (Procedure owner 1 v reply) then 1 else 0)
     0
-    (if has_left 1 (Ran owner 1 v reply) then 1 else 0)
+    (if has_left 1 (Procedure owner 1 v reply) then 1 else 0)
 write_done_moves true s owner v reply is replies = rw (replies, is) (moves_nothing s s refl)
 write_done_moves false s owner v reply is replies =
     let some = is_some s.writers is in
@@ -132,9 +132,9 @@ write_done_moves false s owner v reply is replies =
 procedure_moves : (s : ReadersWritersState) (owner op v : ℕ) (reply : Result ℕ ℕ) → op < 2
     → reply ≡ (if op == 0 then read_done s v else write_done s v).1
     → Moves s (if op == 0 then read_done s v else write_done s v).0 0
-    (if has_left 0 (Ran owner op v reply) then 1 else 0)
+    (if has_left 0 (Procedure owner op v reply) then 1 else 0)
     0
-    (if has_left 1 (Ran owner op v reply) then 1 else 0)
+    (if has_left 1 (Procedure owner op v reply) then 1 else 0)
 procedure_moves s owner zero v reply low replies =
     read_done_moves (s.readers == 0) s owner v reply refl replies
 procedure_moves s owner (suc zero) v reply low replies =
@@ -190,12 +190,12 @@ module _ (limit : Option ℕ) where
       let t = step readers_writers_meaning limit s (Issue n owner e v d) in
       let done = does readers_writers_meaning limit s (Issue n owner e v d) needs in
       issue_moves s t e v (turns_in s) (readers_writers_barrier s.unit e (turns_in s)) refl done needs.1
-  event_moves s (Ran owner op v reply) needs low = procedure_moves s.unit owner op v reply needs.1 needs.2
+  event_moves s (Procedure owner op v reply) needs low = procedure_moves s.unit owner op v reply needs.1 needs.2
   event_moves s (Cancel n) needs low =
       let idles = does readers_writers_meaning limit s (Cancel n) needs in
       moves_nothing s.unit (step readers_writers_meaning limit s (Cancel n)).unit idles.unit
   event_moves s (Tick time) needs low = moves_nothing s.unit s.unit refl
-  event_moves s Final needs low = moves_nothing s.unit s.unit refl
+  event_moves s Finalize needs low = moves_nothing s.unit s.unit refl
   event_moves s (Serve e) needs low =
       let t = step readers_writers_meaning limit s (Serve e) in
       let done = does readers_writers_meaning limit s (Serve e) needs in

@@ -2,7 +2,7 @@
 -- The law of readers and writers: a writer is never inside with a reader, nor with another writer.
 use Rattle.std.specs.Prelude.{ℕ, ◌≡◌, ◌≤◌, ◌<◌, ◌+◌, ◌==◌, List, [], ◌∷◌, ◌++◌, length, Bool, false, Ok, if◌then◌else◌}
 use Rattle.po_history.specs.declared.event.Event.{Event}
-use Rattle.po_history.specs.declared.event.Event.TheVariants.{Ran}
+use Rattle.po_history.specs.declared.event.Event.TheVariants.{Procedure}
 use Rattle.po_core.specs.Setup.{Setup}
 use Rattle.po_laws.specs.Completed.{opening, values_at}
 use Rattle.example_readers.specs.ReadersWriters.{ReadersWritersState, readers_writers_meaning}
@@ -13,7 +13,7 @@ entered setup e events = length (values_at readers_writers_meaning setup.max_que
 
 -- whether the event is a run of this procedure that raised no exception
 abbrev pub has_left : ℕ → Event ℕ → Bool
-has_left op (Ran owner p v (Ok w)) = p == op
+has_left op (Procedure owner p v (Ok w)) = p == op
 has_left op other = false
 
 -- how many of the events are such runs

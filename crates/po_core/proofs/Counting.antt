@@ -13,7 +13,7 @@ use Rattle.po_queues.specs.declared.selection.Selection.{Selection}
 use Rattle.po_queues.specs.declared.selection.Selection.TheVariants.{Quiet, Ready, Broken}
 use Rattle.po_queues.specs.declared.order.Order.{Order}
 use Rattle.po_history.specs.declared.event.Event.{Event}
-use Rattle.po_history.specs.declared.event.Event.TheVariants.{Issue, Ran, Cancel, Tick, Final, Serve, Break, Expire}
+use Rattle.po_history.specs.declared.event.Event.TheVariants.{Issue, Procedure, Cancel, Tick, Finalize, Serve, Break, Expire}
 use Rattle.po_engine.specs.WaitingCalls.{is_on, has_number, is_due, mark}
 use Rattle.po_engine.specs.ObjectState.{ObjectState, counts_in, barrier_in}
 use Rattle.po_engine.specs.Step.{step, replay, enter, end_call, queue, conclude, run_body, arrive, serve, cancel, attempt_cancel, take_out, is_full}
@@ -54,10 +54,10 @@ module _ {V : Type 0} where
 
   one_at_most : (e : Event V) → issues e + runs e ≤ 1
   one_at_most (Issue n owner e v d) = omega arith
-  one_at_most (Ran owner op v reply) = omega arith
+  one_at_most (Procedure owner op v reply) = omega arith
   one_at_most (Cancel n) = omega arith
   one_at_most (Tick t) = omega arith
-  one_at_most Final = omega arith
+  one_at_most Finalize = omega arith
   one_at_most (Serve e) = omega arith
   one_at_most (Break e) = omega arith
   one_at_most (Expire n) = omega arith
@@ -104,10 +104,10 @@ module _ {S V : Type 0} (m : Meaning S V) (limit : Option ℕ) where
   -- an event takes a number exactly if it issues a call
   pub step-next : (p : ObjectState S V) (e : Event V) → (step m limit p e).next ≡ p.next + issues e
   step-next p (Issue n owner e v d) = next-arrive (record p { next = p.next + 1 }) (record { number = n; owner = owner; entry = e; value = v; without_abort = false; aborted = false; deadline = d }) (barrier_in m p e)
-  step-next p (Ran owner op v reply) = omega arith
+  step-next p (Procedure owner op v reply) = omega arith
   step-next p (Cancel n) = omega (arith, next-attempt p n (find (has_number n) p.waiting))
   step-next p (Tick t) = omega arith
-  step-next p Final = omega arith
+  step-next p Finalize = omega arith
   step-next p (Serve e) = omega (arith, next-serve p e (find (is_on e) p.waiting))
   step-next p (Break e) = omega arith
   step-next p (Expire n) = omega (arith, next-cancel p n (find (has_number n) p.waiting))

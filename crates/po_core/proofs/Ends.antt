@@ -10,7 +10,7 @@ use Rattle.po_calls.specs.declared.call.Call.{Call}
 use Rattle.po_calls.specs.declared.end.End.{End}
 use Rattle.po_calls.specs.declared.end.End.TheVariants.{Completed, Raised, Cancelled, ProgramError}
 use Rattle.po_history.specs.declared.event.Event.{Event}
-use Rattle.po_history.specs.declared.event.Event.TheVariants.{Issue, Ran, Cancel, Tick, Final, Serve, Break, Expire}
+use Rattle.po_history.specs.declared.event.Event.TheVariants.{Issue, Procedure, Cancel, Tick, Finalize, Serve, Break, Expire}
 use Rattle.po_engine.specs.ObjectState.{ObjectState, counts_in, barrier_in}
 use Rattle.po_engine.specs.WaitingCalls.{has_number, is_on, mark}
 use Rattle.po_engine.specs.Step.{is_full, enter, end_call, end_all, queue, conclude, run_body, arrive, take_out, cancel, attempt_cancel, serve, step}
@@ -67,10 +67,10 @@ module _ {S V : Type 0} (m : Meaning S V) (limit : Option ℕ) where
 
   pub ended_after : (p : ObjectState S V) (e : Event V) → Grows p.ended (step m limit p e).ended
   ended_after p (Issue n owner e v d) = more_arrive (record p { next = p.next + 1 }) (record { number = n; owner = owner; entry = e; value = v; without_abort = false; aborted = false; deadline = d }) (barrier_in m p e)
-  ended_after p (Ran owner op v reply) = same p.ended
+  ended_after p (Procedure owner op v reply) = same p.ended
   ended_after p (Cancel n) = more_attempt p n (find (has_number n) p.waiting)
   ended_after p (Tick t) = same p.ended
-  ended_after p Final = more_all p ProgramError
+  ended_after p Finalize = more_all p ProgramError
   ended_after p (Serve e) = more_serve p e (find (is_on e) p.waiting)
   ended_after p (Break e) = more_all p ProgramError
   ended_after p (Expire n) = more_cancel p n (find (has_number n) p.waiting)

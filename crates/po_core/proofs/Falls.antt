@@ -8,7 +8,7 @@ use Rattle.po_calls.specs.declared.call.Call.{Call}
 use Rattle.po_calls.specs.declared.call.Deadline.{Deadline}
 use Rattle.po_calls.specs.declared.end.End.TheVariants.{Cancelled, ProgramError}
 use Rattle.po_history.specs.declared.event.Event.{Event}
-use Rattle.po_history.specs.declared.event.Event.TheVariants.{Issue, Ran, Cancel, Tick, Final, Serve, Break, Expire}
+use Rattle.po_history.specs.declared.event.Event.TheVariants.{Issue, Procedure, Cancel, Tick, Finalize, Serve, Break, Expire}
 use Rattle.po_engine.specs.ObjectState.{ObjectState, barrier_in, counts_in}
 use Rattle.po_engine.specs.WaitingCalls.{has_number, is_on, is_due, mark}
 use Rattle.po_engine.specs.Step.{is_full, enter, end_call, end_all, queue, conclude, run_body, take_out, arrive, attempt_cancel, cancel, serve, step, Needs, IsLegal, replay}
@@ -75,10 +75,10 @@ module _ {S V : Type 0} (m : Meaning S V) (law : IsLawful m) (limit : Option ℕ
   lower_inner p (Break e) h = lower_break p e (find (is_on e) p.waiting) refl h.1
   lower_inner p (Expire n) h = lower_cancel (λ x. is_due p.clock x ≡ true) p n (find (has_number n) p.waiting) refl h.1
   lower_inner p (Issue n owner e v d) h = absurd h
-  lower_inner p (Ran owner op v reply) h = absurd h
+  lower_inner p (Procedure owner op v reply) h = absurd h
   lower_inner p (Cancel n) h = absurd h
   lower_inner p (Tick t) h = absurd h
-  lower_inner p Final h = absurd h
+  lower_inner p Finalize h = absurd h
 
   -- a new call adds at most its own weight
   pub lower_arrive : (p : ObjectState S V) (x : Call V) (r : Result Bool ℕ) → (load (arrive m limit p x r) ≤ load p + weight_of x) × ((arrive m limit p x r).finalized ≡ p.finalized)
@@ -189,10 +189,10 @@ module _ {S V : Type 0} (m : Meaning S V) (law : IsLawful m) (limit : Option ℕ
 
   emptied_after : (p : ObjectState S V) (e : Event V) → Needs m p e → IsEmptied p → IsEmptied (step m limit p e)
   emptied_after p (Issue n owner e v d) need h = still_alive p (step m limit p (Issue n owner e v d)) (dead_arrive (record p { next = p.next + 1 }) (record { number = n; owner = owner; entry = e; value = v; without_abort = false; aborted = false; deadline = d }) (barrier_in m p e)) need.0.alive
-  emptied_after p (Ran owner op v reply) need h = still_alive p (step m limit p (Ran owner op v reply)) refl need.0.alive
+  emptied_after p (Procedure owner op v reply) need h = still_alive p (step m limit p (Procedure owner op v reply)) refl need.0.alive
   emptied_after p (Cancel n) need h = still_alive p (step m limit p (Cancel n)) (dead_attempt p n (find (has_number n) p.waiting)) need.0.alive
   emptied_after p (Tick t) need h = still_alive p (step m limit p (Tick t)) refl need.alive
-  emptied_after p Final need h = λ _. refl
+  emptied_after p Finalize need h = λ _. refl
   emptied_after p (Break e) need h = λ _. refl
   emptied_after p (Serve e) need h = λ k. none_found p (is_on e) (find (is_on e) p.waiting) refl need.0 (h (sym (lower_serve m law limit one_more (λ b. omega arith) p e (find (is_on e) p.waiting) refl need.0).finalized ∙ k)) _
   emptied_after p (Expire n) need h = λ k. none_found p (has_number n) (find (has_number n) p.waiting) refl (some_found (λ x. is_due p.clock x ≡ true) (find (has_number n) p.waiting) need.1) (h (sym (dead_cancel p n (find (has_number n) p.waiting)) ∙ k)) _

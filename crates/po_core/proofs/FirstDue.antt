@@ -8,7 +8,7 @@ use Rattle.po_queues.specs.declared.selection.Selection.TheVariants.{Quiet, Read
 use Rattle.po_queues.specs.declared.order.Order.{Order}
 use Rattle.po_calls.specs.declared.call.Call.{Call}
 use Rattle.po_history.specs.declared.event.Event.{Event}
-use Rattle.po_history.specs.declared.event.Event.TheVariants.{Issue, Ran, Cancel, Tick, Final, Serve, Break, Expire}
+use Rattle.po_history.specs.declared.event.Event.TheVariants.{Issue, Procedure, Cancel, Tick, Finalize, Serve, Break, Expire}
 use Rattle.po_engine.specs.WaitingCalls.{is_due}
 use Rattle.po_engine.specs.ObjectState.{ObjectState}
 use Rattle.po_engine.specs.Pick.{event_of, next_turn, pick}
@@ -29,7 +29,7 @@ first_from_pick m order last s (Expire n) h = due_first (find (is_due s.clock) s
 first_from_pick m order last s (Serve e) h = tt
 first_from_pick m order last s (Break e) h = tt
 first_from_pick m order last s (Issue n owner e v d) h = tt
-first_from_pick m order last s (Ran owner op v reply) h = tt
+first_from_pick m order last s (Procedure owner op v reply) h = tt
 first_from_pick m order last s (Cancel n) h = tt
 first_from_pick m order last s (Tick t) h = tt
-first_from_pick m order last s Final h = tt
+first_from_pick m order last s Finalize h = tt

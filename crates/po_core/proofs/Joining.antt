@@ -9,7 +9,7 @@ use Rattle.po_unit.specs.declared.outcome.Outcome.TheVariants.{Complete, Raise, 
 use Rattle.po_calls.specs.declared.call.Call.{Call}
 use Rattle.po_calls.specs.declared.end.End.TheVariants.{Cancelled, ProgramError}
 use Rattle.po_history.specs.declared.event.Event.{Event}
-use Rattle.po_history.specs.declared.event.Event.TheVariants.{Issue, Ran, Cancel, Tick, Final, Serve, Break, Expire}
+use Rattle.po_history.specs.declared.event.Event.TheVariants.{Issue, Procedure, Cancel, Tick, Finalize, Serve, Break, Expire}
 use Rattle.po_history.specs.Histories.{VolumeView, RunOn, joined}
 use Rattle.po_engine.specs.ObjectState.{ObjectState, counts_in, barrier_in}
 use Rattle.po_engine.specs.WaitingCalls.{has_number, is_on, mark}
@@ -75,10 +75,10 @@ module _ {S V : Type 0} (m : Meaning S V) (limit : Option ℕ) (P : ℕ → Type
   pub numbers_after : (p : ObjectState S V) (e : Event V) → ((n : ℕ) → call_of p e ≡ Some n → P n) → Hold p.waiting → Hold (step m limit p e).waiting
   numbers_after p (Issue n owner e v d) is h =
       arrived_on (record p { next = p.next + 1 }) (record { number = n; owner = owner; entry = e; value = v; without_abort = false; aborted = false; deadline = d }) (barrier_in m p e) (is n refl) h
-  numbers_after p (Ran owner op v reply) is h = h
+  numbers_after p (Procedure owner op v reply) is h = h
   numbers_after p (Cancel n) is h = aborted p n (find (has_number n) p.waiting) h
   numbers_after p (Tick t) is h = h
-  numbers_after p Final is h = All-nil (λ (y : Call V). P y.number)
+  numbers_after p Finalize is h = All-nil (λ (y : Call V). P y.number)
   numbers_after p (Serve e) is h = selected p e (find (is_on e) p.waiting) is h
   numbers_after p (Break e) is h = All-nil (λ (y : Call V). P y.number)
   numbers_after p (Expire n) is h = cancelled p n (find (has_number n) p.waiting) h

@@ -10,7 +10,7 @@ use Rattle.po_unit.specs.declared.outcome.Outcome.TheVariants.{Complete, Raise, 
 use Rattle.po_calls.specs.declared.call.Call.{Call}
 use Rattle.po_calls.specs.declared.end.End.TheVariants.{Cancelled, ProgramError}
 use Rattle.po_history.specs.declared.event.Event.{Event}
-use Rattle.po_history.specs.declared.event.Event.TheVariants.{Issue, Ran, Cancel, Tick, Final, Serve, Break, Expire}
+use Rattle.po_history.specs.declared.event.Event.TheVariants.{Issue, Procedure, Cancel, Tick, Finalize, Serve, Break, Expire}
 use Rattle.po_engine.specs.ObjectState.{ObjectState, counts_in, barrier_in}
 use Rattle.po_engine.specs.WaitingCalls.{has_number, is_on, mark}
 use Rattle.po_engine.specs.Step.{is_full, enter, end_call, queue, conclude, run_body, arrive, take_out, cancel, attempt_cancel, serve, step, Needs, IsLegal, replay}
@@ -151,10 +151,10 @@ module _ {S V : Type 0} (m : Meaning S V) (law : IsLawful m) (limit : Option ℕ
   ordered_after p (Issue n owner e v d) need w h =
       let none = bit_new n p.next (count_by (has_number n) p.waiting + count_by (has_ended n) p.ended) need.2 (w.placed n) in
       ordered_arrive (record p { next = p.next + 1 }) n (record { number = n; owner = owner; entry = e; value = v; without_abort = false; aborted = false; deadline = d }) (barrier_in m p e) refl (absent_from_count n p.waiting (omega (arith, none))) h
-  ordered_after p (Ran owner op v reply) need w h = ordered_later places k p.waiting h
+  ordered_after p (Procedure owner op v reply) need w h = ordered_later places k p.waiting h
   ordered_after p (Cancel n) need w h = ordered_later places k (step m limit p (Cancel n)).waiting (ordered_attempt p n (find (has_number n) p.waiting) h)
   ordered_after p (Tick t) need w h = ordered_later places k p.waiting h
-  ordered_after p Final need w h = ordered_nil (noted places k None) (k + 1)
+  ordered_after p Finalize need w h = ordered_nil (noted places k None) (k + 1)
   ordered_after p (Serve e) need w h = ordered_serve p e (find (is_on e) p.waiting) w refl h
   ordered_after p (Break e) need w h = ordered_nil (noted places k None) (k + 1)
   ordered_after p (Expire n) need w h = ordered_later places k (step m limit p (Expire n)).waiting (ordered_cancel p n (find (has_number n) p.waiting) h)

@@ -11,7 +11,7 @@ use Rattle.po_queues.specs.declared.selection.Selection.TheVariants.{Quiet, Read
 use Rattle.po_queues.specs.declared.order.Order.{Order}
 use Rattle.po_queues.specs.Turns.{turn, selection_if, examined}
 use Rattle.po_history.specs.declared.event.Event.{Event}
-use Rattle.po_history.specs.declared.event.Event.TheVariants.{Issue, Ran, Cancel, Tick, Final, Serve, Break, Expire}
+use Rattle.po_history.specs.declared.event.Event.TheVariants.{Issue, Procedure, Cancel, Tick, Finalize, Serve, Break, Expire}
 use Rattle.po_engine.specs.ObjectState.{ObjectState, barrier_in, IsQuiet, IsAtRest}
 use Rattle.po_engine.specs.WaitingCalls.{has_number, is_on, is_due}
 use Rattle.po_engine.specs.Step.{Needs}
@@ -59,10 +59,10 @@ needs_from_fits m p (Serve e) h = (h.1, h.2)
 needs_from_fits m p (Break e) h = (h.1, h.2)
 needs_from_fits m p (Expire n) h = h
 needs_from_fits m p (Issue n owner e v d) h = absurd h
-needs_from_fits m p (Ran owner op v reply) h = absurd h
+needs_from_fits m p (Procedure owner op v reply) h = absurd h
 needs_from_fits m p (Cancel n) h = absurd h
 needs_from_fits m p (Tick t) h = absurd h
-needs_from_fits m p Final h = absurd h
+needs_from_fits m p Finalize h = absurd h
 
 -- an inner event issues no call
 pub public_from_fits : {S V : Type 0} (m : Meaning S V) (row : List Decl) (p : ObjectState S V) (e : Event V) → Fits m p e → NamesPublic row e
@@ -70,10 +70,10 @@ public_from_fits m row p (Serve e) h = tt
 public_from_fits m row p (Break e) h = tt
 public_from_fits m row p (Expire n) h = tt
 public_from_fits m row p (Issue n owner e v d) h = absurd h
-public_from_fits m row p (Ran owner op v reply) h = tt
+public_from_fits m row p (Procedure owner op v reply) h = tt
 public_from_fits m row p (Cancel n) h = tt
 public_from_fits m row p (Tick t) h = tt
-public_from_fits m row p Final h = tt
+public_from_fits m row p Finalize h = tt
 
 -- an inner event runs no procedure
 pub no_procedure : {S V : Type 0} (m : Meaning S V) (p : ObjectState S V) (e : Event V) → Fits m p e → cond (is_ran e) 1 0 ≡ zero
@@ -81,10 +81,10 @@ no_procedure m p (Serve e) h = omega arith
 no_procedure m p (Break e) h = omega arith
 no_procedure m p (Expire n) h = omega arith
 no_procedure m p (Issue n owner e v d) h = absurd h
-no_procedure m p (Ran owner op v reply) h = absurd h
+no_procedure m p (Procedure owner op v reply) h = absurd h
 no_procedure m p (Cancel n) h = absurd h
 no_procedure m p (Tick t) h = absurd h
-no_procedure m p Final h = absurd h
+no_procedure m p Finalize h = absurd h
 
 module _ {S V : Type 0} (m : Meaning S V) (law : IsLawful m) (limit : Option ℕ) (total first : ℕ) (p : ObjectState S V) (well : IsWell m law limit total first p) where
   turned : (e : ℕ) (y : Event V) (b : Bool) (r : Result Bool ℕ) → e < m.entries p.unit → list_any (is_on e) p.waiting ≡ b → barrier_in m p e ≡ r → event_of (selection_if b (turn e r)) ≡ Some y → Fits m p y

@@ -13,7 +13,7 @@ use Rattle.po_queues.specs.declared.selection.Selection.{Selection}
 use Rattle.po_queues.specs.declared.selection.Selection.TheVariants.{Quiet, Ready, Broken}
 use Rattle.po_queues.specs.declared.order.Order.{Order}
 use Rattle.po_history.specs.declared.event.Event.{Event}
-use Rattle.po_history.specs.declared.event.Event.TheVariants.{Issue, Ran, Cancel, Tick, Final, Serve, Break, Expire}
+use Rattle.po_history.specs.declared.event.Event.TheVariants.{Issue, Procedure, Cancel, Tick, Finalize, Serve, Break, Expire}
 use Rattle.po_engine.specs.WaitingCalls.{is_on, has_number, is_due, mark}
 use Rattle.po_engine.specs.Ending.{has_ended}
 use Rattle.po_engine.specs.Finding.{IsFound}
@@ -91,10 +91,10 @@ module _ (P : ℕ → ℕ → Type 0) where
     -- what holds of the waiting calls and of the issued one holds of the waiting calls after the event
     pub of-step : (p : ObjectState S V) (e : Event V) → OfIssued e → OfAll p.waiting → OfAll (step m limit p e).waiting
     of-step p (Issue n owner e v d) own h = of-arrive (record p { next = p.next + 1 }) (record { number = n; owner = owner; entry = e; value = v; without_abort = false; aborted = false; deadline = d }) (barrier_in m p e) own h
-    of-step p (Ran owner op v reply) own h = h
+    of-step p (Procedure owner op v reply) own h = h
     of-step p (Cancel n) own h = of-attempt p n (find (has_number n) p.waiting) h
     of-step p (Tick t) own h = h
-    of-step p Final own h = All-nil (λ y. P y.number y.owner)
+    of-step p Finalize own h = All-nil (λ y. P y.number y.owner)
     of-step p (Serve e) own h = of-serve p e (find (is_on e) p.waiting) refl h
     of-step p (Break e) own h = All-nil (λ y. P y.number y.owner)
     of-step p (Expire n) own h = of-cancel p n (find (has_number n) p.waiting) h

@@ -10,7 +10,7 @@ use Rattle.po_calls.specs.declared.call.Call.{Call}
 use Rattle.po_calls.specs.declared.call.Deadline.{Deadline}
 use Rattle.po_calls.specs.declared.end.End.TheVariants.{Completed, Raised, Cancelled, ProgramError}
 use Rattle.po_history.specs.declared.event.Event.{Event}
-use Rattle.po_history.specs.declared.event.Event.TheVariants.{Issue, Ran, Cancel, Tick, Final, Serve, Break, Expire}
+use Rattle.po_history.specs.declared.event.Event.TheVariants.{Issue, Procedure, Cancel, Tick, Finalize, Serve, Break, Expire}
 use Rattle.po_engine.specs.ObjectState.{ObjectState, counts_in, barrier_in}
 use Rattle.po_engine.specs.WaitingCalls.{has_number, is_on, mark}
 use Rattle.po_engine.specs.Step.{is_full, enter, end_call, end_all, queue, conclude, run_body, arrive, take_out, cancel, attempt_cancel, serve, step, Needs, IsLegal, replay}
@@ -94,10 +94,10 @@ module _ {S V : Type 0} (m : Meaning S V) (law : IsLawful m) (limit : Option ℕ
 
   pub range-step : (p : ObjectState S V) (e : Event V) → Needs m p e → InRange p → InRange (step m limit p e)
   range-step p (Issue n owner e v d) need h = range-arrive (record p { next = p.next + 1 }) (record { number = n; owner = owner; entry = e; value = v; without_abort = false; aborted = false; deadline = d }) (barrier_in m p e) (subst (λ k. e < k) h.entries need.1) (range-same p (record p { next = p.next + 1 }) refl refl h)
-  range-step p (Ran owner op v reply) need h = record { entries = (law.procedure_numbers p.unit op v (counts_in m p)).entries ∙ h.entries; calls = h.calls }
+  range-step p (Procedure owner op v reply) need h = record { entries = (law.procedure_numbers p.unit op v (counts_in m p)).entries ∙ h.entries; calls = h.calls }
   range-step p (Cancel n) need h = range-attempt p n (find (has_number n) p.waiting) h
   range-step p (Tick t) need h = record { entries = h.entries; calls = h.calls }
-  range-step p Final need h = range-none p (step m limit p Final) refl refl h
+  range-step p Finalize need h = range-none p (step m limit p Finalize) refl refl h
   range-step p (Serve e) need h = range-serve p e (find (is_on e) p.waiting) h
   range-step p (Break e) need h = range-none p (end_all p ProgramError) refl refl h
   range-step p (Expire n) need h = range-cancel p n (find (has_number n) p.waiting) h
@@ -116,18 +116,18 @@ module _ {S V : Type 0} (m : Meaning S V) (law : IsLawful m) (limit : Option ℕ
   next_inner p (Break e) h = refl
   next_inner p (Expire n) h = next-cancel m limit p n (find (has_number n) p.waiting)
   next_inner p (Issue n owner e v d) h = absurd h
-  next_inner p (Ran owner op v reply) h = absurd h
+  next_inner p (Procedure owner op v reply) h = absurd h
   next_inner p (Cancel n) h = absurd h
   next_inner p (Tick t) h = absurd h
-  next_inner p Final h = absurd h
+  next_inner p Finalize h = absurd h
 
   -- numbers are never taken back
   pub next_le : (p : ObjectState S V) (e : Event V) → p.next ≤ (step m limit p e).next
   next_le p (Issue n owner e v d) = omega (arith, next-issue p n owner e v d)
-  next_le p (Ran owner op v reply) = omega arith
+  next_le p (Procedure owner op v reply) = omega arith
   next_le p (Cancel n) = omega (arith, next-attempt m limit p n (find (has_number n) p.waiting))
   next_le p (Tick t) = omega arith
-  next_le p Final = omega arith
+  next_le p Finalize = omega arith
   next_le p (Serve e) = omega (arith, next-serve m limit p e (find (is_on e) p.waiting))
   next_le p (Break e) = omega arith
   next_le p (Expire n) = omega (arith, next-cancel m limit p n (find (has_number n) p.waiting))
@@ -155,10 +155,10 @@ module _ {S V : Type 0} (m : Meaning S V) (law : IsLawful m) (limit : Option ℕ
   placed_after first p (Issue n owner e v d) need low h =
       let x : Call V = record { number = n; owner = owner; entry = e; value = v; without_abort = false; aborted = false; deadline = d } in
       placed_next first n p (step m limit p (Issue n owner e v d)) (next-arrive m limit (record p { next = p.next + 1 }) x (barrier_in m p e)) need.2 (λ k. places-step k m limit p (Issue n owner e v d)) low h
-  placed_after first p (Ran owner op v reply) need low h = placed_same first p (step m limit p (Ran owner op v reply)) refl (λ k. places-step k m limit p (Ran owner op v reply)) low h
+  placed_after first p (Procedure owner op v reply) need low h = placed_same first p (step m limit p (Procedure owner op v reply)) refl (λ k. places-step k m limit p (Procedure owner op v reply)) low h
   placed_after first p (Cancel n) need low h = placed_same first p (step m limit p (Cancel n)) (next-attempt m limit p n (find (has_number n) p.waiting)) (λ k. places-step k m limit p (Cancel n)) low h
   placed_after first p (Tick t) need low h = placed_same first p (step m limit p (Tick t)) refl (λ k. places-step k m limit p (Tick t)) low h
-  placed_after first p Final need low h = placed_same first p (step m limit p Final) refl (λ k. places-step k m limit p Final) low h
+  placed_after first p Finalize need low h = placed_same first p (step m limit p Finalize) refl (λ k. places-step k m limit p Finalize) low h
   placed_after first p (Serve e) need low h = placed_same first p (step m limit p (Serve e)) (next-serve m limit p e (find (is_on e) p.waiting)) (λ k. places-step k m limit p (Serve e)) low h
   placed_after first p (Break e) need low h = placed_same first p (step m limit p (Break e)) refl (λ k. places-step k m limit p (Break e)) low h
   placed_after first p (Expire n) need low h = placed_same first p (step m limit p (Expire n)) (next-cancel m limit p n (find (has_number n) p.waiting)) (λ k. places-step k m limit p (Expire n)) low h

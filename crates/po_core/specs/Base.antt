@@ -3,7 +3,7 @@
 use Rattle.std.specs.Prelude.{ℕ, List, [], ◌∷◌, Bool, true, false, Option, None, take, if◌then◌else◌}
 use Rattle.po_calls.specs.declared.call.Call.{Call}
 use Rattle.po_history.specs.declared.event.Event.{Event}
-use Rattle.po_history.specs.declared.event.Event.TheVariants.{Issue, Ran}
+use Rattle.po_history.specs.declared.event.Event.TheVariants.{Issue, Procedure}
 use Rattle.po_engine.specs.declared.ended.Ended.{Ended}
 use Rattle.po_engine.specs.WaitingCalls.{has_number}
 use Rattle.po_engine.specs.ObjectState.{ObjectState}
@@ -34,7 +34,7 @@ is_issue other = false
 
 -- whether a procedure ran (9.5.1)
 abbrev pub is_ran : {V : Type 0} → Event V → Bool
-is_ran (Ran owner op v reply) = true
+is_ran (Procedure owner op v reply) = true
 is_ran other = false
 
 -- the place at which the call with number n arrived, by the calls and their places

@@ -195,7 +195,7 @@ impl<U: Unit, R: Record<U>> CoreInAction<U, R> {
         requires op { op < U.meaning.procedures self.old.object.state.unit }
         requires place { next_place self.old.object < u64.MAX }
         ensures reply { IfOk result (λ reply. reply ≡ (U.meaning.procedure self.old.object.state.unit op v (counts_in U.meaning self.old.object.state)).1) }
-        ensures begins { IfOk result (λ reply. Begins U.meaning self.old.object self.new.object (Event.Ran owner op v reply)) }
+        ensures begins { IfOk result (λ reply. Begins U.meaning self.old.object self.new.object (Event.Procedure owner op v reply)) }
         ensures tickets { self.new.tickets ≡ self.old.tickets }
         ensures capacity { self.new.capacity ≡ self.old.capacity }
         ensures refused { IfErr result (MayRefuse self.old.capacity None) }
@@ -206,7 +206,7 @@ impl<U: Unit, R: Record<U>> CoreInAction<U, R> {
         self.state.recall_invariant();
         self.state.begin();
         let reply = self.state.procedure(op, v);
-        let event = Event::Ran {
+        let event = Event::Procedure {
             owner,
             op,
             v,
@@ -257,13 +257,13 @@ impl<U: Unit, R: Record<U>> CoreInAction<U, R> {
     /// Finalizes the object, and ends all queued calls.
     pub(crate) fn finalize(&mut self)
         requires begin { MayBegin U.meaning self.old.object.state }
-        ensures begins { Begins U.meaning self.old.object self.new.object Event.Final }
+        ensures begins { Begins U.meaning self.old.object self.new.object Event.Finalize }
         ensures tickets { self.new.tickets ≡ self.old.tickets }
         ensures capacity { self.new.capacity ≡ self.old.capacity }
     {
         self.state.begin();
         self.state.finalize();
-        let event = Event::Final;
+        let event = Event::Finalize;
         note(&mut self.kept, &self.setup, &self.state, event, 0, None);
         self.place += 1;
     }

@@ -105,12 +105,12 @@ impl<U: Unit, R: Record<U>> Core<U, R> {
         value: U::Value,
     ) -> Result<Result<U::Value, u32>, Refusal>
         ensures after { IfOk result (λ reply. self.new ≡ record self.old {
-          object = after_action U.meaning self.old.object (Event.Ran owner op value reply);
+          object = after_action U.meaning self.old.object (Event.Procedure owner op value reply);
         }) }
         ensures reply { IfOk result (λ reply. reply ≡ reply_of U.meaning self.old.object op value) }
         ensures volumes { OnOk result (KeepsVolumes U.meaning self.old.object self.new.object) }
         ensures action { IfOk result (λ reply.
-            IsProtectedAction U.meaning self.old.object self.new.object (Event.Ran owner op value reply)) }
+            IsProtectedAction U.meaning self.old.object self.new.object (Event.Procedure owner op value reply)) }
         ensures allowed { OnOk result (procedure_refusal U.meaning self.old.object op ≡ None) }
         ensures refused { IfErr result (MayRefuse self.old.capacity (procedure_refusal U.meaning self.old.object op)) }
         ensures unchanged { OnErr result (self.new ≡ self.old) }
@@ -223,12 +223,12 @@ impl<U: Unit, R: Record<U>> Core<U, R> {
     /// Refused as `Finalized`.
     pub fn finalize(&mut self) -> Result<(), Refusal>
         ensures after { OnOk result (self.new ≡ record self.old {
-          object = after_action U.meaning self.old.object Event.Final;
+          object = after_action U.meaning self.old.object Event.Finalize;
         }) }
         ensures volumes { OnOk result (KeepsVolumes U.meaning self.old.object self.new.object) }
         ensures action { OnOk result (
-            IsProtectedAction U.meaning self.old.object self.new.object Event.Final) }
-        ensures alone { OnOk result (self.new.object.events ≡ self.old.object.events ++ Event.Final ∷ []) }
+            IsProtectedAction U.meaning self.old.object self.new.object Event.Finalize) }
+        ensures alone { OnOk result (self.new.object.events ≡ self.old.object.events ++ Event.Finalize ∷ []) }
         ensures refused { MatchResult result
             (λ _. finalized_refusal self.old.object ≡ None)
             (λ r. finalized_refusal self.old.object ≡ Some r) }

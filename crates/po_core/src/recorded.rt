@@ -66,7 +66,7 @@ fn counted<V: Copy>(ran: u64, event: Event<V>) -> u64
     ensures { result ≡ ran + (if is_ran event then 1 else 0) }
 {
     match event {
-        Event::Ran { .. } => ran + 1,
+        Event::Procedure { .. } => ran + 1,
         _ => ran,
     }
 }

@@ -1,7 +1,8 @@
 -- The changes that leave most parts of the kept calls as they are.
-use Rattle.std.proofs.Common.{◌≡◌, ℕ, ◌+◌, ◌<◌, ◌≤◌, Bool, true, false, List, [], ◌++◌, length, Option, Some, None, sym, ap, ap₂, ◌∙◌, subst, arith, Vec, vec_len, vec_capacity}
+use Rattle.std.proofs.Common.{◌≡◌, ℕ, ◌+◌, ◌<◌, ◌≤◌, Bool, true, false, List, [], ◌++◌, length, Option, Some, None, sym, ap, ap₂, ◌∙◌, subst, arith, inl, inr, Vec, vec_len, vec_capacity}
 use Rattle.std.specs.Prelude.{OnSome}
 use Rattle.std.specs.List.{All}
+use Rattle.std.proofs.lemmas.Bool.{cases_lt}
 use Rattle.std.proofs.lemmas.List.Elements.{All-nil}
 use Rattle.slab.specs.Slab.{Slab, get, slab_len, Updates}
 use Rattle.po_queues.specs.QueuedKeys.{occurs}
@@ -13,16 +14,22 @@ use Rattle.po_calls.specs.declared.ticket.Ticket.{Ticket}
 use Rattle.po_calls.specs.Calls.{CallTable, IsAbove, waiting_call, kept, end_of, numbers_of}
 use Rattle.po_engine.specs.declared.ended.Ended.{Ended}
 use Rattle.po_engine.specs.Tickets.{SetsTicket}
-use Rattle.po_engine.specs.Calls.{KeepsCalls, AreReserved, IsLeft, IsQueued, AllQueued, waiting_in, of_key, key_of, call_at, calls_in_service}
+use Rattle.po_engine.specs.Calls.{KeepsCalls, AreReserved, IsQueued, AllQueued, waiting_in, of_key, key_of, call_at, calls_in_service}
 use Rattle.po_engine.proofs.CallPlaces.{leaves}
 use Rattle.po_engine.proofs.KeptSteps.{ticket_set}
 use Rattle.po_engine.proofs.Held.{length_removed}
 use Rattle.po_engine.proofs.ServiceSteps.{removed, widened}
 
 -- How many calls there is room for after one is collected.
-left_between : (fixed : Bool) (most len key reserved left : ℕ) → len + 1 ≤ most → IsLeft fixed most len key reserved left → (len ≤ left) × (left ≤ most)
-left_between true most len key reserved left few is = (omega (arith, few, is), omega (arith, is))
-left_between false most len key reserved left few is = (is.0, omega (arith, few, is.1))
+pub record IsLeft (most len capacity reserved left : ℕ) : Type 0 where
+  pub all : capacity ≤ reserved → left ≡ most
+  pub none : reserved < capacity → left ≡ len
+
+left_between : (most len capacity reserved left : ℕ) → len + 1 ≤ most → IsLeft most len capacity reserved left → (len ≤ left) × (left ≤ most)
+left_between most len capacity reserved left few is = elim (cases_lt reserved capacity) [
+  | inl lt ↦ (omega (arith, is.none lt), omega (arith, few, is.none lt))
+  | inr le ↦ (omega (arith, few, is.all le), omega (arith, is.all le))
+]
 
 -- A number that is above the last one stays so if it grows.
 pub above_next : (last : Option ℕ) (n : ℕ) → IsAbove last n → IsAbove last (n + 1)
@@ -31,28 +38,25 @@ above_next (Some k) n h = omega (arith, h)
 
 module _ {V : Type 0} where
   -- The key of a call that there is room for can be queued.
-  pub key_reserved : (fixed : Bool) (calls : Slab (Kept V)) (reserved most key : ℕ) → key ≡ calls.vacant_key → key < calls.capacity
-      → slab_len calls < most → AreReserved fixed calls reserved most → key < reserved
-  key_reserved true calls reserved most key is low few h = omega (arith, low, h)
-  key_reserved false calls reserved most key is low few h = omega (arith, is, h.1 few)
+  pub key_reserved : (fixed : Bool) (calls : Slab (Kept V)) (reserved most key : ℕ) → key < calls.capacity → slab_len calls < most
+      → AreReserved fixed calls reserved most → key < reserved
+  key_reserved true calls reserved most key low few h = omega (arith, low, h)
+  key_reserved false calls reserved most key low few h = omega (arith, low, h few)
 
-  -- After a call has taken the room that there was.
-  pub reserved_taken : (fixed : Bool) (old new : Slab (Kept V)) (reserved most : ℕ) → slab_len new ≡ slab_len old + 1 → new.capacity ≡ old.capacity
-      → slab_len old < most → AreReserved fixed old reserved most → AreReserved fixed new reserved most
-  reserved_taken true old new reserved most len capacity few h = omega (arith, capacity, h)
-  reserved_taken false old new reserved most len capacity few h = (omega (arith, h.0, len), λ lt. absurd (omega (arith, h.0, len, lt)))
+  -- No memory is lost as long as no call is collected.
+  pub reserved_kept : (fixed : Bool) (old new : Slab (Kept V)) (reserved most : ℕ) → slab_len old ≤ slab_len new → new.capacity ≡ old.capacity
+      → AreReserved fixed old reserved most → AreReserved fixed new reserved most
+  reserved_kept true old new reserved most len capacity h = omega (arith, capacity, h)
+  reserved_kept false old new reserved most len capacity h = λ lt. omega (arith, capacity, h (omega (arith, len, lt)))
 
-  -- If as many calls are kept as before.
-  pub reserved_kept : (fixed : Bool) (old new : Slab (Kept V)) (reserved most : ℕ) → slab_len new ≡ slab_len old → new.capacity ≡ old.capacity
-      → new.vacant_key ≡ old.vacant_key → AreReserved fixed old reserved most → AreReserved fixed new reserved most
-  reserved_kept true old new reserved most len capacity vacant h = omega (arith, capacity, h)
-  reserved_kept false old new reserved most len capacity vacant h = (omega (arith, h.0, len), λ lt. omega (arith, vacant, h.1 (omega (arith, len, lt))))
-
-  -- After one call is collected: its room stays, if the room is fixed or its key can be queued.
-  pub reserved_given : (fixed : Bool) (old new : Slab (Kept V)) (reserved most key left : ℕ) → new.capacity ≡ old.capacity → new.vacant_key ≡ key
-      → IsLeft fixed most (slab_len new) key reserved left → AreReserved fixed old reserved most → AreReserved fixed new reserved left
-  reserved_given true old new reserved most key left capacity vacant is h = omega (arith, capacity, h)
-  reserved_given false old new reserved most key left capacity vacant is h = (is.1, λ lt. subst (λ k. k < reserved) (sym vacant) (is.2 lt))
+  -- After one call is collected there is room for as many as before, if all keys can be queued.
+  pub reserved_given : (fixed : Bool) (old new : Slab (Kept V)) (reserved most left : ℕ) → new.capacity ≡ old.capacity
+      → IsLeft most (slab_len new) new.capacity reserved left → AreReserved fixed old reserved most → AreReserved fixed new reserved left
+  reserved_given true old new reserved most left capacity is h = omega (arith, capacity, h)
+  reserved_given false old new reserved most left capacity is h = λ lt. elim (cases_lt reserved new.capacity) [
+    | inl less ↦ absurd (omega (arith, lt, is.none less))
+    | inr le ↦ le
+  ]
 
   -- A queued key is taken into service.
   pub taken_in_service : {B : Type 0} (table : CallTable V) (queues : EntryQueuesView) (keys : List ℕ) (ended before : List (Ended V)) (now : Vec (Ended V) B)
@@ -85,12 +89,12 @@ module _ {V : Type 0} where
   pub collected : {B : Type 0} (table new : CallTable V) (queues : EntryQueuesView) (keys : List ℕ) (ended before : List (Ended V)) (now : Vec (Ended V) B)
       (first next : ℕ) (serving : Option ℕ) (most left : ℕ) (fixed : Bool) (ticket : Ticket) (end : End V) → Some end ≡ end_of (kept table ticket)
       → Updates table.calls new.calls ticket.key None → slab_len new.calls + 1 ≡ slab_len table.calls
-      → new.calls.capacity ≡ table.calls.capacity → new.last ≡ table.last → new.calls.vacant_key ≡ ticket.key → IsLeft fixed most (slab_len new.calls) ticket.key queues.reserved left
+      → new.calls.capacity ≡ table.calls.capacity → new.last ≡ table.last → IsLeft most (slab_len new.calls) new.calls.capacity queues.reserved left
       → KeepsCalls table queues keys ended before now first next serving most fixed
       → Collected table new queues keys ended before now first next serving left fixed
-  collected table new queues keys ended before now first next serving most left fixed ticket end is u len capacity last vacant given i =
+  collected table new queues keys ended before now first next serving most left fixed ticket end is u len capacity last given i =
       let l = leaves table new.calls (key_of first keys) queues serving ended ticket end (sym is) u i.queued i.kept in
-      let between = left_between fixed most (slab_len new.calls) ticket.key queues.reserved left (omega (arith, i.few, len)) given in
+      let between = left_between most (slab_len new.calls) new.calls.capacity queues.reserved left (omega (arith, i.few, len)) given in
       record {
         keeps = record {
           queued = l.queued;
@@ -102,7 +106,7 @@ module _ {V : Type 0} where
           shown = i.shown;
           few = between.0;
           room = omega (arith, i.room, capacity, between.1);
-          reserved = reserved_given fixed table.calls new.calls queues.reserved most ticket.key left capacity vacant given i.reserved;
+          reserved = reserved_given fixed table.calls new.calls queues.reserved most left capacity given i.reserved;
           for_ended = i.for_ended;
           for_all = omega (arith, i.for_all, between.1);
         };
@@ -172,6 +176,4 @@ module _ {V : Type 0} where
   -- If there is no room for a further call, a larger table and more reserved keys make none.
   pub none_reserved : (calls : Slab (Kept V)) (fixed : Bool) (capacity reserved more most : ℕ) → fixed ≡ false → most ≤ slab_len calls → AreReserved fixed calls reserved most
       → AreReserved false (record calls { capacity = capacity }) more most
-  none_reserved calls fixed capacity reserved more most not_fixed full h =
-      let k = subst (λ b. AreReserved b calls reserved most) not_fixed h in
-      (k.0, λ lt. absurd (omega (arith, full, lt)))
+  none_reserved calls fixed capacity reserved more most not_fixed full h = λ lt. absurd (omega (arith, full, lt))

@@ -167,6 +167,18 @@ module _ {V : Type 0} where
   pub number_kept : (table : CallTable V) (k : ℕ) → number_at (numbers_of table) k ≡ option_map (λ x. x.call.number) (get table.calls k)
   number_kept table k = number_in_slot table.calls.slots k
 
+  number_led : (table : CallTable V) (index : ℕ → Option ℕ) (k n : ℕ) (o : Option (Kept V)) → get table.calls k ≡ o
+      → ((key : ℕ) (x : Kept V) → get table.calls key ≡ Some x → index x.call.number ≡ Some key)
+      → option_map (λ x. x.call.number) o ≡ Some n → index n ≡ Some k
+  number_led table index k n None here indexed is = let bad : None ≡ Some n = is in absurd (cc)
+  number_led table index k n (Some x) here indexed is = let both : Some x.call.number ≡ Some n = is in let same : x.call.number ≡ n = cc in subst (λ m. index m ≡ Some k) same (indexed k x here)
+
+  -- The number of a ticket leads to its key.
+  pub ticket_led : (table : CallTable V) (index : ℕ → Option ℕ) (k n : ℕ)
+      → ((key : ℕ) (x : Kept V) → get table.calls key ≡ Some x → index x.call.number ≡ Some key)
+      → number_at (numbers_of table) k ≡ Some n → index n ≡ Some k
+  ticket_led table index k n indexed is = number_led table index k n (get table.calls k) refl indexed (sym (number_kept table k) ∙ is)
+
   -- The tickets change at the key at which the table changes.
   pub ticket_set : (old new : CallTable V) (k : ℕ) (now : Option (Kept V)) → Updates old.calls new.calls k now
       → SetsTicket (numbers_of old) (numbers_of new) k (option_map (λ x. x.call.number) now)

@@ -9,7 +9,7 @@ use Rattle.po_calls.specs.declared.call.Call.{Call}
 use Rattle.po_calls.specs.declared.end.End.{End}
 use Rattle.po_calls.specs.declared.end.End.TheVariants.{Completed, Raised, Cancelled, ProgramError}
 use Rattle.po_history.specs.declared.event.Event.{Event}
-use Rattle.po_history.specs.declared.event.Event.TheVariants.{Issue, Ran, Cancel, Tick, Final, Serve, Break, Expire}
+use Rattle.po_history.specs.declared.event.Event.TheVariants.{Issue, Procedure, Cancel, Tick, Finalize, Serve, Break, Expire}
 use Rattle.po_engine.specs.ObjectState.{ObjectState, counts_in, barrier_in}
 use Rattle.po_engine.specs.WaitingCalls.{has_number, is_on, mark}
 use Rattle.po_engine.specs.Step.{is_full, enter, end_call, end_all, queue, conclude, run_body, arrive, take_out, cancel, attempt_cancel, serve, step}
@@ -88,10 +88,10 @@ module _ {S V : Type 0} (n : ℕ) where
 
   pub places-step : (m : Meaning S V) (limit : Option ℕ) (p : ObjectState S V) (e : Event V) → places_of (step m limit p e) ≡ places_of p + gains n e
   places-step m limit p (Issue k owner e v d) = places-arrive m limit (record p { next = p.next + 1 }) (record { number = k; owner = owner; entry = e; value = v; without_abort = false; aborted = false; deadline = d }) (barrier_in m p e)
-  places-step m limit p (Ran owner op v reply) = omega arith
+  places-step m limit p (Procedure owner op v reply) = omega arith
   places-step m limit p (Cancel k) = omega (arith, places-attempt p k (find (has_number k) p.waiting) refl)
   places-step m limit p (Tick t) = omega arith
-  places-step m limit p Final = omega (arith, places-end_all p ProgramError)
+  places-step m limit p Finalize = omega (arith, places-end_all p ProgramError)
   places-step m limit p (Serve e) = omega (arith, places-served m limit p e (find (is_on e) p.waiting) refl)
   places-step m limit p (Break e) = omega (arith, places-end_all p ProgramError)
   places-step m limit p (Expire k) = omega (arith, places-cancel p k (find (has_number k) p.waiting) refl)

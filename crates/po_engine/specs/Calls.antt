@@ -65,12 +65,6 @@ abbrev pub calls_in_service : Option ℕ → ℕ
 calls_in_service None = 0
 calls_in_service (Some k) = 1
 
--- How many calls there is room for after one is collected: `len` are left, and `key` is free. A fixed number stays. Otherwise
--- there is room for `len` calls, and for one more at most, if its key can be queued.
-abbrev pub IsLeft : Bool → ℕ → ℕ → ℕ → ℕ → ℕ → Type 0
-IsLeft true most len key reserved left = left ≡ most
-IsLeft false most len key reserved left = (len ≤ left) × (left ≤ len + 1) × (len < left → key < reserved)
-
 module _ {V : Type 0} where
   -- the waiting call that has this key
   abbrev pub call_at : Slab (Kept V) → ℕ → Option (Call V)
@@ -118,11 +112,10 @@ module _ {V : Type 0} where
     pub indexed : (key : ℕ) (k : Kept V) → get calls key ≡ Some k → index k.call.number ≡ Some key
     pub ends : (key : ℕ) (k : Kept V) → get calls key ≡ Some k → k.end ≡ option_map (λ x. x.end) (find (has_ended k.call.number) ended)
 
-  -- The keys of the calls that there is room for can be queued. If the memory is fixed, these are all that the table may give.
-  -- Otherwise it is the key that the table gives next, and there is room for one more call at most.
+  -- Each key that the table may give can be queued: always if the memory is fixed, otherwise if there is room for one more call.
   abbrev pub AreReserved : Bool → Slab (Kept V) → ℕ → ℕ → Type 0
   AreReserved true calls reserved most = calls.capacity ≤ reserved
-  AreReserved false calls reserved most = (most ≤ slab_len calls + 1) × (slab_len calls < most → calls.vacant_key < reserved)
+  AreReserved false calls reserved most = slab_len calls < most → calls.capacity ≤ reserved
 
   -- What always holds of the calls. The keys by number and the list of all that have ended are known to proofs alone.
   pub record KeepsCalls {B : Type 0} (table : CallTable V) (queues : EntryQueuesView) (keys : List ℕ) (ended before : List (Ended V)) (now : Vec (Ended V) B) (first next : ℕ) (serving : Option ℕ) (most : ℕ) (is_fixed : Bool) : Type 0 where

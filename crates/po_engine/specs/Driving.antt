@@ -1,30 +1,18 @@
 -- SPDX-License-Identifier: MIT
--- An object whose client runs the bodies and evaluates the barriers: an arriving call is in service or queued (this project's
--- own).
-use Rattle.std.specs.Prelude.{ℕ, ◌+◌, drop, Bool, true, false, Option, Some, None}
+-- An object whose client runs the bodies and evaluates the barriers (this project's own).
+use Rattle.std.specs.Prelude.{ℕ, ◌+◌, drop}
 use Rattle.po_calls.specs.declared.call.Call.{Call}
 use Rattle.po_engine.specs.ObjectState.{ObjectState}
 use Rattle.po_engine.specs.declared.arriving.Arriving.{Arriving}
-use Rattle.po_engine.specs.Step.{enter}
 
 -- a call that is new
 abbrev pub new_call : {V : Type 0} → ℕ → Arriving V → Call V
 new_call n a = record { number = n; owner = 0; entry = a.entry; value = a.value; without_abort = a.without_abort; aborted = a.aborted; deadline = a.deadline }
 
--- the call in service, if the client says that the barrier is open
-abbrev pub in_service : {V : Type 0} → Call V → Bool → Option (Call V)
-in_service x true = Some x
-in_service x false = None
-
 module _ {S V : Type 0} where
   -- the state after one more call has got its number
   abbrev pub counted : ObjectState S V → ObjectState S V
   counted s = record s { next = s.next + 1 }
-
-  -- the state after a new call: it is in service if the client says that the barrier is open, and else it is queued
-  abbrev pub admitted : Option ℕ → ObjectState S V → Call V → Bool → ObjectState S V
-  admitted limit s x true = s
-  admitted limit s x false = enter limit s x
 
   -- the state after the call that was queued first of all has left its queue
   abbrev pub take_oldest : ObjectState S V → ObjectState S V

@@ -9,7 +9,7 @@ use Rattle.po_queues.specs.declared.selection.Selection.TheVariants.{Quiet, Read
 use Rattle.po_queues.specs.declared.order.Order.{Order}
 use Rattle.po_queues.specs.Turns.{turn, first_selection, selection_if, examined}
 use Rattle.po_history.specs.declared.event.Event.{Event}
-use Rattle.po_history.specs.declared.event.Event.TheVariants.{Issue, Ran, Cancel, Tick, Final, Serve, Break, Expire}
+use Rattle.po_history.specs.declared.event.Event.TheVariants.{Issue, Procedure, Cancel, Tick, Finalize, Serve, Break, Expire}
 use Rattle.po_engine.specs.WaitingCalls.{has_number, is_on, is_due}
 use Rattle.po_engine.specs.ObjectState.{ObjectState, barrier_in, IsQuiet}
 use Rattle.po_engine.specs.Step.{step}
@@ -68,7 +68,7 @@ Fits m s (Serve e) = (e < m.entries s.unit) × IsSome (find (is_on e) s.waiting)
 Fits m s (Break e) = (e < m.entries s.unit) × IsSome (find (is_on e) s.waiting) × ((k : ℕ) × (barrier_in m s e ≡ Err k))
 Fits m s (Expire n) = IsQuiet m s × IsFound (λ x. is_due s.clock x ≡ true) (find (has_number n) s.waiting)
 Fits m s (Issue n owner e v d) = ⊥
-Fits m s (Ran owner op v reply) = ⊥
+Fits m s (Procedure owner op v reply) = ⊥
 Fits m s (Cancel n) = ⊥
 Fits m s (Tick t) = ⊥
-Fits m s Final = ⊥
+Fits m s Finalize = ⊥

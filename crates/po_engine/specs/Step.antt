@@ -1,6 +1,6 @@
 -- SPDX-License-Identifier: MIT
 -- What an event needs, and the state that it leads to.
-use Rattle.std.specs.Prelude.{ℕ, count_by, ◌≡◌, ◌<◌, ◌+◌, ◌==◌, max, List, [], ◌∷◌, ◌++◌, map, Bool, true, false, not, ◌&&◌, Result, Ok, Err, Option, Some, None, find, IsSome, if◌then◌else◌}
+use Rattle.std.specs.Prelude.{ℕ, count_by, nat_le, ◌≡◌, ◌<◌, ◌+◌, max, List, [], ◌∷◌, ◌++◌, map, Bool, true, false, not, ◌&&◌, Result, Ok, Err, Option, Some, None, find, IsSome, if◌then◌else◌}
 use Rattle.po_unit.specs.Meaning.{Meaning}
 use Rattle.po_unit.specs.declared.outcome.Outcome.{Outcome}
 use Rattle.po_unit.specs.declared.outcome.Outcome.TheVariants.{Complete, Raise, Requeue}
@@ -8,7 +8,7 @@ use Rattle.po_calls.specs.declared.call.Call.{Call}
 use Rattle.po_calls.specs.declared.end.End.{End}
 use Rattle.po_calls.specs.declared.end.End.TheVariants.{Completed, Raised, Cancelled, ProgramError}
 use Rattle.po_history.specs.declared.event.Event.{Event}
-use Rattle.po_history.specs.declared.event.Event.TheVariants.{Issue, Ran, Cancel, Tick, Final, Serve, Break, Expire}
+use Rattle.po_history.specs.declared.event.Event.TheVariants.{Issue, Procedure, Cancel, Tick, Finalize, Serve, Break, Expire}
 use Rattle.po_engine.specs.Ending.{ended_as}
 use Rattle.po_engine.specs.Finding.{without_first, IsFound}
 use Rattle.po_engine.specs.WaitingCalls.{is_on, has_number, is_due, mark}
@@ -17,7 +17,7 @@ use Rattle.po_engine.specs.ObjectState.{ObjectState, counts_in, barrier_in, IsQu
 -- whether a queue of `n` calls is full under this limit (D.7, Max_Entry_Queue_Length, here for an object)
 abbrev pub is_full : Option ℕ → ℕ → Bool
 is_full None n = false
-is_full (Some most) n = n == most
+is_full (Some most) n = nat_le most n
 
 module _ {S V : Type 0} where
   -- a call that isn't queued ends
@@ -48,6 +48,13 @@ module _ {S V : Type 0} where
       if with_abort && x.aborted
       then end_call s x Cancelled
       else enter limit s (record x { entry = target; value = v; without_abort = not with_abort })
+
+  -- whether that state has the call on a queue
+  abbrev pub is_queued_again : Option ℕ → ObjectState S V → Call V → Outcome V → Bool
+  is_queued_again limit s x (Complete v) = false
+  is_queued_again limit s x (Raise k) = false
+  is_queued_again limit s x (Requeue target with_abort v) =
+      not (with_abort && x.aborted) && not (is_full limit (count_by (is_on target) s.waiting))
 
   -- the body of a call that isn't queued runs, and the call is concluded (9.5.2, 9.5.3)
   abbrev pub run_body : Meaning S V → Option ℕ → ObjectState S V → Call V → ObjectState S V
@@ -99,10 +106,10 @@ module _ {S V : Type 0} where
   abbrev pub step : Meaning S V → Option ℕ → ObjectState S V → Event V → ObjectState S V
   step m limit s (Issue n owner e v deadline) =
       arrive m limit (record s { next = s.next + 1 }) (record { number = n; owner = owner; entry = e; value = v; without_abort = false; aborted = false; deadline = deadline }) (barrier_in m s e)
-  step m limit s (Ran owner op v reply) = run_procedure m s op v
+  step m limit s (Procedure owner op v reply) = run_procedure m s op v
   step m limit s (Cancel n) = attempt_cancel s n (find (has_number n) s.waiting)
   step m limit s (Tick t) = advance s t
-  step m limit s Final = finalize s
+  step m limit s Finalize = finalize s
   step m limit s (Serve e) = serve m limit s e (find (is_on e) s.waiting)
   step m limit s (Break e) = end_all s ProgramError
   step m limit s (Expire n) = cancel s n (find (has_number n) s.waiting)
@@ -116,10 +123,10 @@ module _ {S V : Type 0} where
   -- service a queue, end all calls if a barrier faults, or cancel a call that is due (9.5.3, 9.7.2).
   abbrev pub Needs : Meaning S V → ObjectState S V → Event V → Type 0
   Needs m s (Issue n owner e v deadline) = MayBegin m s × (e < m.entries s.unit) × (n ≡ s.next) × (n < 18_446_744_073_709_551_615)
-  Needs m s (Ran owner op v reply) = MayBegin m s × (op < m.procedures s.unit) × (reply ≡ (m.procedure s.unit op v (counts_in m s)).1)
+  Needs m s (Procedure owner op v reply) = MayBegin m s × (op < m.procedures s.unit) × (reply ≡ (m.procedure s.unit op v (counts_in m s)).1)
   Needs m s (Cancel n) = MayBegin m s × IsFound (λ x. (x.without_abort && x.aborted) ≡ false) (find (has_number n) s.waiting)
   Needs m s (Tick t) = MayBegin m s
-  Needs m s Final = MayBegin m s
+  Needs m s Finalize = MayBegin m s
   Needs m s (Serve e) = IsSome (find (is_on e) s.waiting) × (barrier_in m s e ≡ Ok true)
   Needs m s (Break e) = IsSome (find (is_on e) s.waiting) × ((k : ℕ) × (barrier_in m s e ≡ Err k))
   Needs m s (Expire n) = IsQuiet m s × IsFound (λ x. is_due s.clock x ≡ true) (find (has_number n) s.waiting)

@@ -3,8 +3,8 @@
 
 ghost use Rattle.std.specs.Prelude.{◌≡◌, ◌<◌, ◌≤◌, ◌+◌, [], ℕ, map, length, Some, None, true, false, IfOk, IsOk, OnOk, OnErr, find};
 ghost use Rattle.po_engine.specs.WaitingCalls.{has_number};
-ghost use Rattle.po_engine.specs.Tickets.{uncollected};
-ghost use Rattle.po_engine.specs.Calls.{AreCallsSound, IsLeft, HasTicket, expires_at as time_of_expiration};
+ghost use Rattle.po_engine.specs.Tickets.{number_at, uncollected};
+ghost use Rattle.po_engine.specs.Calls.{AreCallsSound, HasTicket, key_of, expires_at as time_of_expiration};
 ghost use Rattle.po_calls.specs.declared.call.Call.{Call};
 
 mod changes;
@@ -86,6 +86,7 @@ fn expires_at<V: Copy>(call: &Call<V>) -> Option<u64>
 fn reserve_below(queues: &mut EntryQueues, keys: usize) -> Result<(), AllocError>
     ensures ok { OnOk result (keys ≤ queues.new.reserved) }
     ensures only_room { queues.new ≡ record queues.old { reserved = queues.new.reserved } }
+    ensures grows { queues.old.reserved ≤ queues.new.reserved }
 {
     if keys > 0 {
         queues.reserve(keys - 1)?;
@@ -93,17 +94,13 @@ fn reserve_below(queues: &mut EntryQueues, keys: usize) -> Result<(), AllocError
     Ok(())
 }
 
-/// Returns how many calls there is room for after one is collected: `len` are left, and `key` is free.
-fn room_left(is_fixed: bool, most: usize, len: usize, key: usize, reserved: usize) -> usize
-    ensures { IsLeft is_fixed most len key reserved result }
+/// Returns how many calls there is room for after one is collected and `len` are left: as many as before, if each key that the
+/// table may give can be queued.
+fn room_left(most: usize, len: usize, capacity: usize, reserved: usize) -> usize
+    ensures all { capacity ≤ reserved → result ≡ most }
+    ensures left { reserved < capacity → result ≡ len }
 {
-    if is_fixed {
-        most
-    } else if key < reserved {
-        len.saturating_add(1)
-    } else {
-        len
-    }
+    if capacity <= reserved { most } else { len }
 }
 
 impl<V: Copy> Calls<V> {
@@ -182,7 +179,7 @@ impl<V: Copy> Calls<V> {
         })
     }
 
-    /// Makes room for one more call if there is none. A collected call leaves its room to one other call at most.
+    /// Makes room for one more call if there is none. A collected call leaves its room to another.
     pub fn reserve(&mut self) -> Result<(), AllocError>
         requires { self.old.is_fixed ≡ false }
         ensures same { self.new ≡ record self.old { most = self.new.most } }
@@ -194,7 +191,7 @@ impl<V: Copy> Calls<V> {
             return Ok(());
         }
         self.table.reserve_one()?;
-        self.queues.reserve(self.table.next_key())?;
+        reserve_below(&mut self.queues, self.table.capacity())?;
         let most = self.table.len().checked_add(1).ok_or(AllocError)?;
         let more = most.saturating_sub(self.ended_now.len());
         self.ended_now.reserve(more)?;
@@ -211,7 +208,8 @@ impl<V: Copy> Calls<V> {
     }
 
     /// Recalls for proofs what always holds: waiting calls are uncollected; no more than `most` calls are uncollected; each
-    /// accepted call waits, is in service or has ended; and the number of a waiting call leads to its ticket.
+    /// accepted call waits, is in service or has ended; the number of a waiting call leads to its ticket, and that of a ticket to
+    /// the ticket's key.
     pub fn recall_invariant(&self)
         ensures sound { AreCallsSound self.now }
         ensures waiting { length self.now.waiting ≤ uncollected self.now.tickets }
@@ -219,6 +217,7 @@ impl<V: Copy> Calls<V> {
         ensures each { self.now.serving ≡ None → length self.now.ended + length self.now.waiting ≡ length self.now.keys }
         ensures tickets { (n : ℕ) (x : Call V) → find (has_number n) self.now.waiting ≡ Some x
             → HasTicket self.now.first self.now.keys self.now.tickets n }
+        ensures leads { (k n : ℕ) → number_at self.now.tickets k ≡ Some n → key_of self.now.first self.now.keys n ≡ Some k }
     {
         self.queues.recall_invariant();
     }

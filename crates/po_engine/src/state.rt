@@ -5,8 +5,8 @@ ghost use Rattle.std.specs.Prelude.{◌≡◌, ◌<◌, ◌≤◌, ◌+◌, [], 
 ghost use Rattle.po_engine.specs.WaitingCalls.{has_number};
 ghost use Rattle.po_engine.specs.ObjectState.{opening_state};
 ghost use Rattle.po_engine.specs.Pick.{served_last, owed};
-ghost use Rattle.po_engine.specs.Tickets.{uncollected};
-ghost use Rattle.po_engine.specs.Calls.{HasTicket};
+ghost use Rattle.po_engine.specs.Tickets.{number_at, uncollected};
+ghost use Rattle.po_engine.specs.Calls.{HasTicket, key_of};
 ghost use Rattle.po_calls.specs.declared.call.Call.{Call};
 
 mod looks;
@@ -169,12 +169,13 @@ impl<U: Unit> State<U> {
     }
 
     /// Recalls for proofs what holds of every state: the events that may still come are few; each accepted call waits or has
-    /// ended; and the number of a waiting call leads to its ticket.
+    /// ended; the number of a waiting call leads to its ticket, and that of a ticket to the ticket's key.
     pub fn recall_invariant(&self)
         ensures few { owed U.meaning self.now.state ≤ 9_000_000_000_000_000_000_000 }
         ensures each { self.now.serving ≡ None → length self.now.state.ended + length self.now.state.waiting ≡ length self.now.keys }
         ensures tickets { (n : ℕ) (x : Call U.Value) → find (has_number n) self.now.state.waiting ≡ Some x
             → HasTicket self.now.first self.now.keys self.now.tickets n }
+        ensures leads { (k n : ℕ) → number_at self.now.tickets k ≡ Some n → key_of self.now.first self.now.keys n ≡ Some k }
     {
         self.calls.recall_invariant();
     }

@@ -16,7 +16,7 @@ pub enum Event<V> {
         deadline: Deadline,
     },
     /// Procedure `op` runs with value `v`, and replies with a value or the number of an exception (9.5.1).
-    Ran {
+    Procedure {
         owner: u16,
         op: u16,
         v: V,
@@ -27,7 +27,7 @@ pub enum Event<V> {
     /// The clock rises to this time, unless it is already past it.
     Tick(u64),
     /// The object is finalized (9.4).
-    Final,
+    Finalize,
     /// The entry is open, and the first call on its queue is selected (9.5.3).
     Serve(u16),
     /// The barrier of this entry faults, and all queued calls end with Program_Error (9.5.3).

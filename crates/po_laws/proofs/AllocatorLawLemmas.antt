@@ -11,7 +11,7 @@ use Rattle.po_unit.proofs.NumberingLemmas.{numbered_from_slice_get, is_public-fr
 use Rattle.po_unit.specs.declared.outcome.Outcome.TheVariants.{Raise, Requeue}
 use Rattle.po_calls.specs.declared.call.Call.{Call}
 use Rattle.po_history.specs.declared.event.Event.{Event}
-use Rattle.po_history.specs.declared.event.Event.TheVariants.{Issue, Ran, Cancel, Tick, Final, Serve, Break, Expire}
+use Rattle.po_history.specs.declared.event.Event.TheVariants.{Issue, Procedure, Cancel, Tick, Finalize, Serve, Break, Expire}
 use Rattle.po_engine.specs.WaitingCalls.{is_on}
 use Rattle.po_engine.specs.ObjectState.{ObjectState, barrier_in}
 use Rattle.po_engine.specs.Step.{step, Needs, replay, IsLegal}
@@ -131,7 +131,7 @@ granted_moves a e v open_now some entry =
 released_moves : (beyond : Bool) (a : AllocatorState) (owner op v : ℕ) (reply : Result ℕ ℕ)
     → is_beyond (a.size - a.free) v ≡ beyond
     → reply ≡ (release a v).1
-    → Moves a (release a v).0 0 (sum (with_release (Ran owner op v reply) []))
+    → Moves a (release a v).0 0 (sum (with_release (Procedure owner op v reply) []))
 released_moves true a owner op v reply is replies = rw (replies, is) (moves_nothing a a refl)
 released_moves false a owner op v reply is replies =
     let k = in_range (a.size - a.free) v is in
@@ -159,10 +159,10 @@ asks_queue size s (Issue n owner zero v d) public = tt
 asks_queue size s (Issue n owner (suc zero) v d) public = tt
 asks_queue size s (Issue n owner (suc (suc e)) v d) public =
     let low = public_low size (suc (suc e)) public in absurd (omega arith)
-asks_queue size s (Ran owner op v reply) public = tt
+asks_queue size s (Procedure owner op v reply) public = tt
 asks_queue size s (Cancel n) public = tt
 asks_queue size s (Tick time) public = tt
-asks_queue size s Final public = tt
+asks_queue size s Finalize public = tt
 asks_queue size s (Serve e) public = tt
 asks_queue size s (Break e) public = tt
 asks_queue size s (Expire n) public = tt
@@ -177,11 +177,11 @@ grants_moves s t e v runs open_now some entry =
 released_more : (event : Event ℕ) (values : List ℕ)
     → sum (with_release event values) ≡ sum (with_release event []) + sum values
 released_more (Issue n owner e v d) values = omega arith
-released_more (Ran owner op v (Ok w)) values = omega (arith, sum_by-cons (λ x. x) v values)
-released_more (Ran owner op v (Err k)) values = omega arith
+released_more (Procedure owner op v (Ok w)) values = omega (arith, sum_by-cons (λ x. x) v values)
+released_more (Procedure owner op v (Err k)) values = omega arith
 released_more (Cancel n) values = omega arith
 released_more (Tick time) values = omega arith
-released_more Final values = omega arith
+released_more Finalize values = omega arith
 released_more (Serve e) values = omega arith
 released_more (Break e) values = omega arith
 released_more (Expire n) values = omega arith
@@ -198,15 +198,15 @@ module _ (limit : Option ℕ) (size : ℕ) where
       let event : Event ℕ = Issue n owner e v d in
       let done = does allocator_meaning limit s event needs in
       asks_moves s (step allocator_meaning limit s event) e v (public_low size e public) done
-  event_moves s (Ran owner op v reply) needs public all =
-      let none = does allocator_meaning limit s (Ran owner op v reply) needs in
+  event_moves s (Procedure owner op v reply) needs public all =
+      let none = does allocator_meaning limit s (Procedure owner op v reply) needs in
       rw none (released_moves (is_beyond (s.unit.size - s.unit.free) v) s.unit owner op v reply refl needs.2)
   event_moves s (Cancel n) needs public all =
       idles_moves s (step allocator_meaning limit s (Cancel n)) (does allocator_meaning limit s (Cancel n) needs)
   event_moves s (Tick time) needs public all =
       idles_moves s (step allocator_meaning limit s (Tick time)) (does allocator_meaning limit s (Tick time) needs)
-  event_moves s Final needs public all =
-      idles_moves s (step allocator_meaning limit s Final) (does allocator_meaning limit s Final needs)
+  event_moves s Finalize needs public all =
+      idles_moves s (step allocator_meaning limit s Finalize) (does allocator_meaning limit s Finalize needs)
   event_moves s (Serve e) needs public all =
       let done = does allocator_meaning limit s (Serve e) needs in
       let awaits = found_holds AwaitsGrant (is_on e) s.waiting done.0 all done.1 in

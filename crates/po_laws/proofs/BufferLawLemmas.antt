@@ -5,7 +5,7 @@ use Rattle.std.proofs.lemmas.Bool.Decides.{nat_tests}
 use Rattle.std.proofs.lemmas.List.Elements.{All-nil}
 use Rattle.po_calls.specs.declared.call.Call.{Call}
 use Rattle.po_history.specs.declared.event.Event.{Event}
-use Rattle.po_history.specs.declared.event.Event.TheVariants.{Issue, Ran, Cancel, Tick, Final, Serve, Break, Expire}
+use Rattle.po_history.specs.declared.event.Event.TheVariants.{Issue, Procedure, Cancel, Tick, Finalize, Serve, Break, Expire}
 use Rattle.po_engine.specs.WaitingCalls.{is_on}
 use Rattle.po_engine.specs.ObjectState.{ObjectState}
 use Rattle.po_engine.specs.Step.{step, Needs, replay, IsLegal}
@@ -108,12 +108,12 @@ module _ (limit : Option ℕ) where
       let t = step buffer_meaning limit s (Issue n owner e v d) in
       let done = does buffer_meaning limit s (Issue n owner e v d) needs in
       issue_moves s t e v (buffer_barrier s.unit e) refl done needs.1
-  event_moves s (Ran owner op v reply) needs low = moves_nothing s.unit s.unit refl
+  event_moves s (Procedure owner op v reply) needs low = moves_nothing s.unit s.unit refl
   event_moves s (Cancel n) needs low =
       let idles = does buffer_meaning limit s (Cancel n) needs in
       moves_nothing s.unit (step buffer_meaning limit s (Cancel n)).unit idles.unit
   event_moves s (Tick time) needs low = moves_nothing s.unit s.unit refl
-  event_moves s Final needs low = moves_nothing s.unit s.unit refl
+  event_moves s Finalize needs low = moves_nothing s.unit s.unit refl
   event_moves s (Serve e) needs low =
       let t = step buffer_meaning limit s (Serve e) in
       let done = does buffer_meaning limit s (Serve e) needs in

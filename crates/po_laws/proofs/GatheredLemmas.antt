@@ -6,7 +6,7 @@ use Rattle.po_unit.specs.Meaning.{Meaning}
 use Rattle.po_calls.specs.declared.call.Call.{Call}
 use Rattle.po_engine.specs.declared.ended.Ended.{Ended}
 use Rattle.po_history.specs.declared.event.Event.{Event}
-use Rattle.po_history.specs.declared.event.Event.TheVariants.{Issue, Ran, Cancel, Tick, Final, Serve, Break, Expire}
+use Rattle.po_history.specs.declared.event.Event.TheVariants.{Issue, Procedure, Cancel, Tick, Finalize, Serve, Break, Expire}
 use Rattle.po_engine.specs.WaitingCalls.{has_number, is_on, is_due}
 use Rattle.po_engine.specs.ObjectState.{ObjectState, IsAtRest}
 use Rattle.po_engine.specs.Step.{step, IsLegal, replay}
@@ -44,10 +44,10 @@ module _ {S V : Type 0} (m : Meaning S V) (limit : Option ℕ) where
       → BeginsAnew events
   begins_anew s [] w legal = tt
   begins_anew s (Issue n owner e v d ∷ events) w legal = refl
-  begins_anew s (Ran owner op v reply ∷ events) w legal = refl
+  begins_anew s (Procedure owner op v reply ∷ events) w legal = refl
   begins_anew s (Cancel n ∷ events) w legal = refl
   begins_anew s (Tick t ∷ events) w legal = refl
-  begins_anew s (Final ∷ events) w legal = refl
+  begins_anew s (Finalize ∷ events) w legal = refl
   begins_anew s (Serve e ∷ events) w legal = absurd (none_some (is_on e) s.waiting w legal.0.0)
   begins_anew s (Break e ∷ events) w legal = absurd (none_some (is_on e) s.waiting w legal.0.0)
   begins_anew s (Expire n ∷ events) w legal =

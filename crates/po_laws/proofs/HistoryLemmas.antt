@@ -13,7 +13,7 @@ use Rattle.po_calls.specs.declared.call.Call.{Call}
 use Rattle.po_calls.specs.declared.end.End.TheVariants.{Completed, Raised, Cancelled, ProgramError}
 use Rattle.po_engine.specs.declared.ended.Ended.{Ended}
 use Rattle.po_history.specs.declared.event.Event.{Event}
-use Rattle.po_history.specs.declared.event.Event.TheVariants.{Issue, Ran, Cancel, Tick, Final, Serve, Break, Expire}
+use Rattle.po_history.specs.declared.event.Event.TheVariants.{Issue, Procedure, Cancel, Tick, Finalize, Serve, Break, Expire}
 use Rattle.po_engine.specs.WaitingCalls.{is_on, has_number, mark}
 use Rattle.po_core.specs.Headline.{Headline}
 use Rattle.po_engine.specs.ObjectState.{ObjectState, counts_in, barrier_in, IsAtRest}
@@ -182,11 +182,11 @@ module _ {S V : Type 0} where
     -- What an event that leads from one state to the other does: it runs a body or a procedure, or nothing.
     abbrev pub Does : ObjectState S V → ObjectState S V → Event V → Type 0
     Does s t (Issue n owner e v d) = DoesAtBarrier s t e v (barrier_in m s e)
-    Does s t (Ran owner op v reply) = values_between s t ≡ []
+    Does s t (Procedure owner op v reply) = values_between s t ≡ []
     Does s t (Serve e) = (x : Call V) × (find (is_on e) s.waiting ≡ Some x) × Runs m s t e x.value
     Does s t (Cancel n) = Idles s t
     Does s t (Tick time) = Idles s t
-    Does s t Final = Idles s t
+    Does s t Finalize = Idles s t
     Does s t (Break e) = Idles s t
     Does s t (Expire n) = Idles s t
 
@@ -229,11 +229,11 @@ module _ {S V : Type 0} where
         → Does s (step m limit s event) event
     does limit s (Issue n owner e v d) needs =
         arrives limit s (issued n owner e v d) (barrier_in m s e)
-    does limit s (Ran owner op v reply) needs = values_same s (step m limit s (Ran owner op v reply)) refl
+    does limit s (Procedure owner op v reply) needs = values_same s (step m limit s (Procedure owner op v reply)) refl
     does limit s (Serve e) needs = serves limit s e (find (is_on e) s.waiting) refl needs.0
     does limit s (Cancel n) needs = attempt_idles s n (find (has_number n) s.waiting)
     does limit s (Tick time) needs = idles_same s (step m limit s (Tick time)) refl refl
-    does limit s Final needs = idles_all s (step m limit s Final) s.waiting refl refl
+    does limit s Finalize needs = idles_all s (step m limit s Finalize) s.waiting refl refl
     does limit s (Break e) needs = idles_all s (step m limit s (Break e)) s.waiting refl refl
     does limit s (Expire n) needs = cancel_idles s n (find (has_number n) s.waiting)
 
@@ -256,10 +256,10 @@ module _ {S V : Type 0} (P : Call V → Type 0) where
   -- The condition holds of the call that the event issues, if it is queued.
   abbrev pub HoldsIssued : Meaning S V → ObjectState S V → Event V → Type 0
   HoldsIssued m s (Issue n owner e v d) = HoldsAtBarrier P (issued n owner e v d) (barrier_in m s e)
-  HoldsIssued m s (Ran owner op v reply) = Unit {0}
+  HoldsIssued m s (Procedure owner op v reply) = Unit {0}
   HoldsIssued m s (Cancel n) = Unit {0}
   HoldsIssued m s (Tick time) = Unit {0}
-  HoldsIssued m s Final = Unit {0}
+  HoldsIssued m s Finalize = Unit {0}
   HoldsIssued m s (Serve e) = Unit {0}
   HoldsIssued m s (Break e) = Unit {0}
   HoldsIssued m s (Expire n) = Unit {0}
@@ -327,10 +327,10 @@ module _ {S V : Type 0} (P : Call V → Type 0) where
         → All P (step m limit s event).waiting
     all_wait s (Issue n owner e v d) holds all =
         all_arrive (record s { next = s.next + 1 }) (issued n owner e v d) (barrier_in m s e) holds all
-    all_wait s (Ran owner op v reply) holds all = all
+    all_wait s (Procedure owner op v reply) holds all = all
     all_wait s (Cancel n) holds all = all_attempt s n (find (has_number n) s.waiting) all
     all_wait s (Tick time) holds all = all
-    all_wait s Final holds all = All-nil P
+    all_wait s Finalize holds all = All-nil P
     all_wait s (Serve e) holds all = all_serve s e (find (is_on e) s.waiting) all
     all_wait s (Break e) holds all = All-nil P
     all_wait s (Expire n) holds all = all_cancel s n (find (has_number n) s.waiting) all

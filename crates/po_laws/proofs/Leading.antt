@@ -11,7 +11,7 @@ use Rattle.po_engine.specs.Ending.{ended_as}
 use Rattle.po_engine.specs.Finding.{IsFound}
 use Rattle.po_engine.specs.WaitingCalls.{has_number, is_due, is_on}
 use Rattle.po_engine.proofs.Lists.{found_passes}
-use Rattle.po_history.specs.declared.event.Event.TheVariants.{Break, Expire, Final, Issue, Ran, Serve}
+use Rattle.po_history.specs.declared.event.Event.TheVariants.{Break, Expire, Finalize, Issue, Procedure, Serve}
 use Rattle.po_engine.specs.ObjectState.{IsQuiet, ObjectState, counts_in, barrier_in}
 use Rattle.po_engine.specs.Step.{cancel, end_all, finalize, serve, take_out}
 use Rattle.po_driven.specs.Answering.{Breaks, LooksOn, WaitsForNext}
@@ -64,10 +64,10 @@ module _ {S : Type 0} (m : Meaning S ℕ) (lawful : IsLawful m) (keeps : KeepsCa
 
   -- a procedure runs
   pub runs_leads : (op v : ℕ) (step : NamedCall) (a : Action) → MayBegin d → op < m.procedures u → GoesOn step d n a
-      → Leads m s (Ran 0 op v (m.procedure u op v (counts_in m now)).1 ∷ []) (m.procedure u op v (counts_in m now)).0 n
+      → Leads m s (Procedure 0 op v (m.procedure u op v (counts_in m now)).1 ∷ []) (m.procedure u op v (counts_in m now)).0 n
   runs_leads op v step a may there k =
       let is = same_at Resting may.resting in let c = counts_in m now in let w = (m.procedure u op v c).0 in
-      subst (λ r. Leads m r (Ran 0 op v (m.procedure u op v c).1 ∷ []) w n) (sym is.state) (
+      subst (λ r. Leads m r (Procedure 0 op v (m.procedure u op v c).1 ∷ []) w n) (sym is.state) (
         ((begins m u d n f.entries f.limits f.driven k.setup after s.ended is.ended may.resting (closed_at Resting may.resting) may.alive, there, refl), tt),
         (tt, tt),
         next_on m u w d n (lawful.procedure_numbers u op v c).entries f.entries f.limits f.driven k.setup after (with_ended s.ended (base w g)) Resting a step may.resting (subst WaitsForNext (sym may.resting) tt) (same s.ended (base w g) is.ended) k,
@@ -108,12 +108,12 @@ module _ {S : Type 0} (m : Meaning S ℕ) (lawful : IsLawful m) (keeps : KeepsCa
   noted_final NoMemory breaks noted = absurd breaks
   noted_final Refused breaks noted = absurd breaks
 
-  pub finalizes_leads : (step : NamedCall) (a : Action) → MayBegin d → Finalizes step d n a → Leads m s (Final ∷ []) u n
+  pub finalizes_leads : (step : NamedCall) (a : Action) → MayBegin d → Finalizes step d n a → Leads m s (Finalize ∷ []) u n
   finalizes_leads step a may k =
       let is = same_at Resting may.resting in let breaks = k.breaks may.resting in
       let h : Driving = record g { state = record g.state { finalized = true } } in
       let over : IsSame (finalize (with_ended s.ended now)) (end_all (base u h) IsProgramError) = record { state = refl; ended = appended s.ended now.ended (map (ended_as IsProgramError) now.waiting) is.ended } in
-      subst (λ r. Leads m r (Final ∷ []) u n) (sym is.state) (
+      subst (λ r. Leads m r (Finalize ∷ []) u n) (sym is.state) (
         (begins m u d n f.entries f.limits f.driven k.setup after s.ended is.ended may.resting (closed_at Resting may.resting) may.alive, tt),
         (tt, tt),
         broken m u u d n refl f.entries f.limits f.driven k.setup after (finalize (with_ended s.ended now)) h a (sym (ap (λ t. t.waiting) f.driven.traced.leads.state)) over

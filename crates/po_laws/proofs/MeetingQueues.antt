@@ -11,7 +11,7 @@ use Rattle.po_calls.specs.declared.call.Deadline.{Deadline}
 use Rattle.po_engine.specs.declared.ended.Ended.{Ended}
 use Rattle.po_calls.specs.declared.end.End.TheVariants.{Cancelled, ProgramError}
 use Rattle.po_history.specs.declared.event.Event.{Event}
-use Rattle.po_history.specs.declared.event.Event.TheVariants.{Issue, Ran, Cancel, Tick, Final, Serve, Break, Expire}
+use Rattle.po_history.specs.declared.event.Event.TheVariants.{Issue, Procedure, Cancel, Tick, Finalize, Serve, Break, Expire}
 use Rattle.po_engine.specs.WaitingCalls.{is_on, has_number, mark}
 use Rattle.po_engine.specs.ObjectState.{barrier_in}
 use Rattle.po_engine.specs.Step.{step, arrive, queue, end_call, cancel, attempt_cancel, is_full, Needs}
@@ -205,12 +205,12 @@ module _ (limit : Option ℕ) (size : ℕ) where
   pub gathering_step : (s : State) (event : Event ℕ) → IsGathering size s → Needs m s event
       → IsGathering size (step m limit s event) ⊎ FillsBy limit size s event
   gathering_step s (Issue n owner e v d) g need = issue_step s n owner e v d need.1 g
-  gathering_step s (Ran owner op v reply) g need = absurd (omega (arith, need.1))
+  gathering_step s (Procedure owner op v reply) g need = absurd (omega (arith, need.1))
   gathering_step s (Cancel n) g need =
       inl (thinned size s (step m limit s (Cancel n)) (attempt_thins s n (find (has_number n) s.waiting)) g)
   gathering_step s (Tick t) g need =
       inl (thinned size s (step m limit s (Tick t)) (same_waiting s (step m limit s (Tick t)) refl refl) g)
-  gathering_step s Final g need = inl (none_waits s (step m limit s Final) refl refl g)
+  gathering_step s Finalize g need = inl (none_waits s (step m limit s Finalize) refl refl g)
   gathering_step s (Serve e) g need = absurd (none_served s e g need.1)
   gathering_step s (Break e) g need = let bad : barrier_in m s e ≡ Err need.1.0 = need.1.1 in cc
   gathering_step s (Expire n) g need =
@@ -218,10 +218,10 @@ module _ (limit : Option ℕ) (size : ℕ) where
 
   silent : (s : State) (event : Event ℕ) → IsGathering size s → Needs m s event → CompletesNone s (step m limit s event)
   silent s (Issue n owner e v d) g need = issue_silent s n owner e v d need.1 g
-  silent s (Ran owner op v reply) g need = absurd (omega (arith, need.1))
+  silent s (Procedure owner op v reply) g need = absurd (omega (arith, need.1))
   silent s (Cancel n) g need = attempt_silent s n (find (has_number n) s.waiting)
   silent s (Tick t) g need = same_ended s (step m limit s (Tick t)) refl
-  silent s Final g need =
+  silent s Finalize g need =
       record { added = map (ended_as ProgramError) s.waiting; ended = refl; none = raised_none s.waiting }
   silent s (Serve e) g need = absurd (none_served s e g need.1)
   silent s (Break e) g need = let bad : barrier_in m s e ≡ Err need.1.0 = need.1.1 in cc

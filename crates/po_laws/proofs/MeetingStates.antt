@@ -6,7 +6,7 @@ use Rattle.std.proofs.lemmas.List.Elements.{All-head, All-tail}
 use Rattle.po_unit.specs.Meaning.{Meaning}
 use Rattle.po_calls.specs.declared.call.Call.{Call}
 use Rattle.po_history.specs.declared.event.Event.{Event}
-use Rattle.po_history.specs.declared.event.Event.TheVariants.{Issue, Ran, Cancel, Tick, Final, Serve, Break, Expire}
+use Rattle.po_history.specs.declared.event.Event.TheVariants.{Issue, Procedure, Cancel, Tick, Finalize, Serve, Break, Expire}
 use Rattle.po_engine.specs.WaitingCalls.{is_on, has_number, is_due}
 use Rattle.po_engine.specs.ObjectState.{ObjectState, barrier_in}
 use Rattle.po_engine.specs.Step.{step, IsLegal, replay}
@@ -89,10 +89,10 @@ module _ (limit : Option ℕ) where
       → BeginsAnew events
   begins_anew s [] w l = tt
   begins_anew s (Issue n owner e v d ∷ es) w l = refl
-  begins_anew s (Ran owner op v reply ∷ es) w l = refl
+  begins_anew s (Procedure owner op v reply ∷ es) w l = refl
   begins_anew s (Cancel n ∷ es) w l = refl
   begins_anew s (Tick t ∷ es) w l = refl
-  begins_anew s (Final ∷ es) w l = refl
+  begins_anew s (Finalize ∷ es) w l = refl
   begins_anew s (Serve e ∷ es) w l = absurd (some_none (is_on e) s.waiting w l.0.0)
   begins_anew s (Break e ∷ es) w l = absurd (some_none (is_on e) s.waiting w l.0.0)
   begins_anew s (Expire n ∷ es) w l =

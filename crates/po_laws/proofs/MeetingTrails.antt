@@ -6,7 +6,7 @@ use Rattle.std.proofs.lemmas.List.{append-nil}
 use Rattle.std.proofs.lemmas.List.Elements.{All-head, All-tail}
 use Rattle.po_calls.specs.declared.call.Call.{Call}
 use Rattle.po_history.specs.declared.event.Event.{Event}
-use Rattle.po_history.specs.declared.event.Event.TheVariants.{Issue, Ran, Cancel, Tick, Final, Serve, Break, Expire}
+use Rattle.po_history.specs.declared.event.Event.TheVariants.{Issue, Procedure, Cancel, Tick, Finalize, Serve, Break, Expire}
 use Rattle.po_engine.specs.WaitingCalls.{is_on}
 use Rattle.po_engine.specs.ObjectState.{barrier_in, IsQuiet, IsAtRest}
 use Rattle.po_engine.specs.Step.{step, serve, Needs, IsLegal, replay}
@@ -63,10 +63,10 @@ only_serves size s x xs (Serve e) b h =
 only_serves size s x xs (Break e) b h = let bad : barrier_in m s e ≡ Err h.1.0 = h.1.1 in cc
 only_serves size s x xs (Expire n) b h = absurd (not_quiet size s x xs b h.0)
 only_serves size s x xs (Issue n owner e v d) b h = absurd (not_quiet size s x xs b h.0.rest.quiet)
-only_serves size s x xs (Ran owner op v reply) b h = absurd (not_quiet size s x xs b h.0.rest.quiet)
+only_serves size s x xs (Procedure owner op v reply) b h = absurd (not_quiet size s x xs b h.0.rest.quiet)
 only_serves size s x xs (Cancel n) b h = absurd (not_quiet size s x xs b h.0.rest.quiet)
 only_serves size s x xs (Tick t) b h = absurd (not_quiet size s x xs b h.rest.quiet)
-only_serves size s x xs Final b h = absurd (not_quiet size s x xs b h.rest.quiet)
+only_serves size s x xs Finalize b h = absurd (not_quiet size s x xs b h.rest.quiet)
 
 module _ (limit : Option ℕ) where
   -- the first of the calls is served

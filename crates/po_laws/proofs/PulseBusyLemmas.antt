@@ -9,7 +9,7 @@ use Rattle.po_calls.specs.declared.call.Call.{Call}
 use Rattle.po_engine.specs.declared.ended.Ended.{Ended}
 use Rattle.po_calls.specs.declared.end.End.TheVariants.{Completed}
 use Rattle.po_history.specs.declared.event.Event.{Event}
-use Rattle.po_history.specs.declared.event.Event.TheVariants.{Issue, Ran, Cancel, Tick, Final, Serve, Break, Expire}
+use Rattle.po_history.specs.declared.event.Event.TheVariants.{Issue, Procedure, Cancel, Tick, Finalize, Serve, Break, Expire}
 use Rattle.po_engine.specs.WaitingCalls.{is_on}
 use Rattle.po_engine.specs.ObjectState.{ObjectState, barrier_in, IsQuiet}
 use Rattle.po_engine.specs.Finding.{without_first}
@@ -168,10 +168,10 @@ next_event s calls signal (Serve e) busy need = ap (λ n. Serve n) (next_entry s
 next_event s calls signal (Break e) busy need = let bad : pulse_barrier_in s e ≡ Err need.1.0 = need.1.1 in cc
 next_event s calls signal (Expire n) busy need = absurd (busy_not_quiet s calls signal busy need.0)
 next_event s calls signal (Issue n owner e v d) busy need = absurd (none_begins s calls signal busy need.0)
-next_event s calls signal (Ran owner op v reply) busy need = absurd (none_begins s calls signal busy need.0)
+next_event s calls signal (Procedure owner op v reply) busy need = absurd (none_begins s calls signal busy need.0)
 next_event s calls signal (Cancel n) busy need = absurd (none_begins s calls signal busy need.0)
 next_event s calls signal (Tick t) busy need = absurd (none_begins s calls signal busy need)
-next_event s calls signal Final busy need = absurd (none_begins s calls signal busy need)
+next_event s calls signal Finalize busy need = absurd (none_begins s calls signal busy need)
 
 -- The first call has gone, completed with its own value.
 record HasGone (old new : PulseObject) (x : Call ℕ) (u : PulseState) (left : List (Call ℕ)) : Type 0 where

@@ -11,7 +11,7 @@ use Rattle.po_calls.specs.declared.call.Call.{Call}
 use Rattle.po_calls.specs.declared.call.Deadline.{Deadline}
 use Rattle.po_calls.specs.declared.end.End.TheVariants.{Completed, ProgramError}
 use Rattle.po_history.specs.declared.event.Event.{Event}
-use Rattle.po_history.specs.declared.event.Event.TheVariants.{Issue, Ran, Cancel, Tick, Final, Serve, Break, Expire}
+use Rattle.po_history.specs.declared.event.Event.TheVariants.{Issue, Procedure, Cancel, Tick, Finalize, Serve, Break, Expire}
 use Rattle.po_engine.specs.WaitingCalls.{has_number, is_on, mark}
 use Rattle.po_engine.specs.Finding.{without_first}
 use Rattle.po_engine.specs.Step.{conclude, enter, is_full, arrive, queue, cancel, attempt_cancel, Needs, end_call}
@@ -150,10 +150,10 @@ module _ (limit : Option ℕ) where
   none_completes s (Issue n owner (suc e) v d) idle need =
       let other : (suc e == 0) ≡ false = grind (arith, nat_tests) in
       rw other refl
-  none_completes s (Ran owner op v reply) idle need = refl
+  none_completes s (Procedure owner op v reply) idle need = refl
   none_completes s (Cancel n) idle need = refl
   none_completes s (Tick t) idle need = refl
-  none_completes s Final idle need = refl
+  none_completes s Finalize idle need = refl
   none_completes s (Serve e) idle need = absurd (no_serving s e idle need)
   none_completes s (Break e) idle need = refl
   none_completes s (Expire n) idle need = refl

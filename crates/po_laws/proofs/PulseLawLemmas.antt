@@ -6,7 +6,7 @@ use Rattle.po_unit.specs.Numbering.{is_public, entry_references, entries_of}
 use Rattle.po_calls.specs.declared.call.Call.{Call}
 use Rattle.po_calls.specs.declared.call.Deadline.{Deadline}
 use Rattle.po_history.specs.declared.event.Event.{Event}
-use Rattle.po_history.specs.declared.event.Event.TheVariants.{Issue, Ran, Cancel, Tick, Final, Serve, Break, Expire}
+use Rattle.po_history.specs.declared.event.Event.TheVariants.{Issue, Procedure, Cancel, Tick, Finalize, Serve, Break, Expire}
 use Rattle.po_core.specs.Setup.{Setup}
 use Rattle.po_core.specs.Public.{NamesPublic, AllPublic}
 use Rattle.po_engine.specs.WaitingCalls.{has_number}
@@ -92,11 +92,11 @@ module _ (limit : Option ℕ) where
   idle_step seen s (Issue n owner (suc zero) v d) idle need public = issue_signal seen s n owner v d s.waiting refl idle
   idle_step seen s (Issue n owner (suc (suc e)) v d) idle need public =
       let below = public_entry_below (suc (suc e)) public in absurd (omega arith)
-  idle_step seen s (Ran owner op v reply) idle need public = absurd (omega (arith, need.1))
+  idle_step seen s (Procedure owner op v reply) idle need public = absurd (omega (arith, need.1))
   idle_step seen s (Cancel n) idle need public = inl (idle_attempt limit s n (find (has_number n) s.waiting) idle)
   idle_step seen s (Tick t) idle need public =
       inl (record { occurred = idle.occurred; on_wait = idle.on_wait; room = idle.room })
-  idle_step seen s Final idle need public =
+  idle_step seen s Finalize idle need public =
       inl (idle_over limit _ (record { occurred = idle.occurred; waiting = refl }))
   idle_step seen s (Serve e) idle need public = absurd (no_serving limit s e idle need)
   idle_step seen s (Break e) idle need public = let bad : pulse_barrier_in s e ≡ Err need.1.0 = need.1.1 in cc

@@ -2,7 +2,7 @@
 -- The law of the allocator: no more is taken than there is, and no more is given back than is taken.
 use Rattle.std.specs.Prelude.{ℕ, ◌≡◌, ◌≤◌, ◌+◌, List, [], ◌∷◌, ◌++◌, Ok, sum}
 use Rattle.po_history.specs.declared.event.Event.{Event}
-use Rattle.po_history.specs.declared.event.Event.TheVariants.{Ran}
+use Rattle.po_history.specs.declared.event.Event.TheVariants.{Procedure}
 use Rattle.po_core.specs.Setup.{Setup}
 use Rattle.po_core.specs.Public.{AllPublic}
 use Rattle.po_laws.specs.Completed.{opening, all_values}
@@ -10,7 +10,7 @@ use Rattle.po_classic_units.specs.Allocator.{AllocatorState, allocator_meaning, 
 
 -- these values, with that of the event in front if it is a Release that replied with a value
 abbrev pub with_release : Event ℕ → List ℕ → List ℕ
-with_release (Ran owner op v (Ok w)) values = v ∷ values
+with_release (Procedure owner op v (Ok w)) values = v ∷ values
 with_release other values = values
 
 -- the values of the Releases that replied with a value, in their order; Release is the only procedure

@@ -9,7 +9,7 @@ use Rattle.po_calls.specs.declared.end.End.TheVariants.{Cancelled as IsCancelled
 use Rattle.po_engine.specs.declared.ended.Ended.{Ended}
 use Rattle.po_engine.specs.WaitingCalls.{has_number, is_due}
 use Rattle.po_history.specs.declared.event.Event.{Event}
-use Rattle.po_history.specs.declared.event.Event.TheVariants.{Cancel, Break, Expire, Final, Issue, Ran, Serve}
+use Rattle.po_history.specs.declared.event.Event.TheVariants.{Cancel, Break, Expire, Finalize, Issue, Procedure, Serve}
 use Rattle.po_engine.specs.ObjectState.{IsAtRest, ObjectState, counts_in, opening_state}
 use Rattle.po_queues.specs.declared.order.Order.TheVariants.{Textual}
 use Rattle.po_engine.specs.Pick.{pick}
@@ -53,10 +53,10 @@ module _ {S : Type 0} (m : Meaning S ℕ) where
   -- the events of one turn; a body belongs to the event that served its call
   abbrev pub events_of : Turn → Action → Phase → ObjectState S ℕ → List (Event ℕ)
   events_of (issues e v deadline) action phase s = Issue s.next 0 e v deadline ∷ []
-  events_of (runs op v) action phase s = Ran 0 op v (m.procedure s.unit op v (counts_in m s)).1 ∷ []
+  events_of (runs op v) action phase s = Procedure 0 op v (m.procedure s.unit op v (counts_in m s)).1 ∷ []
   events_of evaluates action phase s = evaluation action phase s
   events_of (cancels ticket expired what) action phase s = attempt_of what expired ticket.number (find (has_number ticket.number) s.waiting)
-  events_of finalizes action phase s = Final ∷ []
+  events_of finalizes action phase s = Finalize ∷ []
   events_of other action phase s = []
 
   -- the events of all turns

@@ -6,7 +6,7 @@ use Rattle.std.proofs.lemmas.List.Elements.{All-cons, All-tail, All-append, All-
 use Rattle.po_unit.specs.Meaning.{Meaning}
 use Rattle.po_calls.specs.declared.call.Call.{Call}
 use Rattle.po_history.specs.declared.event.Event.{Event}
-use Rattle.po_history.specs.declared.event.Event.TheVariants.{Issue, Ran, Cancel, Tick, Final, Serve, Break, Expire}
+use Rattle.po_history.specs.declared.event.Event.TheVariants.{Issue, Procedure, Cancel, Tick, Finalize, Serve, Break, Expire}
 use Rattle.po_history.specs.Histories.{VolumeView, joined}
 use Rattle.po_engine.specs.Finding.{IsFound}
 use Rattle.po_engine.specs.Step.{step}
@@ -31,10 +31,10 @@ module _ {V : Type 0} (seats : ℕ) where
 
   neither_asked : (event : Event V) → is_neither event ≡ true → BySeat event
   neither_asked (Issue n owner e v d) h = absurd (let r : ⊥ = cc in r)
-  neither_asked (Ran owner op v reply) h = absurd (let r : ⊥ = cc in r)
+  neither_asked (Procedure owner op v reply) h = absurd (let r : ⊥ = cc in r)
   neither_asked (Cancel n) h = tt
   neither_asked (Tick t) h = tt
-  neither_asked Final h = tt
+  neither_asked Finalize h = tt
   neither_asked (Serve e) h = tt
   neither_asked (Break e) h = tt
   neither_asked (Expire n) h = tt

@@ -7,7 +7,7 @@ use Rattle.po_unit.specs.declared.outcome.Outcome.TheVariants.{Complete, Raise, 
 use Rattle.po_calls.specs.declared.call.Call.{Call}
 use Rattle.po_calls.specs.declared.end.End.TheVariants.{Cancelled, ProgramError}
 use Rattle.po_history.specs.declared.event.Event.{Event}
-use Rattle.po_history.specs.declared.event.Event.TheVariants.{Issue, Ran, Cancel, Tick, Final, Serve, Break, Expire}
+use Rattle.po_history.specs.declared.event.Event.TheVariants.{Issue, Procedure, Cancel, Tick, Finalize, Serve, Break, Expire}
 use Rattle.po_engine.specs.WaitingCalls.{is_on, has_number, mark}
 use Rattle.po_engine.specs.ObjectState.{ObjectState, counts_in, barrier_in}
 use Rattle.po_engine.specs.Step.{step, replay, enter, end_call, queue, conclude, run_body, arrive, serve, cancel, attempt_cancel, advance, take_out, is_full}
@@ -50,10 +50,10 @@ module _ {S V : Type 0} (m : Meaning S V) (limit : Option ℕ) where
   -- no event lets the clock fall
   step-clock : (p : ObjectState S V) (e : Event V) → p.clock ≤ (step m limit p e).clock
   step-clock p (Issue n owner e v d) = omega (arith, clock-arrive (record p { next = p.next + 1 }) (record { number = n; owner = owner; entry = e; value = v; without_abort = false; aborted = false; deadline = d }) (barrier_in m p e))
-  step-clock p (Ran owner op v reply) = omega arith
+  step-clock p (Procedure owner op v reply) = omega arith
   step-clock p (Cancel n) = omega (arith, clock-attempt p n (find (has_number n) p.waiting))
   step-clock p (Tick t) = omega arith
-  step-clock p Final = omega arith
+  step-clock p Finalize = omega arith
   step-clock p (Serve e) = omega (arith, clock-serve p e (find (is_on e) p.waiting))
   step-clock p (Break e) = omega arith
   step-clock p (Expire n) = omega (arith, clock-cancel p n (find (has_number n) p.waiting))

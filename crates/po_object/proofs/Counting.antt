@@ -3,7 +3,7 @@ use Rattle.std.proofs.Common.{◌≡◌, ℕ, ◌+◌, ap, sym, arith, subst, re
 use Rattle.po_unit.specs.Meaning.{Meaning}
 use Rattle.po_calls.specs.declared.call.Call.{Call}
 use Rattle.po_calls.specs.declared.call.Deadline.{Deadline}
-use Rattle.po_history.specs.declared.event.Event.TheVariants.{Issue, Ran, Cancel, Tick, Final}
+use Rattle.po_history.specs.declared.event.Event.TheVariants.{Issue, Procedure, Cancel, Tick, Finalize}
 use Rattle.po_engine.specs.Finding.{IsFound}
 use Rattle.po_core.specs.View.{View}
 use Rattle.po_core.specs.ProtectedAction.{IsProtectedAction, IsAttemptOnCall, without_event}
@@ -18,10 +18,10 @@ module _ {S V : Type 0} (m : Meaning S V) where
     ran = omega (arith, action-ran m old new (Issue n owner e v d) a, h.ran);
   }
 
-  pub counted-ran : (old new : View S V) (owner op : ℕ) (v : V) (reply : Result V ℕ) (calls procedures more : ℕ) → IsProtectedAction m old new (Ran owner op v reply) → more ≡ procedures + 1 → IsCounted old calls procedures → IsCounted new calls more
+  pub counted-ran : (old new : View S V) (owner op : ℕ) (v : V) (reply : Result V ℕ) (calls procedures more : ℕ) → IsProtectedAction m old new (Procedure owner op v reply) → more ≡ procedures + 1 → IsCounted old calls procedures → IsCounted new calls more
   counted-ran old new owner op v reply calls procedures more a one h = record {
-    issued = omega (arith, action-next m old new (Ran owner op v reply) a, h.issued, ap (λ made. made.first_number) a.setup);
-    ran = omega (arith, action-ran m old new (Ran owner op v reply) a, h.ran, one);
+    issued = omega (arith, action-next m old new (Procedure owner op v reply) a, h.issued, ap (λ made. made.first_number) a.setup);
+    ran = omega (arith, action-ran m old new (Procedure owner op v reply) a, h.ran, one);
   }
 
   pub counted-tick : (old new : View S V) (t calls procedures : ℕ) → IsProtectedAction m old new (Tick t) → IsCounted old calls procedures → IsCounted new calls procedures
@@ -69,8 +69,8 @@ module _ {S V : Type 0} (m : Meaning S V) where
   attempt-shape old new n (Some x) a = ap (λ made. made.shape) (mark-setup old new n x x.without_abort x.aborted refl refl a)
 
   -- a finalization changes neither count
-  pub counted-final : (old new : View S V) (calls procedures : ℕ) → IsProtectedAction m old new Final → IsCounted old calls procedures → IsCounted new calls procedures
+  pub counted-final : (old new : View S V) (calls procedures : ℕ) → IsProtectedAction m old new Finalize → IsCounted old calls procedures → IsCounted new calls procedures
   counted-final old new calls procedures a h = record {
-    issued = omega (arith, action-next m old new Final a, h.issued, ap (λ made. made.first_number) a.setup);
-    ran = omega (arith, action-ran m old new Final a, h.ran);
+    issued = omega (arith, action-next m old new Finalize a, h.issued, ap (λ made. made.first_number) a.setup);
+    ran = omega (arith, action-ran m old new Finalize a, h.ran);
   }

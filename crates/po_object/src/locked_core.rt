@@ -320,16 +320,16 @@ impl<
     ) -> Result<Result<U::Value, u32>, Refusal>
         requires { pass.old.pending ≡ None }
         ensures after { IfOk result (λ reply. self.new ≡ record self.old {
-          object = after_action U.meaning self.old.object (Event.Ran pass.old.seat op value reply);
+          object = after_action U.meaning self.old.object (Event.Procedure pass.old.seat op value reply);
         }) }
         ensures reply { IfOk result (λ reply. reply ≡ reply_of U.meaning self.old.object op value) }
         ensures volumes { OnOk result (KeepsVolumes U.meaning self.old.object self.new.object) }
         ensures action { IfOk result (λ reply.
-            IsProtectedAction U.meaning self.old.object self.new.object (Event.Ran pass.old.seat op value reply)) }
+            IsProtectedAction U.meaning self.old.object self.new.object (Event.Procedure pass.old.seat op value reply)) }
         ensures filed { IfOk result (λ reply. pass.new ≡ running pass.old op value reply pass.new.seen) }
         // The procedure is in the history of the object, after all that was seen before.
         ensures ran { IfOk result (λ reply. IsFound (λ setup. Stands U.meaning setup
-            (Event.Ran pass.old.seat op value reply) pass.old.seen pass.new.seen) C.setup) }
+            (Event.Procedure pass.old.seat op value reply) pass.old.seen pass.new.seen) C.setup) }
         ensures allowed { OnOk result (procedure_refusal U.meaning self.old.object op ≡ None) }
         ensures refused { IfErr result (λ r. IsOutOfMemory R.is_bounded r ⊎ (procedure_refusal U.meaning self.old.object op ≡ Some r)) }
         // It is refused at a moment of that history.
@@ -389,17 +389,17 @@ impl<
     /// Refused as `Finalized`.
     pub fn finalize(&mut self, front: &mut Front<U::Value, C>) -> Result<(), Refusal>
         ensures after { OnOk result (self.new ≡ record self.old {
-          object = after_action U.meaning self.old.object Event.Final;
+          object = after_action U.meaning self.old.object Event.Finalize;
         }) }
         ensures volumes { OnOk result (KeepsVolumes U.meaning self.old.object self.new.object) }
         ensures action { OnOk result (
-            IsProtectedAction U.meaning self.old.object self.new.object Event.Final) }
-        ensures alone { OnOk result (self.new.object.events ≡ self.old.object.events ++ Event.Final ∷ []) }
+            IsProtectedAction U.meaning self.old.object self.new.object Event.Finalize) }
+        ensures alone { OnOk result (self.new.object.events ≡ self.old.object.events ++ Event.Finalize ∷ []) }
         ensures refused { MatchResult result
             (λ _. finalized_refusal self.old.object ≡ None)
             (λ r. finalized_refusal self.old.object ≡ Some r) }
         // The end is in the history of the object, after all that was seen before.
-        ensures finalized { OnOk result (IsFound (λ setup. Stands U.meaning setup Event.Final front.old front.new) C.setup) }
+        ensures finalized { OnOk result (IsFound (λ setup. Stands U.meaning setup Event.Finalize front.old front.new) C.setup) }
         // It is refused at a moment of that history.
         ensures refused_at { IfErr result (λ r. IsFound (λ setup. HoldsAt U.meaning setup
             (λ view. finalized_refusal view ≡ Some r) front.old front.new) C.setup) }

@@ -239,7 +239,7 @@ impl<
         requires { pass.old.pending ≡ None }
         ensures filed { IfOk result (λ reply. pass.new ≡ running pass.old op value reply pass.new.seen) }
         ensures ran { IfOk result (λ reply. IsFound (λ setup. Stands U.meaning setup
-            (Event.Ran pass.old.seat op value reply) pass.old.seen pass.new.seen) C.setup) }
+            (Event.Procedure pass.old.seat op value reply) pass.old.seen pass.new.seen) C.setup) }
         ensures refused { IfErr result (IsProcedureRefusal R.is_bounded) }
         ensures refused_at { IfErr result (λ r. IsFound (λ setup. HoldsAt U.meaning setup
             (λ view. IsOutOfMemory R.is_bounded r ⊎ (procedure_refusal U.meaning view op ≡ Some r)) pass.old.seen pass.new.seen) C.setup) }
@@ -337,7 +337,7 @@ impl<
     /// Refused as `Core::finalize` is.
     pub fn finalize<W: Wait>(&self, rt: &W) -> Result<(), Refusal>
         ensures finalized { OnOk result ((log : List (Event U.Value))
-            × IsFound (λ setup. Stands U.meaning setup Event.Final [] log) C.setup) }
+            × IsFound (λ setup. Stands U.meaning setup Event.Finalize [] log) C.setup) }
         ensures refused { IfErr result (λ r. r ≡ Refusal.Finalized) }
     {
         let mut front = self.front();
@@ -353,7 +353,7 @@ impl<
         rt: &W,
         front: &mut Front<U::Value, C>,
     ) -> Result<(), Refusal>
-        ensures finalized { OnOk result (IsFound (λ setup. Stands U.meaning setup Event.Final front.old front.new) C.setup) }
+        ensures finalized { OnOk result (IsFound (λ setup. Stands U.meaning setup Event.Finalize front.old front.new) C.setup) }
         ensures refused { IfErr result (λ r. r ≡ Refusal.Finalized) }
         ensures refused_at { IfErr result (λ r. IsFound (λ setup. HoldsAt U.meaning setup
             (λ view. finalized_refusal view ≡ Some r) front.old front.new) C.setup) }

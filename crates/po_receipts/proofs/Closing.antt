@@ -13,7 +13,7 @@ use base.Growing.{prefix_trans}
 use Rattle.po_unit.specs.Meaning.{Meaning}
 use Rattle.po_calls.specs.declared.end.End.{End}
 use Rattle.po_history.specs.declared.event.Event.{Event}
-use Rattle.po_history.specs.declared.event.Event.TheVariants.{Issue, Ran}
+use Rattle.po_history.specs.declared.event.Event.TheVariants.{Issue, Procedure}
 use Rattle.po_engine.specs.declared.ended.Ended.{Ended}
 use Rattle.po_core.specs.Tickets.{CoreView}
 use Rattle.po_core.specs.Headline.{Headline}
@@ -96,7 +96,7 @@ module _ {V : Type 0} (ended : List (Ended V)) (seat : ℕ) (end_of : List (Even
     happens = is.0;
   }
   says (R.Ran op v reply) before here p is = record {
-    event = Ran seat op v reply;
+    event = Procedure seat op v reply;
     asked = eq-eqb seat seat refl;
     due = refl;
     happens = is;
@@ -107,7 +107,7 @@ module _ {V : Type 0} (ended : List (Ended V)) (seat : ℕ) (end_of : List (Even
 
   reaches-one : (receipt : Receipt V) (before here : List (Event V)) → IsAnswerBetween seat end_of receipt before here → IsPrefix here log → IsPrefix before log
   reaches-one (R.Called n e v d answer) before here is p = reaches-by (Issue n seat e v d) before here is.0 p
-  reaches-one (R.Ran op v reply) before here is p = reaches-by (Ran seat op v reply) before here is p
+  reaches-one (R.Ran op v reply) before here is p = reaches-by (Procedure seat op v reply) before here is p
 
   -- if answers end within the log, they begin within it
   reaches : (receipts : List (Receipt V)) (here : List (Event V)) → AreAnswersBetween seat end_of receipts here log → IsPrefix here log

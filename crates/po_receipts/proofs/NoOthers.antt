@@ -11,7 +11,7 @@ use Rattle.std.proofs.lemmas.List.Sums.{sum_by-append, sum_by-cons, length-filte
 use Rattle.std.proofs.lemmas.Option.{slice_get-get_or}
 use Rattle.po_unit.specs.Meaning.{Meaning}
 use Rattle.po_history.specs.declared.event.Event.{Event}
-use Rattle.po_history.specs.declared.event.Event.TheVariants.{Issue, Ran, Cancel, Tick, Final, Serve, Break, Expire}
+use Rattle.po_history.specs.declared.event.Event.TheVariants.{Issue, Procedure, Cancel, Tick, Finalize, Serve, Break, Expire}
 use Rattle.po_history.specs.Histories.{VolumeView, RunOn, joined}
 use Rattle.po_engine.specs.declared.ended.Ended.{Ended}
 use Rattle.po_core.specs.Base.{is_issue, is_ran}
@@ -86,10 +86,10 @@ module _ {V : Type 0} where
 
   asked_is : (seat : ℕ) (event : Event V) → is_asked_by seat event ≡ is_seat seat (asker_of event)
   asked_is seat (Issue n owner e v deadline) = refl
-  asked_is seat (Ran owner op v reply) = refl
+  asked_is seat (Procedure owner op v reply) = refl
   asked_is seat (Cancel n) = refl
   asked_is seat (Tick t) = refl
-  asked_is seat Final = refl
+  asked_is seat Finalize = refl
   asked_is seat (Serve e) = refl
   asked_is seat (Break e) = refl
   asked_is seat (Expire n) = refl
@@ -158,10 +158,10 @@ module _ {V : Type 0} where
   -- an event that was asked for is a call or a procedure
   asked_kinds : (event : Event V) → one_if (is_asked event) ≡ one_if (is_issue event) + one_if (is_ran event)
   asked_kinds (Issue n owner e v deadline) = refl
-  asked_kinds (Ran owner op v reply) = refl
+  asked_kinds (Procedure owner op v reply) = refl
   asked_kinds (Cancel n) = refl
   asked_kinds (Tick t) = refl
-  asked_kinds Final = refl
+  asked_kinds Finalize = refl
   asked_kinds (Serve e) = refl
   asked_kinds (Break e) = refl
   asked_kinds (Expire n) = refl

@@ -7,7 +7,7 @@ use Rattle.std.proofs.lemmas.List.{length-map}
 use Rattle.std.proofs.lemmas.List.Elements.{All-get_or, filter_passes}
 use Rattle.std.proofs.lemmas.Option.{none-some, same_Some, slice_get-map, slice_get_within, get_or_from_slice_get}
 use Rattle.po_history.specs.declared.event.Event.{Event}
-use Rattle.po_history.specs.declared.event.Event.TheVariants.{Issue, Ran, Cancel, Tick, Final, Serve, Break, Expire}
+use Rattle.po_history.specs.declared.event.Event.TheVariants.{Issue, Procedure, Cancel, Tick, Finalize, Serve, Break, Expire}
 use Rattle.po_engine.specs.declared.ended.Ended.{Ended}
 use Rattle.po_receipts.specs.declared.receipt.Receipt.{Receipt}
 use Rattle.po_receipts.specs.declared.receipt.Receipt.TheVariants as R
@@ -43,13 +43,13 @@ module _ {V : Type 0} (ended : List (Ended V)) (history : List (Event V)) where
       let issued : slice_get (asked_by history seat) place ≡ Some (Issue n seat e v deadline) =
       at ∙ ap (λ o. Some (Issue n o e v deadline)) (eqb-true owner seat asked) in
       subst (IsOwnAnswer ended history seat place) answer.gives (issued, answer.is)
-  is_own seat place (Ran owner op v reply) receipt at asked due =
-      let ran : slice_get (asked_by history seat) place ≡ Some (Ran seat op v reply) =
-      at ∙ ap (λ o. Some (Ran o op v reply)) (eqb-true owner seat asked) in
+  is_own seat place (Procedure owner op v reply) receipt at asked due =
+      let ran : slice_get (asked_by history seat) place ≡ Some (Procedure seat op v reply) =
+      at ∙ ap (λ o. Some (Procedure o op v reply)) (eqb-true owner seat asked) in
       subst (IsOwnAnswer ended history seat place) (same_Some (R.Ran op v reply) receipt due) ran
   is_own seat place (Cancel n) receipt at asked due = absurd (false≢true asked)
   is_own seat place (Tick t) receipt at asked due = absurd (false≢true asked)
-  is_own seat place Final receipt at asked due = absurd (false≢true asked)
+  is_own seat place Finalize receipt at asked due = absurd (false≢true asked)
   is_own seat place (Serve e) receipt at asked due = absurd (false≢true asked)
   is_own seat place (Break e) receipt at asked due = absurd (false≢true asked)
   is_own seat place (Expire n) receipt at asked due = absurd (false≢true asked)

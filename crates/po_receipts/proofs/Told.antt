@@ -4,7 +4,7 @@ use mathlib.Core.List.{IsPrefix}
 use base.Growing.{prefix_refl, prefix_trans}
 use Rattle.po_calls.specs.declared.end.End.{End}
 use Rattle.po_history.specs.declared.event.Event.{Event}
-use Rattle.po_history.specs.declared.event.Event.TheVariants.{Issue, Ran}
+use Rattle.po_history.specs.declared.event.Event.TheVariants.{Issue, Procedure}
 use Rattle.po_receipts.specs.declared.asked.Asked.{Asked}
 use Rattle.po_receipts.specs.declared.receipt.Receipt.{Receipt}
 use Rattle.po_receipts.specs.declared.receipt.Receipt.TheVariants as R
@@ -26,7 +26,7 @@ module _ {V : Type 0} (seat : ℕ) (end_of : List (Event V) → ℕ → Option (
 
   earlier-answer : (receipt : Receipt V) (before mid after : List (Event V)) → IsPrefix before mid → IsAnswerBetween seat end_of receipt mid after → IsAnswerBetween seat end_of receipt before after
   earlier-answer (R.Called n e v d answer) before mid after p h = (earlier (Issue n seat e v d) before mid after p h.0, h.1)
-  earlier-answer (R.Ran op v reply) before mid after p h = earlier (Ran seat op v reply) before mid after p h
+  earlier-answer (R.Ran op v reply) before mid after p h = earlier (Procedure seat op v reply) before mid after p h
 
   -- one receipt more
   filed : (receipts : List (Receipt V)) (receipt : Receipt V) (before here mid after : List (Event V)) → AreAnswersBetween seat end_of receipts before here → IsPrefix here mid → IsAnswerBetween seat end_of receipt mid after
@@ -48,7 +48,7 @@ module _ {V : Type 0} (seat : ℕ) (end_of : List (Event V) → ℕ → Option (
   told-first = ([], (prefix_refl [], prefix_refl []))
 
   -- a procedure that ran
-  pub told-ran : (pending : Option (Asked V)) (receipts : List (Receipt V)) (op : ℕ) (value : V) (reply : Result V ℕ) (seen after : List (Event V)) → pending ≡ None → Told pending receipts seen → HappensBetween (Ran seat op value reply) seen after
+  pub told-ran : (pending : Option (Asked V)) (receipts : List (Receipt V)) (op : ℕ) (value : V) (reply : Result V ℕ) (seen after : List (Event V)) → pending ≡ None → Told pending receipts seen → HappensBetween (Procedure seat op value reply) seen after
       → Told pending (receipts ++ R.Ran op value reply ∷ []) after
   told-ran pending receipts op value reply seen after none told h =
       let before : IsPrefix told.0 seen = subst (λ o. IsAskedBetween seat o told.0 seen) none told.1.1 in

@@ -2,7 +2,7 @@
 -- What follows if receipts and history agree: whose answers the callers got (this project's own).
 use Rattle.std.specs.Prelude.{ℕ, ◌≡◌, ◌<◌, ◌+◌, List, All, length, sum_by, slice_get, IfSome, Option, Some, None}
 use Rattle.po_history.specs.declared.event.Event.{Event}
-use Rattle.po_history.specs.declared.event.Event.TheVariants.{Issue, Ran}
+use Rattle.po_history.specs.declared.event.Event.TheVariants.{Issue, Procedure}
 use Rattle.po_engine.specs.declared.ended.Ended.{Ended}
 use Rattle.po_core.specs.Tickets.{CoreView}
 use Rattle.po_core.specs.Cutting.{procedures_run}
@@ -19,7 +19,7 @@ module _ {V : Type 0} where
       (slice_get (asked_by history seat) place ≡ Some (Issue number seat entry value deadline))
       × (answer_of ended number ≡ Some answer)
   IsOwnAnswer ended history seat place (Receipt.Ran op value reply) =
-      slice_get (asked_by history seat) place ≡ Some (Ran seat op value reply)
+      slice_get (asked_by history seat) place ≡ Some (Procedure seat op value reply)
 
   -- Each receipt of a seat has the seat's own answer at its own place, and there are as many receipts as the seat asked for
   -- calls and procedures. So each call and procedure has its receipt once, and the receipts are in the caller's order.
@@ -35,7 +35,7 @@ module _ {V : Type 0} where
   -- who asked for the event, if it is a call or a procedure
   abbrev pub asker_of : Event V → Option ℕ
   asker_of (Issue n owner e v deadline) = Some owner
-  asker_of (Ran owner op v reply) = Some owner
+  asker_of (Procedure owner op v reply) = Some owner
   asker_of other = None
 
   -- Each call and each procedure of the history was asked for by one of the first `seats` seats.

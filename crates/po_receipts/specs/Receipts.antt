@@ -4,7 +4,7 @@
 use Rattle.std.specs.Prelude.{ℕ, ◌==◌, List, filter, map, find, Bool, false, Option, Some, None, option_map}
 use Rattle.po_calls.specs.declared.end.End.{End}
 use Rattle.po_history.specs.declared.event.Event.{Event}
-use Rattle.po_history.specs.declared.event.Event.TheVariants.{Issue, Ran}
+use Rattle.po_history.specs.declared.event.Event.TheVariants.{Issue, Procedure}
 use Rattle.po_engine.specs.declared.ended.Ended.{Ended}
 use Rattle.po_engine.specs.Ending.{has_ended}
 use Rattle.po_receipts.specs.declared.receipt.Receipt.{Receipt}
@@ -13,7 +13,7 @@ module _ {V : Type 0} where
   -- whether the event is a call or a procedure that this seat asked for (9.5.1, 9.5.3)
   abbrev pub is_asked_by : ℕ → Event V → Bool
   is_asked_by seat (Issue n owner e v deadline) = owner == seat
-  is_asked_by seat (Ran owner op v reply) = owner == seat
+  is_asked_by seat (Procedure owner op v reply) = owner == seat
   is_asked_by seat other = false
 
   -- the calls and procedures that a seat asked for, in the order of the history
@@ -28,7 +28,7 @@ module _ {V : Type 0} where
   -- asked and its reply. None is due for a call that hasn't ended, or for any other event.
   abbrev pub receipt_of : List (Ended V) → Event V → Option (Receipt V)
   receipt_of ended (Issue n owner e v deadline) = option_map (λ answer. Receipt.Called n e v deadline answer) (answer_of ended n)
-  receipt_of ended (Ran owner op v reply) = Some (Receipt.Ran op v reply)
+  receipt_of ended (Procedure owner op v reply) = Some (Receipt.Ran op v reply)
   receipt_of ended other = None
 
   -- the receipts that are due to a seat, one for each call and procedure that it asked for

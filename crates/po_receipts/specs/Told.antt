@@ -5,7 +5,7 @@ use Rattle.std.specs.Prelude.{ℕ, ◌≡◌, List, [], ◌∷◌, ◌++◌, Opt
 use mathlib.Core.List.{IsPrefix}
 use Rattle.po_calls.specs.declared.end.End.{End}
 use Rattle.po_history.specs.declared.event.Event.{Event}
-use Rattle.po_history.specs.declared.event.Event.TheVariants.{Issue, Ran}
+use Rattle.po_history.specs.declared.event.Event.TheVariants.{Issue, Procedure}
 use Rattle.po_receipts.specs.declared.asked.Asked.{Asked}
 use Rattle.po_receipts.specs.declared.receipt.Receipt.{Receipt}
 use Rattle.po_receipts.specs.Passes.{PassView, IsTallied}
@@ -29,7 +29,7 @@ module _ {V : Type 0} (seat : ℕ) (end_of : List (Event V) → ℕ → Option (
   abbrev pub IsAnswerBetween : Receipt V → List (Event V) → List (Event V) → Type 0
   IsAnswerBetween (Receipt.Called number entry value deadline answer) before after =
       HappensBetween (Issue number seat entry value deadline) before after × (end_of after number ≡ Some answer)
-  IsAnswerBetween (Receipt.Ran op value reply) before after = HappensBetween (Ran seat op value reply) before after
+  IsAnswerBetween (Receipt.Ran op value reply) before after = HappensBetween (Procedure seat op value reply) before after
 
   -- The receipts say what happened, one after another.
   abbrev pub AreAnswersBetween : List (Receipt V) → List (Event V) → List (Event V) → Type 0

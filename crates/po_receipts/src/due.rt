@@ -16,7 +16,7 @@ pub(crate) fn seat_of<V: Copy>(event: Event<V>) -> Option<u16>
 {
     match event {
         Event::Issue { owner, .. } => Some(owner),
-        Event::Ran { owner, .. } => Some(owner),
+        Event::Procedure { owner, .. } => Some(owner),
         _ => None,
     }
 }
@@ -45,7 +45,7 @@ pub(crate) fn receipt_of<U: Unit>(
                 answer,
             })
         }
-        Event::Ran { op, v, reply, .. } => Some(Receipt::Ran {
+        Event::Procedure { op, v, reply, .. } => Some(Receipt::Ran {
             op,
             value: v,
             reply,

@@ -7,7 +7,7 @@ use Rattle.po_unit.specs.declared.outcome.Outcome.TheVariants.{Complete, Raise, 
 use Rattle.po_calls.specs.declared.call.Call.{Call}
 use Rattle.po_calls.specs.declared.end.End.TheVariants.{Cancelled, ProgramError}
 use Rattle.po_history.specs.declared.event.Event.{Event}
-use Rattle.po_history.specs.declared.event.Event.TheVariants.{Issue, Ran, Cancel, Tick, Final, Serve, Break, Expire}
+use Rattle.po_history.specs.declared.event.Event.TheVariants.{Issue, Procedure as ProcedureEvent, Cancel, Tick, Finalize as FinalizeEvent, Serve, Break, Expire}
 use Rattle.po_engine.specs.WaitingCalls.{is_on, has_number, mark}
 use Rattle.std.specs.Prelude.{map, not, count_by}
 use Rattle.po_core.specs.declared.refusal.Refusal.{Refusal}
@@ -69,10 +69,10 @@ module _ {S : Type 0} (m : Meaning S ℕ) (law : IsLawful m) where
     step_same : (s : ObjectState S ℕ) (event : Event ℕ) → Same s (step m limit s event)
     step_same s (Issue n owner e v deadline) =
         arrive_same (record s { next = s.next + 1 }) (record { number = n; owner = owner; entry = e; value = v; without_abort = false; aborted = false; deadline = deadline }) (barrier_in m s e)
-    step_same s (Ran owner op v reply) = law.procedure_numbers s.unit op v (counts_in m s)
+    step_same s (ProcedureEvent owner op v reply) = law.procedure_numbers s.unit op v (counts_in m s)
     step_same s (Cancel n) = same s (step m limit s (Cancel n)) (attempt_unit s n (find (has_number n) s.waiting))
     step_same s (Tick t) = same s s refl
-    step_same s Final = same s s refl
+    step_same s FinalizeEvent = same s s refl
     step_same s (Serve e) = serve_same s e (find (is_on e) s.waiting)
     step_same s (Break e) = same s s refl
     step_same s (Expire n) = same s (step m limit s (Expire n)) (cancel_unit s n (find (has_number n) s.waiting))

@@ -4,7 +4,7 @@ use Rattle.std.specs.Prelude.{ℕ, ◌≡◌, ◌⊎◌, List, [], ◌++◌, Boo
 use Rattle.po_unit.specs.declared.decl.EntryRef.{EntryRef}
 use Rattle.po_unit.specs.Numbering.{entry_references}
 use Rattle.po_unit.specs.Meaning.{Meaning}
-use Rattle.po_history.specs.declared.event.Event.TheVariants.{Ran, Tick as TickEvent, Final}
+use Rattle.po_history.specs.declared.event.Event.TheVariants.{Procedure as ProcedureEvent, Tick as TickEvent, Finalize as FinalizeEvent}
 use Rattle.po_core.specs.declared.refusal.Refusal.{Refusal}
 use Rattle.po_core.specs.declared.refusal.Refusal.TheVariants.{OutOfMemory}
 use Rattle.po_engine.specs.ObjectState.{counts_in}
@@ -49,11 +49,11 @@ module _ {S : Type 0} where
   -- the object after an operation that isn't refused; the owner of each call and procedure is 0
   abbrev pub done : Meaning S ℕ → View S ℕ → Operation → View S ℕ
   done m view (Call entry value deadline) = after_action m view (issue_of view 0 entry value deadline)
-  done m view (Procedure op value) = after_action m view (Ran 0 op value (reply_of m view op value))
+  done m view (Procedure op value) = after_action m view (ProcedureEvent 0 op value (reply_of m view op value))
   done m view (Function op value) = view
   done m view (Cancel n) = after_attempt m view n
   done m view (Tick time) = after_action m view (TickEvent time)
-  done m view Finalize = after_action m view Final
+  done m view Finalize = after_action m view FinalizeEvent
   done m view Show = view
 
   -- the line of the entry that a reference names, with the number of calls queued on it (9.9)

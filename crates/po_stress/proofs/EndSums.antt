@@ -11,7 +11,7 @@ use Rattle.std.proofs.lemmas.Option.{slice_get-get_or}
 use Rattle.po_calls.specs.declared.end.End.{End}
 use Rattle.po_calls.specs.declared.end.End.TheVariants.{Completed, Raised, Cancelled, ProgramError}
 use Rattle.po_history.specs.declared.event.Event.{Event}
-use Rattle.po_history.specs.declared.event.Event.TheVariants.{Issue, Ran, Cancel, Tick, Final, Serve, Break, Expire}
+use Rattle.po_history.specs.declared.event.Event.TheVariants.{Issue, Procedure, Cancel, Tick, Finalize, Serve, Break, Expire}
 use Rattle.po_engine.specs.declared.ended.Ended.{Ended}
 use Rattle.po_core.specs.Base.{is_issue}
 use Rattle.po_receipts.specs.declared.receipt.Receipt.TheVariants as R
@@ -75,10 +75,10 @@ module _ {V : Type 0} (ended : List (Ended V)) where
   event_ended : (limit : ℕ) (event : Event V) → ((seat : ℕ) → seat < limit → IsDueTo seat event) → IsAskedBelow limit event → HasEnded event
   event_ended limit (Issue n owner e v deadline) due below =
       due_answer (λ answer. R.Called n e v deadline answer) (answer_of ended n) (due owner below (eq-eqb owner owner refl))
-  event_ended limit (Ran owner op v reply) due below = tt
+  event_ended limit (Procedure owner op v reply) due below = tt
   event_ended limit (Cancel n) due below = tt
   event_ended limit (Tick t) due below = tt
-  event_ended limit Final due below = tt
+  event_ended limit Finalize due below = tt
   event_ended limit (Serve e) due below = tt
   event_ended limit (Break e) due below = tt
   event_ended limit (Expire n) due below = tt
@@ -95,10 +95,10 @@ module _ {V : Type 0} (ended : List (Ended V)) where
   event_counted : (event : Event V) → HasEnded event
       → one_if (issues_ended Done ended event) + one_if (issues_ended GivenUp ended event) + one_if (issues_ended Failed ended event) ≡ one_if (is_issue event)
   event_counted (Issue n owner e v deadline) is = one_ending (answer_of ended n) is
-  event_counted (Ran owner op v reply) is = refl
+  event_counted (Procedure owner op v reply) is = refl
   event_counted (Cancel n) is = refl
   event_counted (Tick t) is = refl
-  event_counted Final is = refl
+  event_counted Finalize is = refl
   event_counted (Serve e) is = refl
   event_counted (Break e) is = refl
   event_counted (Expire n) is = refl

@@ -68,7 +68,7 @@ fn a_base_keeps_where_calls_arrived(rt: HostRuntime) -> Result<(), Fail> {
         order: Order::Rotating,
         start: from(1, 10),
         steps: &steps,
-        text: "#1; clock 3; #2; base 10: ended 0 next 1 clock 0 ran 0 last None finalized false; volume 10: Issue Tick(3) Issue ; base 13: 1 at 10 2 at 12 ended 0 next 3 clock 3 ran 0 last None finalized false; done 1; volume 13: Ran Serve(1) Serve(1) ; base 16: 1 at 14 2 at 15 ended 0 next 3 clock 3 ran 1 last Some(1) finalized false; place 16; ",
+        text: "#1; clock 3; #2; base 10: ended 0 next 1 clock 0 ran 0 last None finalized false; volume 10: Issue Tick(3) Issue ; base 13: 1 at 10 2 at 12 ended 0 next 3 clock 3 ran 0 last None finalized false; done 1; volume 13: Procedure Serve(1) Serve(1) ; base 16: 1 at 14 2 at 15 ended 0 next 3 clock 3 ran 1 last Some(1) finalized false; place 16; ",
         events: "",
     };
     run_on(&rt, Relay::new(), run)
@@ -86,7 +86,7 @@ fn a_cut_shows_what_the_last_command_ended(rt: HostRuntime) -> Result<(), Fail> 
     on_buffer(
         &rt,
         &steps,
-        "#1; final, 1 program_error; volume 0: Issue Final ; base 2: ended 1, 1 program_error next 2 clock 0 ran 0 last None finalized true; ended, 1 program_error; ",
+        "#1; final, 1 program_error; volume 0: Issue Finalize ; base 2: ended 1, 1 program_error next 2 clock 0 ran 0 last None finalized true; ended, 1 program_error; ",
         "",
     )
 }
@@ -108,7 +108,7 @@ fn places_are_spent_at_their_end(rt: HostRuntime) -> Result<(), Fail> {
         start: from(1, 18446744073709551614),
         steps: &steps,
         text: "done 0; refused 8; refused 8; clock 1; #1, 1 done 5; final; place 18446744073709551618; ",
-        events: "Ran Tick(1) Issue Final ",
+        events: "Procedure Tick(1) Issue Finalize ",
     };
     run_on(&rt, Signal::new(), run)
 }

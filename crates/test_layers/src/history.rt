@@ -36,7 +36,7 @@ fn runs_on_after_cuts(rt: HostRuntime) -> Result<(), Fail> {
         ([issue(10), Event::Serve(2)].as_slice(), 100, 102, 1)
     );
     let (volume, empty) = (history.cut()?, history.cut()?);
-    history.push_owed(Event::Final);
+    history.push_owed(Event::Finalize);
     assert_eq!(rt;
         (
             volume.first_place(),
@@ -58,7 +58,7 @@ fn runs_on_after_cuts(rt: HostRuntime) -> Result<(), Fail> {
             history.place(),
             history.owed()
         ),
-        ([Event::Final].as_slice(), 102, 103, 0)
+        ([Event::Finalize].as_slice(), 102, 103, 0)
     );
     let outcomes = [
         before,

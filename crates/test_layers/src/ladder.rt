@@ -171,7 +171,7 @@ fn a_requeue_without_abort_keeps_the_mark(rt: HostRuntime) -> Result<(), Fail> {
         Order::Textual,
         &steps,
         "#1; kept; done 1; kept; done 2, 1 cancelled; ",
-        "Issue Cancel(1) Ran Serve(1) Ran Serve(2) ",
+        "Issue Cancel(1) Procedure Serve(1) Procedure Serve(2) ",
         [1, 2, 2, 0],
     )
 }
@@ -195,7 +195,7 @@ fn the_oldest_is_who_arrived_first(rt: HostRuntime) -> Result<(), Fail> {
         Order::Oldest,
         &steps,
         "#1; #2; done 1; done 3, 2 done 6, 1 done 5; ",
-        "Issue Issue Ran Serve(1) Ran Serve(3) Serve(2) Serve(3) ",
+        "Issue Issue Procedure Serve(1) Procedure Serve(3) Serve(2) Serve(3) ",
         [1, 3, 3, 6],
     )
 }

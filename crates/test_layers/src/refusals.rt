@@ -122,7 +122,7 @@ fn refusals_come_by_rising_number(rt: HostRuntime) -> Result<(), Fail> {
         "refused 1; refused 2; refused 3; refused 8; refused 4; refused 8; refused 8; refused 5; refused 5; \
          value 1; refused 1; refused 3; count 0; \
          final; refused 1; refused 2; refused 3; refused 7; refused 4; refused 7; refused 8; ",
-        "Final ",
+        "Finalize ",
     )
 }
 
@@ -165,7 +165,7 @@ fn refusals_leave_what_was_ended(rt: HostRuntime) -> Result<(), Fail> {
          refused 4; now, 2 done 1 of 0; refused 5; now, 2 done 1 of 0; refused 6; now, 2 done 1 of 0; \
          refused 8; now, 2 done 1 of 0; refused 8; now, 2 done 1 of 0; \
          final, 3 program_error; refused 7; now, 3 program_error of 0; ",
-        "Issue Serve(2) Issue Issue Ran Serve(2) Final ",
+        "Issue Serve(2) Issue Issue Procedure Serve(2) Finalize ",
     )
 }
 

@@ -70,7 +70,7 @@ fn a_late_cancellation_is_an_event(rt: HostRuntime) -> Result<(), Fail> {
         start: from(1, 0),
         steps: &steps,
         text: "#1; done 1, 1 cancelled; #2, 2 cancelled; done 2; ",
-        events: "Issue Ran Serve(1) Expire(1) Issue Serve(1) Expire(2) Ran ",
+        events: "Issue Procedure Serve(1) Expire(1) Issue Serve(1) Expire(2) Procedure ",
     };
     run_on(&rt, Relay::new(), run)
 }
@@ -100,7 +100,7 @@ fn ends_at_a_queue_are_no_events(rt: HostRuntime) -> Result<(), Fail> {
         },
         steps: &steps,
         text: "#1; #2, 2 program_error; kept; done 1, 1 cancelled; #3; #4, 4 program_error; done 0; #5; kept; done 1, 5 cancelled; done 2, 3 done 7; ",
-        events: "Issue Issue Cancel(1) Ran Serve(1) Issue Serve(1) Issue Serve(1) Ran Issue Cancel(5) Ran Serve(1) Ran Serve(2) ",
+        events: "Issue Issue Cancel(1) Procedure Serve(1) Issue Serve(1) Issue Serve(1) Procedure Issue Cancel(5) Procedure Serve(1) Procedure Serve(2) ",
     };
     run_on(&rt, Relay::new(), run)
 }
@@ -147,7 +147,7 @@ fn an_end_is_its_owners(rt: HostRuntime) -> Result<(), Fail> {
         start: from(1, 0),
         steps: &steps,
         text: "#1; #2, 2 raised 9, 1 done 10; now, 2 raised 9 of 5, 1 done 10 of 3; done 0; #3; #4; clock 5, 3 cancelled; now, 3 cancelled of 7; clock 5; cancelled, 4 cancelled; now, 4 cancelled of 8; #5; #6; done 13, 5 program_error, 6 program_error; now, 5 program_error of 1, 6 program_error of 2; ",
-        events: "Issue Issue Serve(0) Ran Issue Issue Tick(5) Expire(3) Tick(4) Cancel(4) Issue Issue Ran Break(1) ",
+        events: "Issue Issue Serve(0) Procedure Issue Issue Tick(5) Expire(3) Tick(4) Cancel(4) Issue Issue Procedure Break(1) ",
     };
     run_on(&rt, Trap::new(), run)
 }

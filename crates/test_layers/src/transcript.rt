@@ -88,10 +88,10 @@ fn end(text: &mut String, number: u64, end: End<u64>) -> Result<(), Fail> {
 fn event(text: &mut String, event: &Event<u64>) -> Result<(), Fail> {
     match event {
         Event::Issue { .. } => write!(text, "Issue ")?,
-        Event::Ran { .. } => write!(text, "Ran ")?,
+        Event::Procedure { .. } => write!(text, "Procedure ")?,
         Event::Cancel(n) => write!(text, "Cancel({n}) ")?,
         Event::Tick(t) => write!(text, "Tick({t}) ")?,
-        Event::Final => write!(text, "Final ")?,
+        Event::Finalize => write!(text, "Finalize ")?,
         Event::Serve(e) => write!(text, "Serve({e}) ")?,
         Event::Break(e) => write!(text, "Break({e}) ")?,
         Event::Expire(n) => write!(text, "Expire({n}) ")?,

@@ -26,7 +26,7 @@ fn answer_to_call(core: &Core<Station>, number: u64) -> Answer {
 fn answer_to(core: &Core<Station>, event: Event<u64>, seat: u16) -> Option<Answer> {
     match event {
         Event::Issue { n, owner, .. } if owner == seat => Some(answer_to_call(core, n)),
-        Event::Ran { owner, reply, .. } if owner == seat => Some(Answer::Replied(reply)),
+        Event::Procedure { owner, reply, .. } if owner == seat => Some(Answer::Replied(reply)),
         _ => None,
     }
 }

@@ -247,10 +247,9 @@ impl<V: Copy> Calls<V> {
         let end = self.table.collect(ticket)?;
         let len = self.table.len();
         self.most = room_left(
-            self.is_fixed,
             self.most,
             len,
-            ticket.key,
+            self.table.capacity(),
             self.queues.reserved(),
         );
         Some(end)

@@ -5,7 +5,6 @@ ghost use Rattle.std.specs.Prelude.{◌≡◌, ◌↔◌, ◌<◌, ◌≤◌, []
 ghost use Rattle.po_engine.specs.WaitingCalls.{is_on, is_of, is_due};
 ghost use Rattle.po_engine.specs.ObjectState.{counts_in};
 ghost use Rattle.po_engine.specs.Pick.{event_of, next_turn, pick, owed};
-ghost use Rattle.po_engine.specs.Driving.{in_service};
 ghost use Rattle.po_engine.specs.Tickets.{status_among, waiting_among, is_live, uncollected};
 ghost use Rattle.po_calls.specs.declared.call.Call.{Call};
 

@@ -1,13 +1,13 @@
 // SPDX-License-Identifier: MIT
 //! What each event does to the state of an object.
 
-ghost use Rattle.std.specs.Prelude.{◌≡◌, ◌<◌, ◌≤◌, ◌+◌, ◌∷◌, ◌++◌, [], ℕ, true, false, All, length, drop, Option, None, Some, OnSome, IfNone, IsSome, find, option_map};
+ghost use Rattle.std.specs.Prelude.{◌≡◌, ◌<◌, ◌≤◌, ◌+◌, ◌∷◌, ◌++◌, [], ℕ, true, false, not, count_by, All, length, drop, Option, None, Some, OnSome, IfNone, IsSome, find, option_map};
 ghost use Rattle.std.specs.List.{slice_get};
 ghost use Rattle.po_engine.specs.WaitingCalls.{is_on, has_number, is_due};
 ghost use Rattle.po_engine.specs.ObjectState.{counts_in};
 ghost use Rattle.po_engine.specs.Pick.{owed, Fits};
-ghost use Rattle.po_engine.specs.Step.{enter, cancel, attempt_cancel, advance, finalize, run_procedure, end_call, end_all, queue, conclude, run_body, take_out, step};
-ghost use Rattle.po_engine.specs.Driving.{admitted, in_service, counted, new_call, take_oldest};
+ghost use Rattle.po_engine.specs.Step.{enter, cancel, attempt_cancel, advance, finalize, run_procedure, end_call, end_all, queue, conclude, run_body, take_out, step, is_full, is_queued_again};
+ghost use Rattle.po_engine.specs.Driving.{counted, new_call, take_oldest};
 ghost use Rattle.po_engine.specs.Arrival.{AreAt, Increases, noted, call_of};
 ghost use Rattle.po_engine.specs.Tickets.{number_at, SetsTicket, status_among, end_at, is_live, uncollected};
 ghost use Rattle.po_engine.specs.Calls.{places_without};
@@ -61,8 +61,9 @@ impl<U: Unit> State<U> {
         self.calls.queue(call, place);
     }
 
-    /// Puts the call in service at the end of the queues, or ends it if the queue of its entry is full.
-    fn enter(&mut self, queueing: Queueing, call: Call<U::Value>)
+    /// Puts the call in service at the end of its entry's queue, or ends it if that queue is full. Returns whether it is queued.
+    #[inline(always)]
+    pub fn enter(&mut self, queueing: Queueing, call: Call<U::Value>) -> bool
         requires serving { self.old.serving ≡ Some call }
         requires entry { call.entry < U.meaning.entries self.old.state.unit }
         requires later { All (λ k. k < queueing.place) self.old.places }
@@ -71,20 +72,28 @@ impl<U: Unit> State<U> {
           places = self.new.places;
           serving = None;
         } }
+        ensures queued { result ≡ not (is_full queueing.max_length (count_by (is_on call.entry) self.old.state.waiting)) }
         ensures places { (f : ℕ → ℕ) → f call.number ≡ queueing.place
             → AreAt f self.old.state.waiting self.old.places → AreAt f self.new.state.waiting self.new.places }
         ensures within { All (λ k. k ≤ queueing.place) self.new.places }
         ensures rises { Increases self.old.places → Increases self.new.places }
     {
-        if queueing.max_length == Some(self.calls.count(call.entry)) {
+        if queueing.is_full(self.calls.count(call.entry)) {
             self.end_call(call, End::ProgramError);
-        } else {
-            self.queue(call, queueing.place);
+            return false;
         }
+        self.queue(call, queueing.place);
+        true
     }
 
     /// Concludes the call in service, whose body has ended: it completes, raises, is requeued or is cancelled (9.5.2, 9.5.4).
-    pub fn conclude(&mut self, queueing: Queueing, call: Call<U::Value>, outcome: Outcome<U::Value>)
+    /// Returns whether it is queued again.
+    pub fn conclude(
+        &mut self,
+        queueing: Queueing,
+        call: Call<U::Value>,
+        outcome: Outcome<U::Value>,
+    ) -> bool
         requires serving { self.old.serving ≡ Some call }
         requires entry { NamesEntry (U.meaning.entries self.old.state.unit) outcome }
         requires later { All (λ k. k < queueing.place) self.old.places }
@@ -93,6 +102,7 @@ impl<U: Unit> State<U> {
           places = self.new.places;
           serving = None;
         } }
+        ensures queued { result ≡ is_queued_again queueing.max_length self.old.state call outcome }
         ensures places { (f : ℕ → ℕ) → f call.number ≡ queueing.place
             → AreAt f self.old.state.waiting self.old.places → AreAt f self.new.state.waiting self.new.places }
         ensures within { All (λ k. k ≤ queueing.place) self.new.places }
@@ -110,10 +120,11 @@ impl<U: Unit> State<U> {
                     self.end_call(call, End::Cancelled);
                 } else {
                     let moved = self.calls.requeue(call, target, value, !with_abort);
-                    self.enter(queueing, moved);
+                    return self.enter(queueing, moved);
                 }
             }
         }
+        false
     }
 
     /// Takes the first call on the entry into service.
@@ -297,46 +308,35 @@ impl<U: Unit> State<U> {
         let ticket = self.calls.add(call);
         match barrier {
             Ok(true) => self.run_body(queueing, call),
-            Ok(false) => self.enter(queueing, call),
+            Ok(false) => {
+                self.enter(queueing, call);
+            }
             Err(_) => self.end_call(call, End::ProgramError),
         }
         ticket
     }
 
-    /// Issues a call whose body the client runs. The client says by `served` whether the barrier is open: then the call is in
-    /// service, otherwise it is queued or ended. `queueing` applies if it is queued.
-    pub fn admit(
-        &mut self,
-        queueing: Queueing,
-        arriving: Arriving<U::Value>,
-        served: bool,
-    ) -> Ticket
+    /// Gives a new call its number and takes it into service. The client runs its body, or queues it with `enter`.
+    #[inline(always)]
+    pub fn take_in(&mut self, arriving: Arriving<U::Value>) -> (Call<U::Value>, Ticket)
         requires serving { self.old.serving ≡ None }
         requires room { uncollected self.old.tickets < self.old.most }
         requires begun { self.old.before ≡ length self.old.state.ended }
-        requires entry { arriving.entry < U.meaning.entries self.old.state.unit }
         requires number { self.old.state.next < u64.MAX }
-        requires later { All (λ k. k < queueing.place) self.old.places }
+        ensures call { result.0 ≡ new_call self.old.state.next arriving }
         ensures state { self.new ≡ record self.old {
-          state = admitted queueing.max_length (counted self.old.state) (new_call self.old.state.next arriving) served;
-          serving = in_service (new_call self.old.state.next arriving) served;
-          places = self.new.places;
+          state = counted self.old.state;
+          serving = Some result.0;
           tickets = self.new.tickets;
-          keys = self.old.keys ++ result.key ∷ [];
+          keys = self.old.keys ++ result.1.key ∷ [];
         } }
-        ensures within { All (λ k. k ≤ queueing.place) self.new.places }
-        ensures rises { Increases self.old.places → Increases self.new.places }
-        ensures number { result.number ≡ self.old.state.next }
-        ensures key { number_at self.old.tickets result.key ≡ None }
-        ensures ticket { SetsTicket self.old.tickets self.new.tickets result.key (Some result.number) }
+        ensures number { result.1.number ≡ self.old.state.next }
+        ensures key { number_at self.old.tickets result.1.key ≡ None }
+        ensures ticket { SetsTicket self.old.tickets self.new.tickets result.1.key (Some result.1.number) }
     {
         self.calls.recall_invariant();
         let call = numbered(self.calls.next_number(), arriving);
-        let ticket = self.calls.add(call);
-        if !served {
-            self.enter(queueing, call);
-        }
-        ticket
+        (call, self.calls.add(call))
     }
 
     /// Gives a call that the client has served or turned away its number, and ends it, in a command of its own. It takes no room

@@ -1,5 +1,5 @@
 use Rattle.std.proofs.Common.{ℕ, cond, ◌≡◌, ◌+◌, ◌-◌, None, [], arith, sym, ap, subst, refl}
-use Rattle.po_history.specs.declared.event.Event.TheVariants.{Final}
+use Rattle.po_history.specs.declared.event.Event.TheVariants.{Finalize}
 use Rattle.po_engine.specs.Step.{MayBegin}
 use Rattle.po_engine.specs.Arrival.{AreAt, noted}
 use Rattle.po_engine.specs.Pick.{owed}
@@ -28,7 +28,7 @@ note-requires g c =
       from = a.state;
       room = owed m a.state.state - 1;
       has = room_as (g.R.Record.IsOf a.setup a.kept (known_of a.state)) (owed m a.state.state) (owed m a.state.state - 1 + 1) 0 (omega (arith, one)) c.self.invariant.has;
-      follows = own_follows m a.setup b a.state r es a.place a.last Final c.self.invariant.tracked begin tt [] is refl (λ ran. absurd (cc));
+      follows = own_follows m a.setup b a.state r es a.place a.last Finalize c.self.invariant.tracked begin tt [] is refl (λ ran. absurd (cc));
       fits = omega (arith, none);
     }
 
@@ -45,6 +45,6 @@ invariant_of-self g c =
     let none : owed m r.state ≡ 0 = ap (λ s. owed m s.state) is in
     let at = subst (λ s. AreAt (noted (arrived_by m a.setup b a.state.state es) 0 None) s.state.waiting s.places) (sym is) tt in
     record {
-      tracked = rw (c.note.ensures.base, c.note.ensures.events) (tracked_own m a.setup b a.state r es a.place a.last Final c.self.invariant.tracked (own_follows m a.setup b a.state r es a.place a.last Final c.self.invariant.tracked begin tt [] is refl (λ ran. absurd (cc))) at (omega (arith, one, none, c.self.invariant.tracked.fits)));
+      tracked = rw (c.note.ensures.base, c.note.ensures.events) (tracked_own m a.setup b a.state r es a.place a.last Finalize c.self.invariant.tracked (own_follows m a.setup b a.state r es a.place a.last Finalize c.self.invariant.tracked begin tt [] is refl (λ ran. absurd (cc))) at (omega (arith, one, none, c.self.invariant.tracked.fits)));
       has = c.note.ensures.has;
     }

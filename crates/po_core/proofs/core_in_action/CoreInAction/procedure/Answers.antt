@@ -1,5 +1,5 @@
 use Rattle.std.proofs.Common.{◌≡◌, ◌<◌, ◌+◌, arith, sym, ap, subst, refl, length}
-use Rattle.po_history.specs.declared.event.Event.TheVariants.{Ran}
+use Rattle.po_history.specs.declared.event.Event.TheVariants.{Procedure}
 use Rattle.po_engine.specs.Step.{MayBegin}
 use Rattle.po_engine.specs.Arrival.{AreAt}
 use Rattle.po_engine.specs.Pick.{owed}
@@ -31,7 +31,7 @@ note-requires g c =
       from = a.state;
       room = owed m a.state.state;
       has = c.in_ok-reserve_event.ensures.ok;
-      follows = own_follows m a.setup b a.state r es a.place a.last (Ran c.args.owner c.args.op c.args.v c.procedure-reply.result) c.self.invariant.tracked (begin, op, reply) tt a.state.places is refl (λ ran. omega (arith, c.self.invariant.tracked.place, place));
+      follows = own_follows m a.setup b a.state r es a.place a.last (Procedure c.args.owner c.args.op c.args.v c.procedure-reply.result) c.self.invariant.tracked (begin, op, reply) tt a.state.places is refl (λ ran. omega (arith, c.self.invariant.tracked.place, place));
       fits = omega (arith, same);
     })
 
@@ -51,6 +51,6 @@ invariant_of-self-2 g c =
     let same : owed m r.state ≡ owed m a.state.state = ap (λ s. owed m s.state) is in
     let at = subst (λ s. AreAt (arrived_by m a.setup b a.state.state es) s.state.waiting s.places) (sym is) c.self.invariant.tracked.placed in
     record {
-      tracked = rw (c.note.ensures.base, c.note.ensures.events, c.reserve_event.ensures.base, c.reserve_event.ensures.events) (tracked_own m a.setup b a.state r es a.place a.last (Ran c.args.owner c.args.op c.args.v c.procedure-reply.result) c.self.invariant.tracked (own_follows m a.setup b a.state r es a.place a.last (Ran c.args.owner c.args.op c.args.v c.procedure-reply.result) c.self.invariant.tracked (begin, op, reply) tt a.state.places is refl (λ ran. omega (arith, c.self.invariant.tracked.place, place))) at (omega (arith, same, c.recall_invariant.ensures.few, c.in_ok-reserve_event.ensures.low)));
+      tracked = rw (c.note.ensures.base, c.note.ensures.events, c.reserve_event.ensures.base, c.reserve_event.ensures.events) (tracked_own m a.setup b a.state r es a.place a.last (Procedure c.args.owner c.args.op c.args.v c.procedure-reply.result) c.self.invariant.tracked (own_follows m a.setup b a.state r es a.place a.last (Procedure c.args.owner c.args.op c.args.v c.procedure-reply.result) c.self.invariant.tracked (begin, op, reply) tt a.state.places is refl (λ ran. omega (arith, c.self.invariant.tracked.place, place))) at (omega (arith, same, c.recall_invariant.ensures.few, c.in_ok-reserve_event.ensures.low)));
       has = c.note.ensures.has;
     }

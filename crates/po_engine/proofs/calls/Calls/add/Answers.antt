@@ -5,7 +5,7 @@ use Rattle.po_engine.specs.declared.ended.Ended.{Ended}
 use Rattle.slab.specs.Slab.{slab_len}
 use Rattle.po_calls.specs.declared.ticket.Ticket.{Ticket}
 use Rattle.po_engine.specs.Calls.{IsQueued, IsKeptWell, call_at, key_of, calls_in_service}
-use Rattle.po_engine.proofs.CallSteps.{key_reserved, reserved_taken}
+use Rattle.po_engine.proofs.CallSteps.{key_reserved, reserved_kept}
 use Rattle.po_engine.proofs.ServiceSteps.{added, none_serving}
 use Rattle.po_engine.proofs.CallReads.{length_same}
 use Rattle.po_engine.proofs.Uncollected.{uncollected_kept, ended_length}
@@ -25,7 +25,7 @@ invariant_of-self g c =
     let later = key_of s.first (s.keys.items ++ k ∷ []) in
     let led : later call.number ≡ Some k = key_last s.first k s.keys.items call.number (omega (arith, r.number, i.numbers)) in
     let few : slab_len s.table.calls < s.most = omega (arith, uncollected_kept s.table.calls.slots, r.room) in
-    let low = key_reserved s.is_fixed s.table.calls s.queues.reserved s.most k (ap (λ (t : Ticket). t.key) c.put-ticket.ensures.ticket) (omega (arith, c.put-ticket.ensures.key_in_range, c.put-ticket.ensures.capacity)) few i.reserved in
+    let low = key_reserved s.is_fixed s.table.calls s.queues.reserved s.most k (omega (arith, c.put-ticket.ensures.key_in_range, c.put-ticket.ensures.capacity)) few i.reserved in
     let queued = added f ix now later s.queues k call (ap waiting_call c.put-ticket.ensures.was_vacant) (ap waiting_call u.changed) (λ j ne. ap waiting_call (u.others j ne)) (key_more s.first k s.keys.items) led low (subst (IsQueued f ix s.queues) none i.queued) in
     let before = All-weaker (λ (x : Ended g.row.V.Denot). x.number < s.next) (λ (x : Ended g.row.V.Denot). x.number < call.number) (λ x lt. omega (arith, r.number, lt)) s.ended.items i.ended_before in
     let keys = sym c.then-self-inside.ensures in
@@ -39,7 +39,7 @@ invariant_of-self g c =
       shown = i.shown;
       few = omega (arith, c.put-ticket.ensures.len, few);
       room = omega (arith, i.room, c.put-ticket.ensures.capacity);
-      reserved = reserved_taken s.is_fixed s.table.calls c.put-ticket.new.self.calls s.queues.reserved s.most c.put-ticket.ensures.len c.put-ticket.ensures.capacity few i.reserved;
+      reserved = reserved_kept s.is_fixed s.table.calls c.put-ticket.new.self.calls s.queues.reserved s.most (omega (arith, c.put-ticket.ensures.len)) c.put-ticket.ensures.capacity i.reserved;
       for_ended = omega (arith, r.memory, i.for_all, ended_length s.ended.items s.before.items s.ended_now.items i.shown, s.ended_now.ok.0, length_same f ix s.queues.items i.queued.queued);
       for_all = i.for_all;
     }
@@ -57,7 +57,7 @@ returns-clause-after g c =
     let later = key_of s.first (s.keys.items ++ k ∷ []) in
     let led : later call.number ≡ Some k = key_last s.first k s.keys.items call.number (omega (arith, r.number, i.numbers)) in
     let few : slab_len s.table.calls < s.most = omega (arith, uncollected_kept s.table.calls.slots, r.room) in
-    let low = key_reserved s.is_fixed s.table.calls s.queues.reserved s.most k (ap (λ (t : Ticket). t.key) c.put-ticket.ensures.ticket) (omega (arith, c.put-ticket.ensures.key_in_range, c.put-ticket.ensures.capacity)) few i.reserved in
+    let low = key_reserved s.is_fixed s.table.calls s.queues.reserved s.most k (omega (arith, c.put-ticket.ensures.key_in_range, c.put-ticket.ensures.capacity)) few i.reserved in
     let in_service : now k ≡ Some call = ap waiting_call u.changed in
     let queued = added f ix now later s.queues k call (ap waiting_call c.put-ticket.ensures.was_vacant) in_service (λ j ne. ap waiting_call (u.others j ne)) (key_more s.first k s.keys.items) led low (subst (IsQueued f ix s.queues) none i.queued) in
     rw (c.then-self-inside.ensures, ← c.self.view_is) (rw (queued.1, in_service) refl)

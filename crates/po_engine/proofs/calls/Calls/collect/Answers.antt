@@ -1,11 +1,13 @@
 -- The end that the table returns is the one that is seen, and only the tickets and the room change.
-use Rattle.std.proofs.Common.{◌∙◌, ap, sym, refl, subst, None}
+use Rattle.std.proofs.Common.{◌∙◌, arith, ap, sym, refl, subst, None}
+use Rattle.std.proofs.Common.{◌≡◌}
+use Rattle.slab.specs.Slab.{slab_len}
 use Rattle.po_calls.specs.Calls.{kept}
 use Rattle.po_engine.specs.Tickets.{end_at}
-use Rattle.po_engine.specs.Calls.{key_of, IsLeft}
+use Rattle.po_engine.specs.Calls.{key_of}
 use Rattle.po_engine.proofs.CallPlaces.{place_is, end_is, leaves}
 use Rattle.po_engine.proofs.KeptSteps.{ticket_set}
-use Rattle.po_engine.proofs.CallSteps.{collected}
+use Rattle.po_engine.proofs.CallSteps.{IsLeft, collected}
 use Rattle.po_engine.proofs.calls.Calls.collect.Goals as goal
 
 pub returns-in_err-end-clause-end : goal.returns-in_err-end-clause-end
@@ -19,8 +21,12 @@ returns-in_err-end-clause-end g c =
 pub invariant_of-self-2 : goal.invariant_of-self-2
 invariant_of-self-2 g c =
     let s = c.self.inside in let e = c.in_ok-end.ensures in
-    let given = subst (λ n. IsLeft s.is_fixed s.most n c.args.ticket.key s.queues.reserved c.room_left-self-inside.result) c.len-len.ensures (subst (λ n. IsLeft s.is_fixed s.most c.len-len.result c.args.ticket.key n c.room_left-self-inside.result) c.reserved.ensures c.room_left-self-inside.ensures) in
-    (collected s.table c.collect.new.self s.queues s.keys.items s.ended.items s.before.items s.ended_now s.first s.next s.serving s.most c.room_left-self-inside.result s.is_fixed c.args.ticket c.in_ok-end.end e.exact e.updates e.len e.capacity e.last e.next_key given c.self.invariant).keeps
+    let r = c.room_left-self-inside.ensures in
+    let given : IsLeft s.most (slab_len c.collect.new.self.calls) c.collect.new.self.calls.capacity s.queues.reserved c.room_left-self-inside.result = record {
+      all = λ le. r.all (omega (arith, le, c.capacity.ensures, c.reserved.ensures));
+      none = λ lt. r.left (omega (arith, lt, c.capacity.ensures, c.reserved.ensures)) ∙ c.len-len.ensures;
+    } in
+    (collected s.table c.collect.new.self s.queues s.keys.items s.ended.items s.before.items s.ended_now s.first s.next s.serving s.most c.room_left-self-inside.result s.is_fixed c.args.ticket c.in_ok-end.end e.exact e.updates e.len e.capacity e.last given c.self.invariant).keeps
 
 pub returns-clause-end : goal.returns-clause-end
 returns-clause-end g c =

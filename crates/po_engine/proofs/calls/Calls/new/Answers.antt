@@ -16,4 +16,4 @@ invariant_of-result g c =
     let none : count_by is_some c.new.result.calls.slots ≡ 0 = sym (uncollected_kept c.new.result.calls.slots) ∙ ap uncollected t.numbers in
     let items : q.items ≡ [] = ap (λ (v : EntryQueuesView). v.items) c.in_ok-new.ensures in
     begun c.new.result q c.new-3.result.items c.new-4.result.items c.new-5.result.items c.new-6.result c.args.first 0 false
-    t.vacant none (omega arith) t.last items (omega arith, λ lt. absurd (omega (arith, lt))) c.new-3.ensures c.new-4.ensures c.new-5.ensures w.items w.len (omega arith)
+    t.vacant none (omega arith) t.last items (λ lt. absurd (omega (arith, lt))) c.new-3.ensures c.new-4.ensures c.new-5.ensures w.items w.len (omega arith)

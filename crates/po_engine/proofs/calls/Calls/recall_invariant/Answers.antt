@@ -5,7 +5,7 @@ use Rattle.po_queues.specs.Arrived.{arrived_keys}
 use Rattle.po_engine.specs.Calls.{call_at, key_of, calls_in_service, AreCallsSound}
 use Rattle.po_engine.proofs.CallReads.{once_each, all_below, length_same}
 use Rattle.po_engine.proofs.ServiceSteps.{none_serving}
-use Rattle.po_engine.proofs.KeptSteps.{key_below}
+use Rattle.po_engine.proofs.KeptSteps.{key_below, ticket_led}
 use Rattle.po_engine.proofs.TicketSteps.{waiting_ticket}
 use Rattle.po_engine.proofs.Uncollected.{held_within, queued_held, uncollected_kept}
 use Rattle.po_engine.proofs.calls.Calls.recall_invariant.Goals as goal
@@ -55,3 +55,8 @@ pub returns-clause-tickets : goal.returns-clause-tickets
 returns-clause-tickets g c =
     let s = c.self.inside in
     rw (← c.self.view_is) (waiting_ticket s.table s.first s.keys.items s.queues.items c.self.invariant.queued.queued)
+
+pub returns-clause-leads : goal.returns-clause-leads
+returns-clause-leads g c =
+    let s = c.self.inside in
+    rw (← c.self.view_is) (λ k n is. ticket_led s.table (key_of s.first s.keys.items) k n c.self.invariant.kept.indexed is)
