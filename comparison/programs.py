@@ -44,15 +44,19 @@ def say(text):
     print(f"compare: {text}", file=sys.stderr)
 
 
-def build(name, level):
-    """Builds an Ada program at this level of optimization."""
+def make(folder, words, name):
+    """Runs gnatmake with these words in the folder. The name is for messages."""
     if shutil.which("gnatmake") is None:
         raise Missing("there is no gnatmake; install it with: sudo apt-get install gnat")
-    OUT.mkdir(exist_ok=True)
-    words = ["gnatmake", "-q", "-gnat2022", level, "-I../ada", f"{name}.adb"]
-    built = subprocess.run(words, cwd=OUT, capture_output=True, text=True)
+    built = subprocess.run(["gnatmake", "-q", "-gnat2022", *words], cwd=folder, capture_output=True, text=True)
     if built.returncode != 0:
         raise Failed(f"gnatmake can't build {name}:\n{built.stderr}")
+
+
+def build(name, level):
+    """Builds an Ada program at this level of optimization."""
+    OUT.mkdir(exist_ok=True)
+    make(OUT, [level, "-I../ada", f"{name}.adb"], name)
 
 
 def prepare():
@@ -156,13 +160,13 @@ def shown(text):
     return "".join(f"{command}\nshow\n" for command in commands(text))
 
 
-END = re.compile(r"([0-9]+) (done [0-9]+|raised [0-9]+|cancelled|program_error)")
+END = re.compile(r"([0-9]+) (done|raised|cancelled|program_error)( .*)?")
 
 
 def settled(ends):
     """Returns the ends of one command: first those that bodies caused, in their order, then the others by number. A task
     learns of its cancellation, or of Program_Error, at some moment of its own, so the place of these means nothing."""
-    bodies = [end for end in ends if " done " in end or " raised " in end]
+    bodies = [end for end in ends if END.fullmatch(end)[2] in ("done", "raised")]
     others = [end for end in ends if end not in bodies]
     return bodies + sorted(others, key=lambda end: int(end.split(" ")[0]))
 

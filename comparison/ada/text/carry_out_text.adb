@@ -1,0 +1,29 @@
+--  Carries out the script on standard input, which texts.py wrote, by the protected object of an Ada text. The first word of the
+--  command line is the step of time in milliseconds, as for Carry_Out, or `describe`: then the program describes the text.
+with Ada.Command_Line; use Ada.Command_Line;
+with Ada.Text_IO;      use Ada.Text_IO;
+with GNAT.OS_Lib;
+with Commands;
+with Own_Text;
+with Scripts;
+with Texts;
+
+procedure Carry_Out_Text is
+   Script : constant Scripts.Line_Vectors.Vector := Scripts.Read;
+begin
+   Texts.Take (Script);
+   if Argument (1) = "describe" then
+      Own_Text.Pobj_Describe;
+   else
+      Commands.Carry_Out (Script, Positive'Value (Argument (1)));
+      Texts.Write_Answers;
+   end if;
+   Flush;
+   --  Tasks that wait for ever are left behind.
+   GNAT.OS_Lib.OS_Exit (0);
+exception
+   when Commands.Too_Late =>
+      Texts.Write_Answers;
+      Flush;
+      GNAT.OS_Lib.OS_Exit (3);
+end Carry_Out_Text;
