@@ -2,14 +2,14 @@
 //! Statements get their meaning (5.1).
 
 use crate::lowering::{LEVELS, Lowering, sequence};
-use crate::types::{INTEGER, Meaning, Sub, UNIVERSAL};
-use crate::values::{Denoted, Part, body_number, fixed_value, range_of, slot_cell};
+use crate::types::{Meaning, Sub};
+use crate::values::{Denoted, Part, range_of, slot_cell};
 use po_ada_text::Stop;
 use po_ada_text::tree::{
     Action, Alternative, Association, Attribute, Branch, Expression, Form, Handler, Kind, LoopHead, Mode, Name, Pragma,
     Sequence, Statement, Variables,
 };
-use po_program::{ASSERTION_ERROR, Area, Binary, Expr, MESSAGES, PROGRAM_ERROR, Range, Stmt, TOO_MANY_TURNS};
+use po_program::{ASSERTION_ERROR, Area, Expr, MESSAGES, PROGRAM_ERROR, Range, Stmt, TOO_MANY_TURNS};
 
 impl<'a> Lowering<'a> {
     /// The meaning of statements. After a fault, goes on with the next one.

@@ -3,10 +3,10 @@
 
 use crate::lowering::{LEVELS, Lowering};
 use crate::types::{
-    BOOLEAN, CHARACTER, Field, GREATEST, INTEGER, Kind, LEAST, LONG_INTEGER, Meaning, Structure, Sub, UNIVERSAL, Variable,
+    BOOLEAN, Field, GREATEST, INTEGER, Kind, LEAST, Meaning, Structure, Sub, Variable,
     base_range,
 };
-use crate::values::{Part, slot_cell};
+use crate::values::Part;
 use po_ada_text::Stop;
 use po_ada_text::tree::{ArrayIndex, Choice, Constraint, Declaration, Expression, Form, Name, Subtype, TypeForm, Variables};
 use po_program::{Area, ASSERTION_ERROR, CONSTRAINT_ERROR, FIRST_DECLARED, MESSAGES, PROGRAM_ERROR, STORAGE_ERROR, TASKING_ERROR};
@@ -66,16 +66,42 @@ impl<'a> Lowering<'a> {
     /// The meaning of declarations of a body or a block. After a fault, goes on with the next one.
     pub fn locals(&mut self, list: &'a [Declaration]) -> Result<(), Stop> {
         for declaration in list {
-            match self.declaration(declaration, true) {
-                Ok(()) | Err(Stop::Fault) => {}
-                Err(Stop::OutOfMemory) => return Err(Stop::OutOfMemory),
-            }
+            self.declared(declaration, true)?;
         }
         Ok(())
     }
 
+    /// The meaning of a declaration. After a fault, its names are known, so that they cause no other fault.
+    pub fn declared(&mut self, declaration: &'a Declaration, in_frame: bool) -> Result<(), Stop> {
+        match self.declaration(declaration, in_frame) {
+            Ok(()) => Ok(()),
+            Err(Stop::OutOfMemory) => Err(Stop::OutOfMemory),
+            Err(Stop::Fault) => self.faulty(declaration),
+        }
+    }
+
+    fn faulty(&mut self, declaration: &'a Declaration) -> Result<(), Stop> {
+        match declaration {
+            Declaration::Type(name, _) | Declaration::Subtype(name, _) => self.faulty_name(*name),
+            Declaration::Variables(variables) => self.faulty_names(variables.names.as_slice()),
+            Declaration::Numbers(names, _) | Declaration::Exceptions(names) => self.faulty_names(names.as_slice()),
+            Declaration::Pragma(_) => Ok(()),
+        }
+    }
+
+    fn faulty_names(&mut self, names: &'a [Name]) -> Result<(), Stop> {
+        for name in names {
+            self.faulty_name(*name)?;
+        }
+        Ok(())
+    }
+
+    fn faulty_name(&mut self, name: Name) -> Result<(), Stop> {
+        self.define(name, Meaning::Faulty)
+    }
+
     /// The meaning of a declaration; variables are in the frame or in the object.
-    pub fn declaration(&mut self, declaration: &'a Declaration, in_frame: bool) -> Result<(), Stop> {
+    fn declaration(&mut self, declaration: &'a Declaration, in_frame: bool) -> Result<(), Stop> {
         match declaration {
             Declaration::Type(name, form) => self.type_declaration(*name, form),
             Declaration::Subtype(name, subtype) => {
@@ -279,6 +305,7 @@ impl<'a> Lowering<'a> {
                 return Err(self.refuse(literal.place, "two literals of one name aren't in this subset: rename one (3.5.1)"));
             }
             self.define(*literal, Meaning::Number(position, kind))?;
+            self.literals.push((literal.number, kind))?;
             position = position.saturating_add(1);
         }
         let high = position.saturating_sub(1);

@@ -3,7 +3,7 @@
 
 use crate::lowering::Lowering;
 use crate::types::{Structure, Sub};
-use crate::values::{Denoted, Part, computed, first_value, fixed_value, slot_cell};
+use crate::values::{Denoted, Part, first_value, slot_cell};
 use po_ada_text::Stop;
 use po_ada_text::tree::{Association, Choice, Expression, Form};
 use po_program::{Area, Expr, Stmt};
@@ -191,7 +191,6 @@ impl<'a> Lowering<'a> {
     #[cycle(aggregates)]
     fn record_aggregate(&mut self, place: usize, sub: Sub, first: u16, associations: &'a [Association], list: &mut Vec<Filled>, levels: usize) -> Result<(), Stop> {
         let count = self.field_count(sub);
-        let mut used = 0usize;
         for position in 0..count {
             let Some((name, part, offset)) = self.field(sub, position) else {
                 break;
@@ -199,7 +198,6 @@ impl<'a> Lowering<'a> {
             let Some(found) = component_value(associations, position, name) else {
                 return Err(self.refuse_name(place, "the component ", name, " has no value (4.3.1)"));
             };
-            used = used.saturating_add(1);
             self.aggregate(part, first.saturating_add(offset), &found.value, list, levels)?;
         }
         for association in associations {
@@ -269,13 +267,17 @@ impl<'a> Lowering<'a> {
         }
         let mut next = 0usize;
         for association in associations {
-            let (low, high) = self.element_range(sub, index, association, next, levels)?;
-            if association.choices.is_empty() {
-                next = next.saturating_add(1);
-            }
             let mut inner = Vec::new(self.alloc);
             self.aggregate(element, 0, &association.value, &mut inner, levels)?;
-            self.place_elements(association.place, &mut taken, (low, high), is_others(association), (first, width), inner.as_slice(), list)?;
+            if association.choices.is_empty() {
+                let range = self.element_position(sub, association, next)?;
+                next = next.saturating_add(1);
+                self.place_elements(association.place, &mut taken, range, false, (first, width), inner.as_slice(), list)?;
+            }
+            for choice in association.choices.iter() {
+                let range = self.element_range(sub, index, choice, levels)?;
+                self.place_elements(association.place, &mut taken, range, is_others(choice), (first, width), inner.as_slice(), list)?;
+            }
         }
         if taken.iter().any(|found| !*found) {
             return Err(self.refuse(place, "the aggregate has a value for each component, or 'others' (4.3.3)"));
@@ -283,24 +285,24 @@ impl<'a> Lowering<'a> {
         Ok(())
     }
 
-    /// The positions of components that an association gives values: from the first one to before the last one.
-    fn element_range(&mut self, sub: Sub, index: usize, association: &'a Association, next: usize, levels: usize) -> Result<(usize, usize), Stop> {
-        let count = usize::from(crate::types::count(sub));
-        let Some(choice) = association.choices.first() else {
-            if next >= count {
-                return Err(self.refuse(association.place, "the aggregate has more values than the array has components (4.3.3)"));
-            }
-            return Ok((next, next.saturating_add(1)));
-        };
-        if association.choices.len() > 1 {
-            return Err(self.refuse(association.place, "several indices before '=>' aren't in this subset: repeat the value (4.3.3)"));
+    /// The position of the next component.
+    fn element_position(&mut self, sub: Sub, association: &'a Association, next: usize) -> Result<(usize, usize), Stop> {
+        if next >= usize::from(crate::types::count(sub)) {
+            return Err(self.refuse(association.place, "the aggregate has more values than the array has components (4.3.3)"));
         }
-        let range = self.choice_range(choice, index, levels)?;
-        if is_others(association) {
+        Ok((next, next.saturating_add(1)))
+    }
+
+    /// The positions of components that a choice names: from the first one to before the last one.
+    fn element_range(&mut self, sub: Sub, index: usize, choice: &'a Choice, levels: usize) -> Result<(usize, usize), Stop> {
+        let count = usize::from(crate::types::count(sub));
+        if is_others(choice) {
             return Ok((0, count));
         }
+        let range = self.choice_range(choice, index, levels)?;
         if range.low < sub.low || range.high > sub.high {
-            return Err(self.refuse(association.place, "this index isn't in the array's range: Constraint_Error (4.3.3)"));
+            let place = crate::values::choice_place(choice);
+            return Err(self.refuse(place, "this index isn't in the array's range: Constraint_Error (4.3.3)"));
         }
         let low = usize::try_from(range.low.saturating_sub(sub.low)).unwrap_or(count);
         let high = usize::try_from(range.high.saturating_sub(sub.low).saturating_add(1)).unwrap_or(count);
@@ -379,15 +381,10 @@ impl<'a> Lowering<'a> {
             let start = first.saturating_add(offset);
             match default {
                 Some(expression) => self.aggregate(part, start, expression, list, crate::lowering::LEVELS)?,
-                None => self.first_values_or_skip(part, start, list, levels)?,
+                None => self.first_values(part, start, list, levels)?,
             }
         }
         Ok(())
-    }
-
-    #[cycle(firsts)]
-    fn first_values_or_skip(&mut self, part: Sub, start: u16, list: &mut Vec<Filled>, levels: usize) -> Result<(), Stop> {
-        self.first_values(part, start, list, levels)
     }
 
     fn field_default(&self, sub: Sub, position: usize) -> Option<&'a Expression> {
@@ -412,8 +409,8 @@ fn append(list: &mut Vec<Filled>, filled: Filled) -> Result<(), Stop> {
     Ok(())
 }
 
-fn is_others(association: &Association) -> bool {
-    matches!(association.choices.first(), Some(Choice::Others(_)))
+fn is_others(choice: &Choice) -> bool {
+    matches!(choice, Choice::Others(_))
 }
 
 /// The association with the value of a record's component: by its position, its name, or `others`.

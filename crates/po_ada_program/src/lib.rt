@@ -9,6 +9,7 @@
 
 mod actions;
 mod attributes;
+mod declared_names;
 mod declaring;
 mod folding;
 mod giving;
@@ -18,3 +19,6 @@ mod unit;
 mod values;
 
 pub use crate::unit::{AdaText, Made, read};
+
+#[cfg(test)]
+mod tests;

@@ -56,6 +56,8 @@ pub struct Lowering<'a> {
     pub cells: u16,
     pub operations: Vec<Declared<'a>>,
     pub entries: u16,
+    /// The literals of enumeration types, each with its type.
+    pub literals: Vec<(u32, usize)>,
     pub exceptions: Vec<u32>,
     pub messages: Vec<String>,
     /// The statements that were made so far.

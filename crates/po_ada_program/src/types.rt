@@ -79,8 +79,12 @@ pub enum Meaning {
     /// The number of an operation.
     Operation(usize),
     Package,
-    /// A subprogram that isn't in the subset.
+    /// A subprogram or a variable outside of the unit that isn't in the subset.
     Unread,
+    /// A parameter of the entry, which its barrier may not use (9.5.2).
+    Hidden,
+    /// A name whose declaration has a fault, which was told.
+    Faulty,
 }
 
 /// A name and what it stands for.

@@ -368,6 +368,7 @@ impl<'a> Lowering<'a> {
         };
         match self.look_up(name) {
             Some(Meaning::Type(sub)) => Ok(sub),
+            Some(Meaning::Faulty) => Err(Stop::Fault),
             Some(_) => Err(self.refuse_name(mark.place, "expected the name of a type, and ", name, " is none")),
             None => Err(self.unknown(mark.place, name)),
         }
@@ -409,6 +410,8 @@ impl<'a> Lowering<'a> {
             Some(Meaning::Operation(operation)) => Ok(Denoted::Operation(operation)),
             Some(Meaning::Package) => Ok(Denoted::Package),
             Some(Meaning::Unread) => Err(self.refuse_name(place, "", name, " has what isn't in this subset: write it without, as a function of numbers")),
+            Some(Meaning::Hidden) => Err(self.refuse(place, "a barrier doesn't use the entry's parameters: take a family, or test in the body and requeue (9.5.2)")),
+            Some(Meaning::Faulty) => Err(Stop::Fault),
             None => Err(self.unknown(place, name)),
         }
     }
@@ -633,7 +636,7 @@ impl<'a> Lowering<'a> {
     }
 
     /// The actual of a parameter: by its position, by its name, or the default (6.4.1).
-    fn actual(&mut self, place: usize, operation: usize, position: usize, list: &'a [Association]) -> Result<&'a Expression, Stop> {
+    pub fn actual(&mut self, place: usize, operation: usize, position: usize, list: &'a [Association]) -> Result<&'a Expression, Stop> {
         let Some(parameter) = self.operations.get(operation).and_then(|declared| declared.parameters.get(position).copied()) else {
             return Err(self.refuse(place, "there is no such parameter"));
         };
@@ -1016,10 +1019,10 @@ impl<'a> Lowering<'a> {
 
     /// One turn of the loop: if the condition decides, the result is set and the loop is left.
     #[cycle(values)]
-    fn quantified_turn(&mut self, is_all: bool, result: u16, condition: &'a Expression, levels: usize) -> Result<(), Stop> {
+    fn quantified_turn(&mut self, is_all: bool, slot: u16, condition: &'a Expression, levels: usize) -> Result<(), Stop> {
         let test = self.condition(condition, levels)?;
         let (test, decided) = if is_all { (self.not(test)?, 0) } else { (test, 1) };
-        let set = self.boxed_statement(Stmt::Assign(Area::Frame, result, Expr::Number(decided)))?;
+        let set = self.boxed_statement(Stmt::Assign(Area::Frame, slot, Expr::Number(decided)))?;
         let leave = self.boxed_statement(Stmt::Exit(0))?;
         let both = self.boxed_statement(Stmt::Then(set, leave))?;
         let rest = self.boxed_statement(Stmt::Null)?;

@@ -68,6 +68,13 @@ impl Faults {
         self.items.is_empty()
     }
 
+    /// The faults as a list.
+    pub fn into_items(self) -> Vec<Fault>
+        ensures { vec_len result ≡ vec_len self.items }
+    {
+        self.items
+    }
+
     /// Forgets all faults but the first ones.
     pub fn truncate(&mut self, length: usize) {
         self.items.truncate(length);
