@@ -23,12 +23,12 @@ pub const MOST_TURNS: u32 = 1_000_000;
 pub struct Setting<'a> {
     pub program: &'a Program,
     /// The object's data, if they can't change; else nothing.
-    pub constant: &'a [i64],
+    pub constant: &'a [i128],
     /// For each entry, how many calls are queued on it (9.9).
     pub counts: &'a [u64],
 }
 
-fn set(cells: &mut [i64], i: usize, n: i64) -> Completion
+fn set(cells: &mut [i128], i: usize, n: i128) -> Completion
     ensures { (result, cells.new) ≡ set_cell cells.old i n }
 {
     if i < cells.len() {
@@ -39,16 +39,16 @@ fn set(cells: &mut [i64], i: usize, n: i64) -> Completion
     }
 }
 
-fn set_at(cells: &mut [i64], first: u32, distance: i64, n: i64) -> Completion
+fn set_at(cells: &mut [i128], first: u32, distance: i128, n: i128) -> Completion
     ensures { (result, cells.new) ≡ set_component cells.old first distance n }
 {
-    if distance < 0 {
+    if distance < 0 || distance > 4_294_967_295 {
         return Completion::Raised(PROGRAM_ERROR);
     }
     set(cells, first as usize + distance as usize, n)
 }
 
-fn assign(area: Area, object: &mut [i64], stack: &mut [i64], base: u16, i: u16, n: i64) -> Completion
+fn assign(area: Area, object: &mut [i128], stack: &mut [i128], base: u16, i: u16, n: i128) -> Completion
     ensures { (left : ℕ) → (result, memory object.new stack.new left) ≡ assigned area base i n (memory object.old stack.old left) }
 {
     match area {
@@ -57,7 +57,7 @@ fn assign(area: Area, object: &mut [i64], stack: &mut [i64], base: u16, i: u16, 
     }
 }
 
-fn assign_at(area: Area, object: &mut [i64], stack: &mut [i64], base: u16, i: u16, distance: i64, n: i64) -> Completion
+fn assign_at(area: Area, object: &mut [i128], stack: &mut [i128], base: u16, i: u16, distance: i128, n: i128) -> Completion
     ensures { (left : ℕ) → (result, memory object.new stack.new left) ≡ assigned_at area base i distance n (memory object.old stack.old left) }
 {
     match area {
@@ -67,7 +67,7 @@ fn assign_at(area: Area, object: &mut [i64], stack: &mut [i64], base: u16, i: u1
 }
 
 /// Returns the value of an expression, for which constant data are the object's.
-fn evaluate(setting: &Setting<'_>, e: &Expr, object: &[i64], stack: &[i64], base: u16) -> Result<i64, u32>
+fn evaluate(setting: &Setting<'_>, e: &Expr, object: &[i128], stack: &[i128], base: u16) -> Result<i128, u32>
     ensures { result ≡ value_of e.now (data_of setting.now.constant.now object.now) stack.now base setting.now.counts.now }
 {
     if setting.constant.is_empty() {
@@ -78,7 +78,7 @@ fn evaluate(setting: &Setting<'_>, e: &Expr, object: &[i64], stack: &[i64], base
 }
 
 /// Evaluates how far a component is from an array's first cell, and gives it the value.
-fn assign_component(setting: &Setting<'_>, area: Area, i: u16, place: &Expr, n: i64, object: &mut [i64], stack: &mut [i64], base: u16) -> Completion
+fn assign_component(setting: &Setting<'_>, area: Area, i: u16, place: &Expr, n: i128, object: &mut [i128], stack: &mut [i128], base: u16) -> Completion
     ensures { (left : ℕ) → (result, memory object.new stack.new left)
         ≡ with_number (value_of place.now (data_of setting.now.constant.now object.old) stack.old base setting.now.counts.now) (memory object.old stack.old left)
             (λ z. assigned_at area base i z n (memory object.old stack.old left)) }
@@ -100,7 +100,7 @@ fn leave(loops: u16) -> Completion
     }
 }
 
-fn raise(n: i64) -> Completion
+fn raise(n: i128) -> Completion
     ensures { result ≡ Completion.Raised (exception n) }
 {
     if n < 0 || n > 4_294_967_295 {
@@ -109,10 +109,10 @@ fn raise(n: i64) -> Completion
     Completion::Raised(n as u32)
 }
 
-fn requeue(first: u16, distance: i64, with_abort: bool) -> Completion
+fn requeue(first: u16, distance: i128, with_abort: bool) -> Completion
     ensures { result ≡ requeued first distance with_abort }
 {
-    if distance < 0 {
+    if distance < 0 || distance > 4_294_967_295 {
         return Completion::Raised(PROGRAM_ERROR);
     }
     let target = u64::from(first) + distance as u64;
@@ -135,7 +135,7 @@ fn finish(completion: Completion) -> Completion
 
 /// Executes a statement.
 #[cycle(executing)]
-fn execute(setting: &Setting<'_>, s: &Stmt, object: &mut [i64], stack: &mut [i64], left: &mut u32, base: u16, depth: u8) -> Completion
+fn execute(setting: &Setting<'_>, s: &Stmt, object: &mut [i128], stack: &mut [i128], left: &mut u32, base: u16, depth: u8) -> Completion
     ensures {
         let found = setting_of setting.now.program.now.operations.items setting.now.constant.now setting.now.counts.now in
         (result, memory object.new stack.new left.new) ≡ executed s.now found (called depth found) base (memory object.old stack.old left.old)
@@ -181,14 +181,14 @@ fn execute(setting: &Setting<'_>, s: &Stmt, object: &mut [i64], stack: &mut [i64
 
 /// Executes the handlers for the exception of this number, which the slot gets.
 #[cycle(executing)]
-fn handle(setting: &Setting<'_>, number: u32, i: u16, handlers: &Stmt, object: &mut [i64], stack: &mut [i64], left: &mut u32, base: u16, depth: u8) -> Completion
+fn handle(setting: &Setting<'_>, number: u32, i: u16, handlers: &Stmt, object: &mut [i128], stack: &mut [i128], left: &mut u32, base: u16, depth: u8) -> Completion
     ensures {
         let found = setting_of setting.now.program.now.operations.items setting.now.constant.now setting.now.counts.now in
         (result, memory object.new stack.new left.new)
             ≡ then_executed (assigned Area.Frame base i (pos number) (memory object.old stack.old left.old)) (executed handlers.now found (called depth found) base)
     }
 {
-    match assign(Area::Frame, object, stack, base, i, i64::from(number)) {
+    match assign(Area::Frame, object, stack, base, i, i128::from(number)) {
         Completion::Normal => execute(setting, handlers, object, stack, left, base, depth),
         completion => completion,
     }
@@ -196,7 +196,7 @@ fn handle(setting: &Setting<'_>, number: u32, i: u16, handlers: &Stmt, object: &
 
 /// Executes the turns of a loop.
 #[cycle(executing)]
-fn repeat(setting: &Setting<'_>, body: &Stmt, object: &mut [i64], stack: &mut [i64], left: &mut u32, base: u16, depth: u8) -> Completion
+fn repeat(setting: &Setting<'_>, body: &Stmt, object: &mut [i128], stack: &mut [i128], left: &mut u32, base: u16, depth: u8) -> Completion
     ensures {
         let found = setting_of setting.now.program.now.operations.items setting.now.constant.now setting.now.counts.now in
         (result, memory object.new stack.new left.new)
@@ -220,7 +220,7 @@ fn repeat(setting: &Setting<'_>, body: &Stmt, object: &mut [i64], stack: &mut [i
 
 /// Executes an operation whose frame begins with this slot.
 #[cycle(executing)]
-fn call(setting: &Setting<'_>, operation: u16, base: u32, object: &mut [i64], stack: &mut [i64], left: &mut u32, depth: u8) -> Completion
+fn call(setting: &Setting<'_>, operation: u16, base: u32, object: &mut [i128], stack: &mut [i128], left: &mut u32, depth: u8) -> Completion
     ensures {
         let found = setting_of setting.now.program.now.operations.items setting.now.constant.now setting.now.counts.now in
         (result, memory object.new stack.new left.new) ≡ called depth found operation base (memory object.old stack.old left.old)
@@ -239,7 +239,7 @@ fn call(setting: &Setting<'_>, operation: u16, base: u32, object: &mut [i64], st
 }
 
 /// Executes an operation whose frame begins with the first slot, within these limits.
-fn execute_within(setting: &Setting<'_>, operation: u16, object: &mut [i64], stack: &mut [i64], turns: u32, calls: u8) -> Completion
+fn execute_within(setting: &Setting<'_>, operation: u16, object: &mut [i128], stack: &mut [i128], turns: u32, calls: u8) -> Completion
     ensures {
         let found = setting_of setting.now.program.now.operations.items setting.now.constant.now setting.now.counts.now in
         (result, object.new, stack.new) ≡ executed_within calls turns found operation object.old stack.old
@@ -253,7 +253,7 @@ fn execute_within(setting: &Setting<'_>, operation: u16, object: &mut [i64], sta
 /// the values of its parameters before and after.
 ///
 /// A requeue is told by `Requeued`; any other end that isn't an exception is `Normal`.
-pub fn execute_operation(setting: &Setting<'_>, operation: u16, object: &mut [i64], stack: &mut [i64]) -> Completion
+pub fn execute_operation(setting: &Setting<'_>, operation: u16, object: &mut [i128], stack: &mut [i128]) -> Completion
     ensures {
         let found = setting_of setting.now.program.now.operations.items setting.now.constant.now setting.now.counts.now in
         (result, object.new, stack.new) ≡ operation_executed found operation object.old stack.old

@@ -1,5 +1,6 @@
 -- SPDX-License-Identifier: MIT
-use Rattle.std.proofs.Common.{SFits, w64, rules, arith, ap, sym, ◌∙◌, ◌≡◌, ℕ, suc, ◌+◌, ◌-◌, ◌<◌, ℤ, pos, to_z, of_z, false}
+use Rattle.std.proofs.Common.{SFits, rules, arith, ap, sym, ◌∙◌, ◌≡◌, ℕ, suc, ◌+◌, ◌-◌, ◌<◌, ℤ, pos, to_z, of_z, false}
+use Rattle.std.specs.Int.{w128}
 use Rattle.std.proofs.lemmas.Int.{ints, to_z-of_z}
 use Rattle.po_program.specs.declared.tree.Area.TheVariants.{Frame}
 use Rattle.po_program.specs.Execution.{called, assigned, executed, memory, setting_of, turns}
@@ -54,12 +55,12 @@ repeat-returns-in_default t c =
 pub execute-returns-in-Ok-evaluate : goal.execute-returns-in-Ok-evaluate
 execute-returns-in-Ok-evaluate t c =
     let found = setting_of c.args.setting.now.program.now.operations.items c.args.setting.now.constant.now c.args.setting.now.counts.now in
-    let f : SFits w64 c.in-Ok-evaluate.n = search rules in
-    component found (called c.args.depth found) c.args.base (memory c.args.object.now c.args.stack.now c.args.left.now) c.in-AssignAt.area c.in-AssignAt.i c.in-AssignAt.place c.in-AssignAt.e c.in-Ok-evaluate.n (to_z w64 (of_z w64 c.in-Ok-evaluate.n)) _ c.args.s.now c.in-AssignAt.is (sym c.evaluate-in-AssignAt.ensures ∙ c.in-Ok-evaluate.is) (to_z-of_z w64 c.in-Ok-evaluate.n f) (c.assign_component.ensures c.args.left.now)
+    let f : SFits w128 c.in-Ok-evaluate.n = search rules in
+    component found (called c.args.depth found) c.args.base (memory c.args.object.now c.args.stack.now c.args.left.now) c.in-AssignAt.area c.in-AssignAt.i c.in-AssignAt.place c.in-AssignAt.e c.in-Ok-evaluate.n (to_z w128 (of_z w128 c.in-Ok-evaluate.n)) _ c.args.s.now c.in-AssignAt.is (sym c.evaluate-in-AssignAt.ensures ∙ c.in-Ok-evaluate.is) (to_z-of_z w128 c.in-Ok-evaluate.n f) (c.assign_component.ensures c.args.left.now)
 
 pub handle-returns-in-Normal : goal.handle-returns-in-Normal
 handle-returns-in-Normal t c =
-    let n : to_z w64 (of_z w64 c.from.result) ≡ pos c.args.number = grind (arith, ints, to_z-of_z, c.from.ensures) in
+    let n : to_z w128 (of_z w128 c.from.result) ≡ pos c.args.number = grind (arith, ints, to_z-of_z, c.from.ensures) in
     normal _ _ (memory c.assign.new.object c.assign.new.stack c.args.left.now) _
       (sym (ap (λ f. (f, memory c.assign.new.object c.assign.new.stack c.args.left.now)) c.in-Normal.is)
         ∙ c.assign.ensures c.args.left.now
@@ -68,7 +69,7 @@ handle-returns-in-Normal t c =
 
 pub handle-returns-in_default : goal.handle-returns-in_default
 handle-returns-in_default t c =
-    let n : to_z w64 (of_z w64 c.from.result) ≡ pos c.args.number = grind (arith, ints, to_z-of_z, c.from.ensures) in
+    let n : to_z w128 (of_z w128 c.from.result) ≡ pos c.args.number = grind (arith, ints, to_z-of_z, c.from.ensures) in
     abrupt _ c.assign.result (memory c.assign.new.object c.assign.new.stack c.args.left.now) _
       (c.assign.ensures c.args.left.now
         ∙ ap (λ z. assigned Frame c.args.base c.args.i z (memory c.args.object.now c.args.stack.now c.args.left.now)) n)
