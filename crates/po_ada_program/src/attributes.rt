@@ -21,23 +21,45 @@ pub struct Opened {
 impl<'a> Lowering<'a> {
     /// An attribute of the subset.
     #[cycle(values)]
-    pub fn attribute(&mut self, place: usize, prefix: &'a Expression, attribute: Attribute, list: &'a [Association], levels: usize) -> Result<Value, Stop> {
+    pub fn attribute(
+        &mut self,
+        place: usize,
+        prefix: &'a Expression,
+        attribute: Attribute,
+        list: &'a [Association],
+        levels: usize,
+    ) -> Result<Value, Stop> {
         match self.denoted(prefix, levels)? {
             Denoted::Type(sub) => self.type_attribute(place, sub, attribute, list, levels),
             Denoted::Part(part) => self.array_attribute(place, part.sub, attribute, list),
-            Denoted::Operation(operation) if attribute == Attribute::Count => self.entry_count(place, operation, None),
+            Denoted::Operation(operation) if attribute == Attribute::Count => self.entry_count(
+                place, operation, None,
+            ),
             Denoted::Member(operation, distance) if attribute == Attribute::Count => {
                 self.entry_count(place, operation, Some(distance))
             }
-            _ => Err(self.refuse(place, "this attribute comes after a type, an array or an entry alone (4.1.4)")),
+            _ => Err(self.refuse(
+                place,
+                "this attribute comes after a type, an array or an entry alone (4.1.4)",
+            )),
         }
     }
 
     /// The number of calls that wait on an entry (9.9).
-    fn entry_count(&mut self, place: usize, operation: usize, distance: Option<Expr>) -> Result<Value, Stop> {
+    fn entry_count(
+        &mut self,
+        place: usize,
+        operation: usize,
+        distance: Option<Expr>,
+    ) -> Result<Value, Stop> {
         let entry = match self.operations.get(operation) {
-            Some(declared) if declared.profile.kind == Kind::Entry && declared.family.is_some() == distance.is_some() => declared.entry,
-            _ => return Err(self.refuse(place, "'Count comes after an entry, and after a family with its index (9.9)")),
+            Some(declared)
+                if declared.profile.kind == Kind::Entry
+                    && declared.family.is_some() == distance.is_some() => declared.entry,
+            _ => return Err(self.refuse(
+                place,
+                "'Count comes after an entry, and after a family with its index (9.9)",
+            )),
         };
         let code = match distance {
             None => Expr::Count(entry),
@@ -47,37 +69,68 @@ impl<'a> Lowering<'a> {
     }
 
     /// First, Last and Length of an array.
-    fn array_attribute(&mut self, place: usize, sub: Sub, attribute: Attribute, list: &'a [Association]) -> Result<Value, Stop> {
+    fn array_attribute(
+        &mut self,
+        place: usize,
+        sub: Sub,
+        attribute: Attribute,
+        list: &'a [Association],
+    ) -> Result<Value, Stop> {
         let Some((index, _, _)) = self.array_parts(sub) else {
-            return Err(self.refuse(place, "this attribute comes after an array or a type alone (3.6.2)"));
+            return Err(self.refuse(
+                place,
+                "this attribute comes after an array or a type alone (3.6.2)",
+            ));
         };
         if !list.is_empty() {
-            return Err(self.refuse(place, "an attribute of the second index isn't in this subset: name its type (3.6.2)"));
+            return Err(self.refuse(
+                place,
+                "an attribute of the second index isn't in this subset: name its type (3.6.2)",
+            ));
         }
         match attribute {
             Attribute::First => Ok(fixed_value(index, sub.low)),
             Attribute::Last => Ok(fixed_value(index, sub.high)),
-            Attribute::Length => Ok(fixed_value(UNIVERSAL, sub.high.saturating_sub(sub.low).saturating_add(1).max(0))),
-            _ => Err(self.refuse(place, "of an array this subset has First, Last, Length, and Range in loops (3.6.2)")),
+            Attribute::Length => Ok(fixed_value(
+                UNIVERSAL,
+                sub.high.saturating_sub(sub.low).saturating_add(1).max(0),
+            )),
+            _ => Err(self.refuse(
+                place,
+                "of an array this subset has First, Last, Length, and Range in loops (3.6.2)",
+            )),
         }
     }
 
     /// An attribute of a type.
     #[cycle(values)]
-    fn type_attribute(&mut self, place: usize, sub: Sub, attribute: Attribute, list: &'a [Association], levels: usize) -> Result<Value, Stop> {
+    fn type_attribute(
+        &mut self,
+        place: usize,
+        sub: Sub,
+        attribute: Attribute,
+        list: &'a [Association],
+        levels: usize,
+    ) -> Result<Value, Stop> {
         if !self.is_discrete(sub.kind) {
             return self.array_attribute(place, sub, attribute, list);
         }
         match attribute {
             Attribute::First => Ok(fixed_value(sub.kind, sub.low)),
             Attribute::Last => Ok(fixed_value(sub.kind, sub.high)),
-            Attribute::Length => Err(self.refuse(place, "'Length comes after an array: of a type take its range (3.6.2)")),
+            Attribute::Length => Err(self.refuse(
+                place,
+                "'Length comes after an array: of a type take its range (3.6.2)",
+            )),
             Attribute::Modulus => self.modulus(place, sub.kind),
             Attribute::Pos | Attribute::Val | Attribute::Succ | Attribute::Pred => {
                 self.unary_attribute(place, sub, attribute, list, levels)
             }
             Attribute::Min | Attribute::Max => self.extreme(place, sub, attribute, list, levels),
-            _ => Err(self.refuse(place, "this attribute has no value in this subset; Image stands in messages, Range in loops (3.5)")),
+            _ => Err(self.refuse(
+                place,
+                "this attribute has no value in this subset; Image stands in messages, Range in loops (3.5)",
+            )),
         }
     }
 
@@ -97,20 +150,41 @@ impl<'a> Lowering<'a> {
 
     /// Pos, Val, Succ and Pred (3.5.5, 3.5).
     #[cycle(values)]
-    fn unary_attribute(&mut self, place: usize, sub: Sub, attribute: Attribute, list: &'a [Association], levels: usize) -> Result<Value, Stop> {
+    fn unary_attribute(
+        &mut self,
+        place: usize,
+        sub: Sub,
+        attribute: Attribute,
+        list: &'a [Association],
+        levels: usize,
+    ) -> Result<Value, Stop> {
         let operand = match list.first() {
             Some(association) if list.len() == 1 => &association.value,
-            _ => return Err(self.refuse(place, "this attribute has one value in parentheses (3.5)")),
+            _ => return Err(self.refuse(
+                place,
+                "this attribute has one value in parentheses (3.5)",
+            )),
         };
         let value = self.value(operand, levels)?;
         let whole = self.whole(sub.kind);
         if attribute == Attribute::Val {
-            self.unify(operand.place, UNIVERSAL, if self.is_integer(value.kind) { UNIVERSAL } else { value.kind })?;
+            self.unify(
+                operand.place,
+                UNIVERSAL,
+                if self.is_integer(value.kind) {
+                    UNIVERSAL
+                } else {
+                    value.kind
+                },
+            )?;
             return self.within_type(operand.place, value, whole);
         }
         self.unify(operand.place, sub.kind, value.kind)?;
         match attribute {
-            Attribute::Pos => Ok(Value { kind: UNIVERSAL, ..value }),
+            Attribute::Pos => Ok(Value {
+                kind: UNIVERSAL,
+                ..value
+            }),
             Attribute::Succ => self.neighbour(operand.place, value, whole, 1),
             _ => self.neighbour(operand.place, value, whole, -1),
         }
@@ -119,7 +193,10 @@ impl<'a> Lowering<'a> {
     /// A value that has to be one of a type.
     fn within_type(&mut self, place: usize, value: Value, whole: Sub) -> Result<Value, Stop> {
         let fixed = value.fixed;
-        let value = Value { kind: whole.kind, ..value };
+        let value = Value {
+            kind: whole.kind,
+            ..value
+        };
         let code = self.fit(place, value, whole)?;
         Ok(Value {
             code,
@@ -130,46 +207,86 @@ impl<'a> Lowering<'a> {
     }
 
     /// The next or the previous value (3.5(22), 3.5(25)).
-    fn neighbour(&mut self, place: usize, value: Value, whole: Sub, step: i128) -> Result<Value, Stop> {
+    fn neighbour(
+        &mut self,
+        place: usize,
+        value: Value,
+        whole: Sub,
+        step: i128,
+    ) -> Result<Value, Stop> {
         if let Some(number) = value.fixed {
-            return self.within_type(place, fixed_value(whole.kind, number.saturating_add(step)), whole);
+            return self.within_type(
+                place,
+                fixed_value(whole.kind, number.saturating_add(step)),
+                whole,
+            );
         }
         let base = match self.base(whole.kind) {
             Some(Base::Modular(modulus)) => Base::Modular(modulus),
             _ => Base::Signed(range_of(whole)),
         };
-        let operator = if step > 0 { Binary::Add(base) } else { Binary::Subtract(base) };
+        let operator = if step > 0 {
+            Binary::Add(base)
+        } else {
+            Binary::Subtract(base)
+        };
         let code = self.binary(operator, value.code, Expr::Number(1))?;
         Ok(computed(whole.kind, code))
     }
 
     /// Min and Max (3.5).
     #[cycle(values)]
-    fn extreme(&mut self, place: usize, sub: Sub, attribute: Attribute, list: &'a [Association], levels: usize) -> Result<Value, Stop> {
+    fn extreme(
+        &mut self,
+        place: usize,
+        sub: Sub,
+        attribute: Attribute,
+        list: &'a [Association],
+        levels: usize,
+    ) -> Result<Value, Stop> {
         let (left, right) = match (list.first(), list.get(1)) {
             (Some(left), Some(right)) if list.len() == 2 => (&left.value, &right.value),
-            _ => return Err(self.refuse(place, "'Min and 'Max have two values in parentheses (3.5)")),
+            _ => return Err(self.refuse(
+                place,
+                "'Min and 'Max have two values in parentheses (3.5)",
+            )),
         };
         let first = self.value(left, levels)?;
         self.unify(left.place, sub.kind, first.kind)?;
         let second = self.value(right, levels)?;
         self.unify(right.place, sub.kind, second.kind)?;
         if let (Some(a), Some(b)) = (first.fixed, second.fixed) {
-            let number = if attribute == Attribute::Min { a.min(b) } else { a.max(b) };
+            let number = if attribute == Attribute::Min {
+                a.min(b)
+            } else {
+                a.max(b)
+            };
             return Ok(fixed_value(sub.kind, number));
         }
-        let operator = if attribute == Attribute::Min { Binary::Min } else { Binary::Max };
+        let operator = if attribute == Attribute::Min {
+            Binary::Min
+        } else {
+            Binary::Max
+        };
         let code = self.binary(operator, first.code, second.code)?;
         Ok(computed(sub.kind, code))
     }
 
     /// The bounds of a discrete range, and its type (3.6.1).
     #[cycle(values)]
-    pub fn bounds(&mut self, choice: &'a Choice, levels: usize) -> Result<(Value, Value, usize), Stop> {
+    pub fn bounds(
+        &mut self,
+        choice: &'a Choice,
+        levels: usize,
+    ) -> Result<(Value, Value, usize), Stop> {
         match choice {
             Choice::Value(value) => {
                 let sub = self.range_subtype(value, levels)?;
-                Ok((fixed_value(sub.kind, sub.low), fixed_value(sub.kind, sub.high), sub.kind))
+                Ok((
+                    fixed_value(sub.kind, sub.low),
+                    fixed_value(sub.kind, sub.high),
+                    sub.kind,
+                ))
             }
             Choice::Range(low, high) => {
                 let first = self.value(low, levels)?;
@@ -199,12 +316,18 @@ impl<'a> Lowering<'a> {
             }
         }
         let Form::Attribute(prefix, Attribute::Range, _) = &value.form else {
-            return Err(self.refuse(value.place, "expected a range: a discrete type, 'A .. B' or A'Range (3.6.1)"));
+            return Err(self.refuse(
+                value.place,
+                "expected a range: a discrete type, 'A .. B' or A'Range (3.6.1)",
+            ));
         };
         let sub = match self.denoted(prefix, levels)? {
             Denoted::Type(sub) => sub,
             Denoted::Part(part) => part.sub,
-            _ => return Err(self.refuse(value.place, "'Range comes after an array or a type (3.6.2)")),
+            _ => return Err(self.refuse(
+                value.place,
+                "'Range comes after an array or a type (3.6.2)",
+            )),
         };
         match self.array_parts(sub) {
             Some((index, _, _)) => Ok(Sub { kind: index, ..sub }),
@@ -219,13 +342,21 @@ impl<'a> Lowering<'a> {
         let (low, high, kind) = self.bounds(choice, levels)?;
         match (low.fixed, high.fixed) {
             (Some(low), Some(high)) => Ok(Sub { kind, low, high }),
-            _ => Err(self.refuse(place, "expected static bounds: numbers, constants and discriminants (4.9)")),
+            _ => Err(self.refuse(
+                place,
+                "expected static bounds: numbers, constants and discriminants (4.9)",
+            )),
         }
     }
 
     /// Begins a loop over a range or the components of an array, with its parameter (5.5, 5.5.2).
     #[cycle(values)]
-    pub fn open_for(&mut self, name: Name, iteration: &'a Iteration, levels: usize) -> Result<Opened, Stop> {
+    pub fn open_for(
+        &mut self,
+        name: Name,
+        iteration: &'a Iteration,
+        levels: usize,
+    ) -> Result<Opened, Stop> {
         match iteration {
             Iteration::In(reversed, range) => {
                 let (low, high, kind) = self.bounds(range, levels)?;
@@ -248,7 +379,13 @@ impl<'a> Lowering<'a> {
     }
 
     /// The slots of a loop's parameter and of its last value.
-    fn open_range(&mut self, name: Name, low: Value, high: Value, reversed: bool) -> Result<Opened, Stop> {
+    fn open_range(
+        &mut self,
+        name: Name,
+        low: Value,
+        high: Value,
+        reversed: bool,
+    ) -> Result<Opened, Stop> {
         let parameter = self.take_slots(name.place, 2)?;
         let last = parameter.saturating_add(1);
         let (first, end) = if reversed { (high, low) } else { (low, high) };
@@ -269,13 +406,22 @@ impl<'a> Lowering<'a> {
         };
         let (low, high) = (part.sub.low, part.sub.high);
         let slot = self.take_slots(name.place, 1)?;
-        let start = if reversed { high.saturating_sub(low).saturating_mul(i128::from(width)) } else { 0 };
+        let start = if reversed {
+            high.saturating_sub(low).saturating_mul(i128::from(width))
+        } else {
+            0
+        };
         let begin = match part.distance {
             Some(distance) => self.sum(distance, Expr::Number(start))?,
             None => Expr::Number(start),
         };
         self.emit(Stmt::Assign(Area::Frame, slot, begin))?;
-        let mut opened = self.open_range(name, fixed_value(index, low), fixed_value(index, high), reversed)?;
+        let mut opened = self.open_range(
+            name,
+            fixed_value(index, low),
+            fixed_value(index, high),
+            reversed,
+        )?;
         opened.distance = Some((slot, width));
         let variable = Variable {
             area: part.area,
@@ -291,17 +437,33 @@ impl<'a> Lowering<'a> {
     /// Ends a loop over a range: its statements are executed for each value.
     pub fn close_for(&mut self, opened: Opened, body: Stmt) -> Result<(), Stop> {
         let step = if opened.reversed { -1 } else { 1 };
-        let (low, high) = if opened.reversed { (opened.last, opened.parameter) } else { (opened.parameter, opened.last) };
+        let (low, high) = if opened.reversed {
+            (opened.last, opened.parameter)
+        } else {
+            (opened.parameter, opened.last)
+        };
         let next = self.sum(slot_cell(opened.parameter), Expr::Number(step))?;
         let mut advance = Stmt::Assign(Area::Frame, opened.parameter, next);
         if let Some((slot, width)) = opened.distance {
-            let width = if opened.reversed { 0 - i128::from(width) } else { i128::from(width) };
+            let width = if opened.reversed {
+                0 - i128::from(width)
+            } else {
+                i128::from(width)
+            };
             let further = self.sum(slot_cell(slot), Expr::Number(width))?;
             let moved = Stmt::Assign(Area::Frame, slot, further);
             advance = Stmt::Then(self.boxed_statement(moved)?, self.boxed_statement(advance)?);
         }
-        let is_last = self.binary(Binary::Equal, slot_cell(opened.parameter), slot_cell(opened.last))?;
-        let turn_end = Stmt::If(is_last, self.boxed_statement(Stmt::Exit(0))?, self.boxed_statement(advance)?);
+        let is_last = self.binary(
+            Binary::Equal,
+            slot_cell(opened.parameter),
+            slot_cell(opened.last),
+        )?;
+        let turn_end = Stmt::If(
+            is_last,
+            self.boxed_statement(Stmt::Exit(0))?,
+            self.boxed_statement(advance)?,
+        );
         let turn = Stmt::Then(self.boxed_statement(body)?, self.boxed_statement(turn_end)?);
         let whole = Stmt::Loop(self.boxed_statement(turn)?);
         let has_turns = self.binary(Binary::AtMost, slot_cell(low), slot_cell(high))?;
@@ -315,11 +477,19 @@ impl<'a> Lowering<'a> {
         let name = match &expression.form {
             Form::Name(name) => *name,
             Form::Selected(_, name) => name.number,
-            _ => return Err(self.refuse(expression.place, "expected the name of an exception (11.3)")),
+            _ => return Err(self.refuse(
+                expression.place,
+                "expected the name of an exception (11.3)",
+            )),
         };
         match self.look_up(name) {
             Some(Meaning::Exception(number)) => Ok(number),
-            Some(_) => Err(self.refuse_name(expression.place, "expected an exception, and ", name, " is none (11.3)")),
+            Some(_) => Err(self.refuse_name(
+                expression.place,
+                "expected an exception, and ",
+                name,
+                " is none (11.3)",
+            )),
             None => Err(self.unknown(expression.place, name)),
         }
     }
@@ -327,7 +497,10 @@ impl<'a> Lowering<'a> {
     /// The number of an exception with a string as its message.
     pub fn with_message(&mut self, exception: u32, message: &'a Expression) -> Result<u32, Stop> {
         let Form::Text(from, to) = message.form else {
-            return Err(self.refuse(message.place, "the message of an exception is a string here (11.3)"));
+            return Err(self.refuse(
+                message.place,
+                "the message of an exception is a string here (11.3)",
+            ));
         };
         let text = self.bytes.get(from..to).unwrap_or(&[]);
         if let Some(number) = decimal(text) {
@@ -339,7 +512,11 @@ impl<'a> Lowering<'a> {
             copy.push(char::from(*byte))?;
         }
         self.messages.push(copy)?;
-        Ok(exception.saturating_add(MESSAGES / 2).saturating_add(position.min(MESSAGES / 2 - 1)))
+        Ok(
+            exception
+                .saturating_add(MESSAGES / 2)
+                .saturating_add(position.min(MESSAGES / 2 - 1)),
+        )
     }
 }
 
@@ -353,7 +530,9 @@ fn decimal(text: &[u8]) -> Option<u32> {
         if !byte.is_ascii_digit() {
             return None;
         }
-        number = number.checked_mul(10)?.checked_add(u32::from(*byte).saturating_sub(48))?;
+        number = number
+            .checked_mul(10)?
+            .checked_add(u32::from(*byte).saturating_sub(48))?;
     }
     Some(number)
 }

@@ -3,10 +3,12 @@
 
 use crate::lowering::{Declared, LEVELS, Lowering};
 use crate::types::{BOOLEAN, Sub};
-use po_ada_names::{Discriminant, Entry, Enumeration, Family, Form, Heading, Mode, ObjectNames, Operation, Parameter, Subtype, Types};
-use po_ada_text::Stop;
-use po_ada_text::tree;
+use po_ada_names::{
+    Discriminant, Entry, Enumeration, Family, Form, Heading, Mode, ObjectNames, Operation,
+    Parameter, Subtype, Types,
+};
 use po_ada_text::tree::{Kind, Name, Protected};
+use po_ada_text::{Stop, tree};
 use std::alloc::AllocError;
 
 /// The types that were named so far, and the numbers of those that are enumerations.
@@ -62,7 +64,12 @@ impl<'a> Lowering<'a> {
     }
 
     /// The number of a subtype in the table.
-    fn subtype_number(&self, table: &mut Table, mark: Option<&tree::Expression>, sub: Sub) -> Result<u16, AllocError> {
+    fn subtype_number(
+        &self,
+        table: &mut Table,
+        mark: Option<&tree::Expression>,
+        sub: Sub,
+    ) -> Result<u16, AllocError> {
         let form = self.form(table, sub.kind)?;
         let name = match mark.map(|found| &found.form) {
             Some(tree::Form::Name(name)) => self.text(*name)?,
@@ -78,13 +85,21 @@ impl<'a> Lowering<'a> {
         Ok(u16::try_from(number).unwrap_or(0))
     }
 
-    fn parameter_names(&self, table: &mut Table, declared: &Declared<'a>) -> Result<Vec<Parameter>, AllocError> {
+    fn parameter_names(
+        &self,
+        table: &mut Table,
+        declared: &Declared<'a>,
+    ) -> Result<Vec<Parameter>, AllocError> {
         let mut list = Vec::new(self.alloc);
         let mut position = 0usize;
         for group in declared.profile.parameters.iter() {
             for _ in group.variables.names.iter() {
                 if let Some(parameter) = declared.parameters.get(position) {
-                    let subtype = self.subtype_number(table, Some(&group.variables.subtype.mark), parameter.sub)?;
+                    let subtype = self.subtype_number(
+                        table,
+                        Some(&group.variables.subtype.mark),
+                        parameter.sub,
+                    )?;
                     list.push(Parameter {
                         name: self.text(parameter.name)?,
                         mode: mode_of(parameter.mode),
@@ -98,9 +113,17 @@ impl<'a> Lowering<'a> {
         Ok(list)
     }
 
-    fn operation_names(&self, table: &mut Table, declared: &Declared<'a>) -> Result<Operation, AllocError> {
+    fn operation_names(
+        &self,
+        table: &mut Table,
+        declared: &Declared<'a>,
+    ) -> Result<Operation, AllocError> {
         let parameters = self.parameter_names(table, declared)?;
-        let mark = declared.profile.returns.as_ref().map(|subtype| &subtype.mark);
+        let mark = declared
+            .profile
+            .returns
+            .as_ref()
+            .map(|subtype| &subtype.mark);
         let result = match declared.returns {
             Some(sub) => Some(self.subtype_number(table, mark, sub)?),
             None => None,
@@ -155,8 +178,12 @@ pub fn object_names(lowering: &Lowering<'_>, unit: Name) -> Result<ObjectNames, 
     for declared in lowering.operations.iter() {
         match declared.profile.kind {
             Kind::Entry => entries.push(lowering.entry_names(&mut table, declared)?)?,
-            Kind::Procedure if declared.public => procedures.push(lowering.operation_names(&mut table, declared)?)?,
-            Kind::Function if declared.public => functions.push(lowering.operation_names(&mut table, declared)?)?,
+            Kind::Procedure if declared.public => procedures.push(lowering.operation_names(
+                &mut table, declared,
+            )?)?,
+            Kind::Function if declared.public => functions.push(lowering.operation_names(
+                &mut table, declared,
+            )?)?,
             _ => {}
         }
     }
@@ -181,7 +208,7 @@ pub fn object_names(lowering: &Lowering<'_>, unit: Name) -> Result<ObjectNames, 
 }
 
 /// The unit's name and its discriminants.
-pub fn heading<'a>(lowering: &mut Lowering<'a>, unit: &'a Protected) -> Result<Heading, Stop> {
+pub fn heading_names<'a>(lowering: &mut Lowering<'a>, unit: &'a Protected) -> Result<Heading, Stop> {
     let mut table = lowering.table();
     let mut discriminants = Vec::new(lowering.alloc);
     for variables in unit.discriminants.iter() {

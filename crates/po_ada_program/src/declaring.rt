@@ -3,19 +3,28 @@
 
 use crate::lowering::{LEVELS, Lowering};
 use crate::types::{
-    BOOLEAN, Field, GREATEST, INTEGER, Kind, LEAST, Meaning, Structure, Sub, Variable,
-    base_range,
+    BOOLEAN, Field, GREATEST, INTEGER, Kind, LEAST, Meaning, Structure, Sub, Variable, base_range,
 };
 use crate::values::Part;
 use po_ada_text::Stop;
-use po_ada_text::tree::{ArrayIndex, Choice, Constraint, Declaration, Expression, Form, Name, Subtype, TypeForm, Variables};
-use po_program::{Area, ASSERTION_ERROR, CONSTRAINT_ERROR, FIRST_DECLARED, MESSAGES, PROGRAM_ERROR, STORAGE_ERROR, TASKING_ERROR};
+use po_ada_text::tree::{
+    ArrayIndex, Choice, Constraint, Declaration, Expression, Form, Name, Subtype, TypeForm,
+    Variables,
+};
+use po_program::{
+    ASSERTION_ERROR, Area, CONSTRAINT_ERROR, FIRST_DECLARED, MESSAGES, PROGRAM_ERROR,
+    STORAGE_ERROR, TASKING_ERROR,
+};
 
 impl<'a> Lowering<'a> {
     /// Adds a type, and returns its number.
     fn add_kind(&mut self, name: u32, width: u16, structure: Structure<'a>) -> Result<usize, Stop> {
         let number = self.kinds.len();
-        self.kinds.push(Kind { name, width, structure })?;
+        self.kinds.push(Kind {
+            name,
+            width,
+            structure,
+        })?;
         Ok(number)
     }
 
@@ -29,7 +38,13 @@ impl<'a> Lowering<'a> {
     }
 
     /// A predefined type.
-    fn predefined_type(&mut self, text: &str, structure: Structure<'a>, low: i128, high: i128) -> Result<(), Stop> {
+    fn predefined_type(
+        &mut self,
+        text: &str,
+        structure: Structure<'a>,
+        low: i128,
+        high: i128,
+    ) -> Result<(), Stop> {
         let kind = self.kinds.len();
         let name = self.predefine(text, Meaning::Type(Sub { kind, low, high }))?;
         self.add_kind(name, 1, structure)?;
@@ -42,18 +57,70 @@ impl<'a> Lowering<'a> {
         self.predefined_type("universal_integer", Structure::Universal, LEAST, GREATEST)?;
         self.predefined_type("boolean", Structure::Enumeration(1), 0, 1)?;
         self.predefined_type("integer", Structure::Integer(low, high), low, high)?;
-        self.predefined_type("long_integer", Structure::Integer(LEAST, GREATEST), LEAST, GREATEST)?;
+        self.predefined_type(
+            "long_integer",
+            Structure::Integer(LEAST, GREATEST),
+            LEAST,
+            GREATEST,
+        )?;
         self.predefined_type("character", Structure::Enumeration(255), 0, 255)?;
-        self.predefined_type("value", Structure::Modular(18_446_744_073_709_551_616), 0, 18_446_744_073_709_551_615)?;
-        self.predefined_type("long_long_integer", Structure::Integer(LEAST, GREATEST), LEAST, GREATEST)?;
-        self.predefined_type("short_integer", Structure::Integer(-32_768, 32_767), -32_768, 32_767)?;
-        self.predefine("natural", Meaning::Type(Sub { kind: INTEGER, low: 0, high }))?;
-        self.predefine("positive", Meaning::Type(Sub { kind: INTEGER, low: 1, high }))?;
-        self.predefine("priority", Meaning::Type(Sub { kind: INTEGER, low: 0, high: 97 }))?;
+        self.predefined_type(
+            "value",
+            Structure::Modular(18_446_744_073_709_551_616),
+            0,
+            18_446_744_073_709_551_615,
+        )?;
+        self.predefined_type(
+            "long_long_integer",
+            Structure::Integer(LEAST, GREATEST),
+            LEAST,
+            GREATEST,
+        )?;
+        self.predefined_type(
+            "short_integer",
+            Structure::Integer(-32_768, 32_767),
+            -32_768,
+            32_767,
+        )?;
+        self.predefine(
+            "natural",
+            Meaning::Type(Sub {
+                kind: INTEGER,
+                low: 0,
+                high,
+            }),
+        )?;
+        self.predefine(
+            "positive",
+            Meaning::Type(Sub {
+                kind: INTEGER,
+                low: 1,
+                high,
+            }),
+        )?;
+        self.predefine(
+            "priority",
+            Meaning::Type(Sub {
+                kind: INTEGER,
+                low: 0,
+                high: 97,
+            }),
+        )?;
         self.predefine("false", Meaning::Number(0, BOOLEAN))?;
         self.predefine("true", Meaning::Number(1, BOOLEAN))?;
         for text in ["standard", "system", "ada", "interfaces"] {
             self.predefine(text, Meaning::Package)?;
+        }
+        for text in [
+            "string",
+            "float",
+            "long_float",
+            "duration",
+            "time",
+            "unbounded_string",
+            "task_id",
+        ] {
+            self.predefine(text, Meaning::Unread)?;
         }
         self.predefine("constraint_error", Meaning::Exception(CONSTRAINT_ERROR))?;
         self.predefine("program_error", Meaning::Exception(PROGRAM_ERROR))?;
@@ -84,7 +151,9 @@ impl<'a> Lowering<'a> {
         match declaration {
             Declaration::Type(name, _) | Declaration::Subtype(name, _) => self.faulty_name(*name),
             Declaration::Variables(variables) => self.faulty_names(variables.names.as_slice()),
-            Declaration::Numbers(names, _) | Declaration::Exceptions(names) => self.faulty_names(names.as_slice()),
+            Declaration::Numbers(names, _) | Declaration::Exceptions(names) => self.faulty_names(
+                names.as_slice(),
+            ),
             Declaration::Pragma(_) => Ok(()),
         }
     }
@@ -164,8 +233,15 @@ impl<'a> Lowering<'a> {
             Some(kind) => matches!(kind.structure, Structure::Array(_, _, true, _)),
             None => false,
         };
-        if is_open && sub.high < sub.low && matches!(variables.subtype.constraint, Constraint::Absent) && !self.is_bounded(&variables.subtype.mark) {
-            return Err(self.refuse(variables.subtype.mark.place, "this array needs bounds in parentheses (3.6.1)"));
+        if is_open
+            && sub.high < sub.low
+            && matches!(variables.subtype.constraint, Constraint::Absent)
+            && !self.is_bounded(&variables.subtype.mark)
+        {
+            return Err(self.refuse(
+                variables.subtype.mark.place,
+                "this array needs bounds in parentheses (3.6.1)",
+            ));
         }
         Ok(sub)
     }
@@ -182,7 +258,12 @@ impl<'a> Lowering<'a> {
     }
 
     /// A constant with a static value is a number. Says whether it is one.
-    fn constant(&mut self, name: Name, sub: Sub, value: &'a Option<Expression>) -> Result<bool, Stop> {
+    fn constant(
+        &mut self,
+        name: Name,
+        sub: Sub,
+        value: &'a Option<Expression>,
+    ) -> Result<bool, Stop> {
         let Some(expression) = value else {
             return Err(self.refuse(name.place, "a constant needs a value here (3.3.1)"));
         };
@@ -206,7 +287,13 @@ impl<'a> Lowering<'a> {
         Ok(true)
     }
 
-    fn new_variable(&mut self, name: Name, sub: Sub, constant: bool, in_frame: bool) -> Result<Variable, Stop> {
+    fn new_variable(
+        &mut self,
+        name: Name,
+        sub: Sub,
+        constant: bool,
+        in_frame: bool,
+    ) -> Result<Variable, Stop> {
         let width = self.width(sub);
         let (area, first) = if in_frame {
             (Area::Frame, self.take_slots(name.place, width)?)
@@ -230,13 +317,25 @@ impl<'a> Lowering<'a> {
             Constraint::Range(range) => {
                 let found = self.static_range(range, LEVELS)?;
                 self.unify(subtype.mark.place, sub.kind, found.kind)?;
-                Ok(Sub { kind: sub.kind, ..found })
+                Ok(Sub {
+                    kind: sub.kind,
+                    ..found
+                })
             }
-            Constraint::Index(list) => self.index_constraint(subtype.mark.place, sub, list.as_slice()),
+            Constraint::Index(list) => self.index_constraint(
+                subtype.mark.place,
+                sub,
+                list.as_slice(),
+            ),
         }
     }
 
-    fn index_constraint(&mut self, place: usize, sub: Sub, list: &'a [Choice]) -> Result<Sub, Stop> {
+    fn index_constraint(
+        &mut self,
+        place: usize,
+        sub: Sub,
+        list: &'a [Choice],
+    ) -> Result<Sub, Stop> {
         let index = match self.kinds.get(sub.kind) {
             Some(kind) => match kind.structure {
                 Structure::Array(index, _, true, _) => Some(index),
@@ -245,7 +344,10 @@ impl<'a> Lowering<'a> {
             None => None,
         };
         let (Some(index), Some(choice)) = (index, list.first()) else {
-            return Err(self.refuse(place, "an index constraint comes after an array type with 'range <>' (3.6.1)"));
+            return Err(self.refuse(
+                place,
+                "an index constraint comes after an array type with 'range <>' (3.6.1)",
+            ));
         };
         if list.len() != 1 {
             return Err(self.refuse(place, "an open array has one index here (3.6)"));
@@ -276,7 +378,12 @@ impl<'a> Lowering<'a> {
         }
     }
 
-    fn integer_type(&mut self, name: Name, low: &'a Expression, high: &'a Expression) -> Result<(), Stop> {
+    fn integer_type(
+        &mut self,
+        name: Name,
+        low: &'a Expression,
+        high: &'a Expression,
+    ) -> Result<(), Stop> {
         let (first, _) = self.fixed(low, LEVELS)?;
         let (last, _) = self.fixed(high, LEVELS)?;
         if first < LEAST || last > GREATEST {
@@ -284,7 +391,14 @@ impl<'a> Lowering<'a> {
         }
         let (least, greatest) = base_range(first, last);
         let kind = self.add_kind(name.number, 1, Structure::Integer(least, greatest))?;
-        self.define(name, Meaning::Type(Sub { kind, low: first, high: last }))
+        self.define(
+            name,
+            Meaning::Type(Sub {
+                kind,
+                low: first,
+                high: last,
+            }),
+        )
     }
 
     fn modular_type(&mut self, name: Name, modulus: &'a Expression) -> Result<(), Stop> {
@@ -292,7 +406,11 @@ impl<'a> Lowering<'a> {
         if !(1..=18_446_744_073_709_551_616).contains(&number) {
             return Err(self.refuse(modulus.place, "a modulus is from 1 to 2 ** 64 here (3.5.4)"));
         }
-        let kind = self.add_kind(name.number, 1, Structure::Modular(u128::try_from(number).unwrap_or(1)))?;
+        let kind = self.add_kind(
+            name.number,
+            1,
+            Structure::Modular(u128::try_from(number).unwrap_or(1)),
+        )?;
         let high = number.saturating_sub(1);
         self.define(name, Meaning::Type(Sub { kind, low: 0, high }))
     }
@@ -302,7 +420,10 @@ impl<'a> Lowering<'a> {
         let mut position = 0i128;
         for literal in literals {
             if let Some(Meaning::Number(_, _)) = self.look_up(literal.number) {
-                return Err(self.refuse(literal.place, "two literals of one name aren't in this subset: rename one (3.5.1)"));
+                return Err(self.refuse(
+                    literal.place,
+                    "two literals of one name aren't in this subset: rename one (3.5.1)",
+                ));
             }
             self.define(*literal, Meaning::Number(position, kind))?;
             self.literals.push((literal.number, kind))?;
@@ -325,14 +446,22 @@ impl<'a> Lowering<'a> {
             None => None,
         };
         let Some(structure) = structure else {
-            return Err(self.refuse(parent.mark.place, "a derived type has an integer type as its parent here (3.4)"));
+            return Err(self.refuse(
+                parent.mark.place,
+                "a derived type has an integer type as its parent here (3.4)",
+            ));
         };
         let kind = self.add_kind(name.number, 1, structure)?;
         self.define(name, Meaning::Type(Sub { kind, ..sub }))
     }
 
     /// An array type: one with two indices is an array of arrays (3.6).
-    fn array_type(&mut self, name: Name, indices: &'a [ArrayIndex], element: &'a Subtype) -> Result<(), Stop> {
+    fn array_type(
+        &mut self,
+        name: Name,
+        indices: &'a [ArrayIndex],
+        element: &'a Subtype,
+    ) -> Result<(), Stop> {
         if indices.len() > 4 {
             return Err(self.refuse(name.place, "an array has at most 4 indices here (3.6)"));
         }
@@ -346,18 +475,36 @@ impl<'a> Lowering<'a> {
         self.define(name, Meaning::Type(sub))
     }
 
-    fn array_kind(&mut self, name: Name, index: &'a ArrayIndex, element: Sub, dimensions: usize, all: usize) -> Result<Sub, Stop> {
+    fn array_kind(
+        &mut self,
+        name: Name,
+        index: &'a ArrayIndex,
+        element: Sub,
+        dimensions: usize,
+        all: usize,
+    ) -> Result<Sub, Stop> {
         let width = self.width(element);
         let (range, open) = match index {
             ArrayIndex::Constrained(choice) => (self.static_range(choice, LEVELS)?, false),
             ArrayIndex::Open(mark) => (self.subtype_mark(mark)?, true),
         };
         if open && all > 1 {
-            return Err(self.refuse(name.place, "an array with 'range <>' has one index here (3.6)"));
+            return Err(self.refuse(
+                name.place,
+                "an array with 'range <>' has one index here (3.6)",
+            ));
         }
-        let kind = self.add_kind(name.number, width, Structure::Array(range.kind, dimensions, open, element))?;
+        let kind = self.add_kind(
+            name.number,
+            width,
+            Structure::Array(range.kind, dimensions, open, element),
+        )?;
         if open {
-            return Ok(Sub { kind, low: 1, high: 0 });
+            return Ok(Sub {
+                kind,
+                low: 1,
+                high: 0,
+            });
         }
         let sub = Sub {
             kind,
@@ -390,6 +537,13 @@ impl<'a> Lowering<'a> {
             return Err(self.refuse(name.place, "a record takes at most 16,384 cells"));
         }
         let kind = self.add_kind(name.number, first, Structure::Record(fields))?;
-        self.define(name, Meaning::Type(Sub { kind, low: 0, high: -1 }))
+        self.define(
+            name,
+            Meaning::Type(Sub {
+                kind,
+                low: 0,
+                high: -1,
+            }),
+        )
     }
 }

@@ -8,12 +8,20 @@ use po_program::Base;
 pub fn within(base: Base, number: i128) -> Option<i128> {
     match base {
         Base::Signed(range) => {
-            if range.low <= number && number <= range.high { Some(number) } else { None }
+            if range.low <= number && number <= range.high {
+                Some(number)
+            } else {
+                None
+            }
         }
         Base::Modular(modulus) => {
             let modulus = i128::try_from(modulus).ok()?;
             let rest = number.checked_rem(modulus)?;
-            if rest < 0 { rest.checked_add(modulus) } else { Some(rest) }
+            if rest < 0 {
+                rest.checked_add(modulus)
+            } else {
+                Some(rest)
+            }
         }
     }
 }
@@ -21,7 +29,11 @@ pub fn within(base: Base, number: i128) -> Option<i128> {
 /// `left mod right` (4.5.5).
 fn modulo(left: i128, right: i128) -> Option<i128> {
     let rest = left.checked_rem(right)?;
-    if rest != 0 && (rest < 0) != (right < 0) { rest.checked_add(right) } else { Some(rest) }
+    if rest != 0 && (rest < 0) != (right < 0) {
+        rest.checked_add(right)
+    } else {
+        Some(rest)
+    }
 }
 
 /// `left ** right`; none if it needs more than 128 bits, or the exponent is negative.
@@ -55,7 +67,9 @@ fn logical(operator: Infix, left: i128, right: i128) -> Option<i128> {
 /// The value of an operator at static operands; none if it has none, or it isn't in 128 bits.
 pub fn folded(operator: Infix, left: i128, right: i128) -> Option<i128> {
     match operator {
-        Infix::And | Infix::AndThen | Infix::Or | Infix::OrElse | Infix::Xor => logical(operator, left, right),
+        Infix::And | Infix::AndThen | Infix::Or | Infix::OrElse | Infix::Xor => logical(
+            operator, left, right,
+        ),
         Infix::Equal => Some(truth(left == right)),
         Infix::Unequal => Some(truth(left != right)),
         Infix::Less => Some(truth(left < right)),

@@ -16,6 +16,14 @@ struct Filled {
     value: Given,
 }
 
+/// A variable whose distance from its first cell doesn't change any more: it is in a slot.
+#[derive(Clone, Copy, Debug)]
+pub struct Steady {
+    area: Area,
+    first: u16,
+    slot: Option<u16>,
+}
+
 #[derive(Clone, Copy, Debug)]
 enum Given {
     Number(i128),
@@ -31,7 +39,12 @@ fn given_code(value: Given) -> Expr {
 
 impl<'a> Lowering<'a> {
     /// A variable gets the value of an expression.
-    pub fn give(&mut self, part: Part, expression: &'a Expression, levels: usize) -> Result<(), Stop> {
+    pub fn give(
+        &mut self,
+        part: Part,
+        expression: &'a Expression,
+        levels: usize,
+    ) -> Result<(), Stop> {
         if self.is_discrete(part.sub.kind) {
             let value = self.value(expression, levels)?;
             let code = self.fit(expression.place, value, part.sub)?;
@@ -44,27 +57,40 @@ impl<'a> Lowering<'a> {
         }
         match self.denoted(expression, levels)? {
             Denoted::Part(from) => self.copy(expression.place, part, from),
-            _ => Err(self.refuse(expression.place, "expected a variable or an aggregate (5.2)")),
+            _ => Err(self.refuse(
+                expression.place,
+                "expected a variable or an aggregate (5.2)",
+            )),
         }
     }
 
     /// The distance of a part is in a slot from here on, so that it may be used more than once.
-    fn steady(&mut self, place: usize, part: Part) -> Result<(Area, u16, Option<u16>), Stop> {
+    pub fn steady(&mut self, place: usize, part: Part) -> Result<Steady, Stop> {
+        let (area, first) = (part.area, part.first);
         match part.distance {
-            None => Ok((part.area, part.first, None)),
+            None => Ok(Steady {
+                area,
+                first,
+                slot: None,
+            }),
             Some(distance) => {
                 let slot = self.take_slots(place, 1)?;
                 self.emit(Stmt::Assign(Area::Frame, slot, distance))?;
-                Ok((part.area, part.first, Some(slot)))
+                Ok(Steady {
+                    area,
+                    first,
+                    slot: Some(slot),
+                })
             }
         }
     }
 
-    fn put_at(&mut self, (area, first, slot): (Area, u16, Option<u16>), offset: u16, value: Expr) -> Result<(), Stop> {
-        let cell = first.saturating_add(offset);
-        match slot {
-            None => self.emit(Stmt::Assign(area, cell, value)),
-            Some(slot) => self.emit(Stmt::AssignAt(area, cell, slot_cell(slot), value)),
+    /// A cell of a variable gets a value.
+    pub fn put_at(&mut self, target: Steady, offset: u16, value: Expr) -> Result<(), Stop> {
+        let cell = target.first.saturating_add(offset);
+        match target.slot {
+            None => self.emit(Stmt::Assign(target.area, cell, value)),
+            Some(slot) => self.emit(Stmt::AssignAt(target.area, cell, slot_cell(slot), value)),
         }
     }
 
@@ -72,7 +98,10 @@ impl<'a> Lowering<'a> {
     fn copy(&mut self, place: usize, part: Part, from: Part) -> Result<(), Stop> {
         let width = self.width(part.sub);
         if part.sub.kind != from.sub.kind || width != self.width(from.sub) {
-            return Err(self.refuse(place, "the variables are of different types or lengths (5.2)"));
+            return Err(self.refuse(
+                place,
+                "the variables are of different types or lengths (5.2)",
+            ));
         }
         if width > 64 {
             return self.copy_loop(place, part, from, width);
@@ -80,10 +109,10 @@ impl<'a> Lowering<'a> {
         let source = self.steady(place, from)?;
         let target = self.steady(place, part)?;
         for offset in 0..width {
-            let cell = source.1.saturating_add(offset);
-            let value = match source.2 {
-                None => Expr::Cell(source.0, cell),
-                Some(slot) => Expr::CellAt(source.0, cell, self.boxed(slot_cell(slot))?),
+            let cell = source.first.saturating_add(offset);
+            let value = match source.slot {
+                None => Expr::Cell(source.area, cell),
+                Some(slot) => Expr::CellAt(source.area, cell, self.boxed(slot_cell(slot))?),
             };
             self.put_at(target, offset, value)?;
         }
@@ -95,8 +124,16 @@ impl<'a> Lowering<'a> {
         let first = self.take_slots(place, 3)?;
         let (counter, source, target) = (first, first.saturating_add(1), first.saturating_add(2));
         let (from_area, from_first) = (from.area, from.first);
-        self.emit(Stmt::Assign(Area::Frame, source, from.distance.unwrap_or(Expr::Number(0))))?;
-        self.emit(Stmt::Assign(Area::Frame, target, part.distance.unwrap_or(Expr::Number(0))))?;
+        self.emit(Stmt::Assign(
+            Area::Frame,
+            source,
+            from.distance.unwrap_or(Expr::Number(0)),
+        ))?;
+        self.emit(Stmt::Assign(
+            Area::Frame,
+            target,
+            part.distance.unwrap_or(Expr::Number(0)),
+        ))?;
         let read_at = self.sum(slot_cell(source), slot_cell(counter))?;
         let read = Expr::CellAt(from_area, from_first, self.boxed(read_at)?);
         let write_at = self.sum(slot_cell(target), slot_cell(counter))?;
@@ -109,9 +146,17 @@ impl<'a> Lowering<'a> {
         self.emit(Stmt::Assign(Area::Frame, counter, Expr::Number(0)))?;
         let next = self.sum(slot_cell(counter), Expr::Number(1))?;
         let advance = Stmt::Assign(Area::Frame, counter, next);
-        let test = self.binary(po_program::Binary::Less, slot_cell(counter), Expr::Number(i128::from(width)))?;
+        let test = self.binary(
+            po_program::Binary::Less,
+            slot_cell(counter),
+            Expr::Number(i128::from(width)),
+        )?;
         let both = Stmt::Then(self.boxed_statement(body)?, self.boxed_statement(advance)?);
-        let turn = Stmt::If(test, self.boxed_statement(both)?, self.boxed_statement(Stmt::Exit(0))?);
+        let turn = Stmt::If(
+            test,
+            self.boxed_statement(both)?,
+            self.boxed_statement(Stmt::Exit(0))?,
+        );
         let turn = self.boxed_statement(turn)?;
         self.emit(Stmt::Loop(turn))
     }
@@ -124,32 +169,51 @@ impl<'a> Lowering<'a> {
                 self.fill_loop(target, filled)?;
             } else {
                 for offset in 0..filled.count {
-                    self.put_at(target, filled.first.saturating_add(offset), given_code(filled.value))?;
+                    self.put_at(
+                        target,
+                        filled.first.saturating_add(offset),
+                        given_code(filled.value),
+                    )?;
                 }
             }
         }
         Ok(())
     }
 
-    fn fill_loop(&mut self, (area, first, slot): (Area, u16, Option<u16>), filled: Filled) -> Result<(), Stop> {
+    fn fill_loop(&mut self, target: Steady, filled: Filled) -> Result<(), Stop> {
         let counter = self.take_slots(0, 1)?;
-        let distance = match slot {
+        let distance = match target.slot {
             None => slot_cell(counter),
             Some(slot) => self.sum(slot_cell(slot), slot_cell(counter))?,
         };
-        let body = Stmt::AssignAt(area, first.saturating_add(filled.first), distance, given_code(filled.value));
+        let body = Stmt::AssignAt(
+            target.area,
+            target.first.saturating_add(filled.first),
+            distance,
+            given_code(filled.value),
+        );
         self.count_loop(counter, filled.count, body)
     }
 
     /// The values of an aggregate's components, which are evaluated here (4.3).
     #[cycle(aggregates)]
-    fn aggregate(&mut self, sub: Sub, first: u16, expression: &'a Expression, list: &mut Vec<Filled>, levels: usize) -> Result<(), Stop> {
+    fn aggregate(
+        &mut self,
+        sub: Sub,
+        first: u16,
+        expression: &'a Expression,
+        list: &mut Vec<Filled>,
+        levels: usize,
+    ) -> Result<(), Stop> {
         let place = expression.place;
         if levels == 0 {
             return Err(self.refuse(place, "nested deeper than 100"));
         }
         if list.len() > 4_096 {
-            return Err(self.refuse(place, "an aggregate has at most 4,096 values here: take 'others', or a loop"));
+            return Err(self.refuse(
+                place,
+                "an aggregate has at most 4,096 values here: take 'others', or a loop",
+            ));
         }
         if self.is_discrete(sub.kind) {
             let value = self.value(expression, levels - 1)?;
@@ -157,13 +221,30 @@ impl<'a> Lowering<'a> {
         }
         match &expression.form {
             Form::Qualified(_, operand) => self.aggregate(sub, first, operand, list, levels - 1),
-            Form::Aggregate(associations) => self.composite(place, sub, first, associations.as_slice(), list, levels - 1),
-            _ => Err(self.refuse(place, "in an aggregate an array or a record is an aggregate itself here (4.3)")),
+            Form::Aggregate(associations) => self.composite(
+                place,
+                sub,
+                first,
+                associations.as_slice(),
+                list,
+                levels - 1,
+            ),
+            _ => Err(self.refuse(
+                place,
+                "in an aggregate an array or a record is an aggregate itself here (4.3)",
+            )),
         }
     }
 
     /// A value of a discrete type: a number, or in a slot.
-    fn scalar(&mut self, place: usize, sub: Sub, first: u16, value: crate::values::Value, list: &mut Vec<Filled>) -> Result<(), Stop> {
+    fn scalar(
+        &mut self,
+        place: usize,
+        sub: Sub,
+        first: u16,
+        value: crate::values::Value,
+        list: &mut Vec<Filled>,
+    ) -> Result<(), Stop> {
         let fixed = value.fixed;
         let code = self.fit(place, value, sub)?;
         let value = match fixed {
@@ -174,39 +255,84 @@ impl<'a> Lowering<'a> {
                 Given::Slot(slot)
             }
         };
-        list.push(Filled { first, count: 1, value })?;
+        list.push(Filled {
+            first,
+            count: 1,
+            value,
+        })?;
         Ok(())
     }
 
     /// An aggregate of an array or a record.
     #[cycle(aggregates)]
-    fn composite(&mut self, place: usize, sub: Sub, first: u16, associations: &'a [Association], list: &mut Vec<Filled>, levels: usize) -> Result<(), Stop> {
+    fn composite(
+        &mut self,
+        place: usize,
+        sub: Sub,
+        first: u16,
+        associations: &'a [Association],
+        list: &mut Vec<Filled>,
+        levels: usize,
+    ) -> Result<(), Stop> {
         match self.array_parts(sub) {
-            Some((index, element, width)) => self.array_aggregate(place, sub, (index, element, width), first, associations, list, levels),
+            Some((index, element, width)) => self.array_aggregate(
+                place,
+                sub,
+                (index, element, width),
+                first,
+                associations,
+                list,
+                levels,
+            ),
             None => self.record_aggregate(place, sub, first, associations, list, levels),
         }
     }
 
     /// An aggregate of a record (4.3.1).
     #[cycle(aggregates)]
-    fn record_aggregate(&mut self, place: usize, sub: Sub, first: u16, associations: &'a [Association], list: &mut Vec<Filled>, levels: usize) -> Result<(), Stop> {
+    fn record_aggregate(
+        &mut self,
+        place: usize,
+        sub: Sub,
+        first: u16,
+        associations: &'a [Association],
+        list: &mut Vec<Filled>,
+        levels: usize,
+    ) -> Result<(), Stop> {
         let count = self.field_count(sub);
         for position in 0..count {
             let Some((name, part, offset)) = self.field(sub, position) else {
                 break;
             };
             let Some(found) = component_value(associations, position, name) else {
-                return Err(self.refuse_name(place, "the component ", name, " has no value (4.3.1)"));
+                return Err(self.refuse_name(
+                    place,
+                    "the component ",
+                    name,
+                    " has no value (4.3.1)",
+                ));
             };
-            self.aggregate(part, first.saturating_add(offset), &found.value, list, levels)?;
+            self.aggregate(
+                part,
+                first.saturating_add(offset),
+                &found.value,
+                list,
+                levels,
+            )?;
         }
         for association in associations {
             if association.choices.is_empty() && associations.len() > count {
-                return Err(self.refuse(association.place, "the record has fewer components (4.3.1)"));
+                return Err(self.refuse(
+                    association.place,
+                    "the record has fewer components (4.3.1)",
+                ));
             }
             for choice in association.choices.iter() {
                 if !self.is_component(sub, choice) {
-                    return Err(self.refuse(association.place, "the record has no such component (4.3.1)"));
+                    return Err(self.refuse(
+                        association.place,
+                        "the record has no such component (4.3.1)",
+                    ));
                 }
             }
         }
@@ -226,7 +352,9 @@ impl<'a> Lowering<'a> {
     /// The name, subtype and offset of a record's component.
     pub fn field(&self, sub: Sub, position: usize) -> Option<(u32, Sub, u16)> {
         match &self.kinds.get(sub.kind)?.structure {
-            Structure::Record(fields) => fields.get(position).map(|field| (field.name, field.sub, field.first)),
+            Structure::Record(fields) => fields
+                .get(position)
+                .map(|field| (field.name, field.sub, field.first)),
             _ => None,
         }
     }
@@ -272,29 +400,62 @@ impl<'a> Lowering<'a> {
             if association.choices.is_empty() {
                 let range = self.element_position(sub, association, next)?;
                 next = next.saturating_add(1);
-                self.place_elements(association.place, &mut taken, range, false, (first, width), inner.as_slice(), list)?;
+                self.place_elements(
+                    association.place,
+                    &mut taken,
+                    range,
+                    false,
+                    (first, width),
+                    inner.as_slice(),
+                    list,
+                )?;
             }
             for choice in association.choices.iter() {
                 let range = self.element_range(sub, index, choice, levels)?;
-                self.place_elements(association.place, &mut taken, range, is_others(choice), (first, width), inner.as_slice(), list)?;
+                self.place_elements(
+                    association.place,
+                    &mut taken,
+                    range,
+                    is_others(choice),
+                    (first, width),
+                    inner.as_slice(),
+                    list,
+                )?;
             }
         }
         if taken.iter().any(|found| !*found) {
-            return Err(self.refuse(place, "the aggregate has a value for each component, or 'others' (4.3.3)"));
+            return Err(self.refuse(
+                place,
+                "the aggregate has a value for each component, or 'others' (4.3.3)",
+            ));
         }
         Ok(())
     }
 
     /// The position of the next component.
-    fn element_position(&mut self, sub: Sub, association: &'a Association, next: usize) -> Result<(usize, usize), Stop> {
+    fn element_position(
+        &mut self,
+        sub: Sub,
+        association: &'a Association,
+        next: usize,
+    ) -> Result<(usize, usize), Stop> {
         if next >= usize::from(crate::types::count(sub)) {
-            return Err(self.refuse(association.place, "the aggregate has more values than the array has components (4.3.3)"));
+            return Err(self.refuse(
+                association.place,
+                "the aggregate has more values than the array has components (4.3.3)",
+            ));
         }
         Ok((next, next.saturating_add(1)))
     }
 
     /// The positions of components that a choice names: from the first one to before the last one.
-    fn element_range(&mut self, sub: Sub, index: usize, choice: &'a Choice, levels: usize) -> Result<(usize, usize), Stop> {
+    fn element_range(
+        &mut self,
+        sub: Sub,
+        index: usize,
+        choice: &'a Choice,
+        levels: usize,
+    ) -> Result<(usize, usize), Stop> {
         let count = usize::from(crate::types::count(sub));
         if is_others(choice) {
             return Ok((0, count));
@@ -302,10 +463,15 @@ impl<'a> Lowering<'a> {
         let range = self.choice_range(choice, index, levels)?;
         if range.low < sub.low || range.high > sub.high {
             let place = crate::values::choice_place(choice);
-            return Err(self.refuse(place, "this index isn't in the array's range: Constraint_Error (4.3.3)"));
+            return Err(self.refuse(
+                place,
+                "this index isn't in the array's range: Constraint_Error (4.3.3)",
+            ));
         }
         let low = usize::try_from(range.low.saturating_sub(sub.low)).unwrap_or(count);
-        let high = usize::try_from(range.high.saturating_sub(sub.low).saturating_add(1)).unwrap_or(count);
+        let high = usize::try_from(range.high.saturating_sub(sub.low).saturating_add(1)).unwrap_or(
+            count,
+        );
         Ok((low, high))
     }
 
@@ -331,12 +497,23 @@ impl<'a> Lowering<'a> {
                 return Err(self.refuse(place, "a component has two values (4.3.3)"));
             }
             *found = true;
-            let start = first.saturating_add(u16::try_from(position).unwrap_or(0).saturating_mul(width));
+            let start = first.saturating_add(
+                u16::try_from(position).unwrap_or(0).saturating_mul(width),
+            );
             for filled in inner {
-                append(list, Filled { first: start.saturating_add(filled.first), ..*filled })?;
+                append(
+                    list,
+                    Filled {
+                        first: start.saturating_add(filled.first),
+                        ..*filled
+                    },
+                )?;
             }
             if list.len() > 4_096 {
-                return Err(self.refuse(place, "an aggregate has at most 4,096 values here: take 'others', or a loop"));
+                return Err(self.refuse(
+                    place,
+                    "an aggregate has at most 4,096 values here: take 'others', or a loop",
+                ));
             }
         }
         Ok(())
@@ -350,12 +527,22 @@ impl<'a> Lowering<'a> {
     }
 
     #[cycle(firsts)]
-    fn first_values(&mut self, sub: Sub, first: u16, list: &mut Vec<Filled>, levels: usize) -> Result<(), Stop> {
+    fn first_values(
+        &mut self,
+        sub: Sub,
+        first: u16,
+        list: &mut Vec<Filled>,
+        levels: usize,
+    ) -> Result<(), Stop> {
         if levels == 0 {
             return Ok(());
         }
         if self.is_discrete(sub.kind) {
-            list.push(Filled { first, count: 1, value: Given::Number(first_value(sub)) })?;
+            list.push(Filled {
+                first,
+                count: 1,
+                value: Given::Number(first_value(sub)),
+            })?;
             return Ok(());
         }
         let Some((_, element, width)) = self.array_parts(sub) else {
@@ -368,11 +555,25 @@ impl<'a> Lowering<'a> {
             taken.push(false)?;
         }
         let count = taken.len();
-        self.place_elements(0, &mut taken, (0, count), false, (first, width), inner.as_slice(), list)
+        self.place_elements(
+            0,
+            &mut taken,
+            (0, count),
+            false,
+            (first, width),
+            inner.as_slice(),
+            list,
+        )
     }
 
     #[cycle(firsts)]
-    fn first_fields(&mut self, sub: Sub, first: u16, list: &mut Vec<Filled>, levels: usize) -> Result<(), Stop> {
+    fn first_fields(
+        &mut self,
+        sub: Sub,
+        first: u16,
+        list: &mut Vec<Filled>,
+        levels: usize,
+    ) -> Result<(), Stop> {
         for position in 0..self.field_count(sub) {
             let Some((_, part, offset)) = self.field(sub, position) else {
                 break;
@@ -380,7 +581,13 @@ impl<'a> Lowering<'a> {
             let default = self.field_default(sub, position);
             let start = first.saturating_add(offset);
             match default {
-                Some(expression) => self.aggregate(part, start, expression, list, crate::lowering::LEVELS)?,
+                Some(expression) => self.aggregate(
+                    part,
+                    start,
+                    expression,
+                    list,
+                    crate::lowering::LEVELS,
+                )?,
                 None => self.first_values(part, start, list, levels)?,
             }
         }
@@ -414,7 +621,11 @@ fn is_others(choice: &Choice) -> bool {
 }
 
 /// The association with the value of a record's component: by its position, its name, or `others`.
-fn component_value(associations: &[Association], position: usize, name: u32) -> Option<&Association> {
+fn component_value(
+    associations: &[Association],
+    position: usize,
+    name: u32,
+) -> Option<&Association> {
     if let Some(found) = associations.get(position) {
         if found.choices.is_empty() {
             return Some(found);

@@ -9,16 +9,16 @@
 
 mod actions;
 mod attributes;
+mod conditionals;
 mod declared_names;
 mod declaring;
+mod denoting;
 mod folding;
 mod giving;
 mod lowering;
+mod text;
 mod types;
 mod unit;
 mod values;
 
-pub use crate::unit::{AdaText, Made, read};
-
-#[cfg(test)]
-mod tests;
+pub use crate::text::{AdaText, Made, read};

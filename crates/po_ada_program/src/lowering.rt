@@ -1,7 +1,9 @@
 // SPDX-License-Identifier: MIT
 //! What is known while a text gets its meaning: types, names, operations, and the statements that were made.
 
-use crate::types::{Kind, Meaning, Structure, Sub, Symbol, UNIVERSAL, base_of, count};
+use crate::types::{
+    BOOLEAN, INTEGER, Kind, Meaning, Structure, Sub, Symbol, UNIVERSAL, base_of, count,
+};
 use po_ada_text::tree::{Body, Expression, Mode, Name, Profile};
 use po_ada_text::{Faults, Names, Stop};
 use po_program::{Base, Expr, Stmt};
@@ -140,13 +142,17 @@ impl<'a> Lowering<'a> {
 
     /// What a name stands for.
     pub fn look_up(&self, name: u32) -> Option<Meaning> {
-        self.scope.iter().rev().find(|symbol| symbol.name == name).map(|symbol| symbol.meaning)
+        self.scope
+            .iter()
+            .rev()
+            .find(|symbol| symbol.name == name)
+            .map(|symbol| symbol.meaning)
     }
 
     /// The name that this one may be meant to be, at most two letters apart.
     fn meant(&self, name: u32) -> Result<Option<u32>, AllocError> {
         let text = self.names.written(name);
-        let mut least = 3;
+        let mut least = if text.len() < 5 { 2 } else { 3 };
         let mut found = None;
         if text.len() < 3 || text.len() > 40 {
             return Ok(None);
@@ -186,7 +192,10 @@ impl<'a> Lowering<'a> {
         if self.scope.len() >= MOST_NAMES {
             return Err(self.refuse(name.place, "a text declares at most 10,000 names"));
         }
-        self.scope.push(Symbol { name: name.number, meaning })?;
+        self.scope.push(Symbol {
+            name: name.number,
+            meaning,
+        })?;
         Ok(())
     }
 
@@ -260,7 +269,10 @@ impl<'a> Lowering<'a> {
         let first = self.slots;
         let after = first.saturating_add(count);
         if after > MOST_SLOTS {
-            return Err(self.refuse(place, "the local variables and intermediate values of an operation take at most 200 cells"));
+            return Err(self.refuse(
+                place,
+                "the local variables and intermediate values of an operation take at most 200 cells",
+            ));
         }
         self.slots = after;
         self.most_slots = self.most_slots.max(after);
@@ -294,11 +306,28 @@ impl<'a> Lowering<'a> {
         if left == UNIVERSAL && self.is_integer(right) {
             return Ok(right);
         }
-        let (left, right) = (self.kind_name(left), self.kind_name(right));
-        let after = match self.quoted(" and ", right, " don't fit together: write a conversion (4.6)") {
-            Ok(after) => after,
-            Err(_) => return Err(Stop::OutOfMemory),
-        };
-        Err(self.refuse_name(place, "the types ", left, after.as_str()))
+        match self.mismatch(left, right) {
+            Ok(message) => Err(self.refuse_by(place, message)),
+            Err(_) => Err(Stop::OutOfMemory),
+        }
+    }
+
+    fn mismatch(&self, left: usize, right: usize) -> Result<String, AllocError> {
+        let mut message = String::from_str(self.alloc, "the types ")?;
+        message.push_str(self.kind_text(left))?;
+        message.push_str(" and ")?;
+        message.push_str(self.kind_text(right))?;
+        message.push_str(" don't fit together: write a conversion (4.6)")?;
+        Ok(message)
+    }
+
+    /// The name of a type, for a message.
+    fn kind_text(&self, kind: usize) -> &str {
+        match kind {
+            UNIVERSAL => "universal_integer",
+            BOOLEAN => "Boolean",
+            INTEGER => "Integer",
+            _ => self.names.written(self.kind_name(kind)),
+        }
     }
 }

@@ -6,12 +6,17 @@ use po_program::{Area, Base, Range};
 
 /// The type of numbers without a type, and of Count (3.4.1, 9.9).
 pub const UNIVERSAL: usize = 0;
+
 pub const BOOLEAN: usize = 1;
+
 pub const INTEGER: usize = 2;
+
 pub const LONG_INTEGER: usize = 3;
+
 pub const CHARACTER: usize = 4;
 
 pub const LEAST: i128 = -9_223_372_036_854_775_808;
+
 pub const GREATEST: i128 = 9_223_372_036_854_775_807;
 
 /// A subtype: a type's number, and the range of its values or of its index.
@@ -107,10 +112,19 @@ pub fn base_range(low: i128, high: i128) -> (i128, i128) {
 /// What the results of operators can be.
 pub fn base_of(structure: &Structure<'_>) -> Option<Base> {
     match structure {
-        Structure::Universal => Some(Base::Signed(Range { low: LEAST, high: GREATEST })),
-        Structure::Integer(low, high) => Some(Base::Signed(Range { low: *low, high: *high })),
+        Structure::Universal => Some(Base::Signed(Range {
+            low: LEAST,
+            high: GREATEST,
+        })),
+        Structure::Integer(low, high) => Some(Base::Signed(Range {
+            low: *low,
+            high: *high,
+        })),
         Structure::Modular(modulus) => Some(Base::Modular(*modulus)),
-        Structure::Enumeration(_) => Some(Base::Signed(Range { low: LEAST, high: GREATEST })),
+        Structure::Enumeration(_) => Some(Base::Signed(Range {
+            low: LEAST,
+            high: GREATEST,
+        })),
         Structure::Array(_, _, _, _) | Structure::Record(_) => None,
     }
 }
@@ -120,6 +134,10 @@ pub fn count(sub: Sub) -> u16 {
     if sub.high < sub.low {
         return 0;
     }
-    let count = sub.high.saturating_sub(sub.low).saturating_add(1).min(16_384);
+    let count = sub
+        .high
+        .saturating_sub(sub.low)
+        .saturating_add(1)
+        .min(16_384);
     u16::try_from(count).unwrap_or(16_384)
 }

@@ -1,102 +1,25 @@
 // SPDX-License-Identifier: MIT
 //! Reads a protected unit and its operations (9.4), and makes its program.
 
-use crate::declared_names::object_names;
-use crate::lowering::{LEVELS, Lowering, Parameter, Declared, sequence};
+use crate::lowering::{Declared, LEVELS, Lowering, Parameter, sequence};
 use crate::types::{Meaning, Sub, Variable};
-use po_ada_names::{Heading, ObjectNames};
-use po_ada_text::tree::{Body, Content, Declaration, Item, Kind, Mode, Name, Parameters, Part, Profile, Protected, ProtectedBody, Variables};
-use po_ada_text::{Fault, Faults, Names, Stop, Text, parse};
+use po_ada_text::tree::{
+    Body, Content, Declaration, Item, Kind, Mode, Name, Parameters, Part, Profile, Protected,
+    ProtectedBody, Variables,
+};
+use po_ada_text::Stop;
 use po_program::{Area, Entry, Operation, Program, Stmt};
-use std::alloc::{AllocError, Global};
 
 /// A call carries at most this many parameters.
 pub const MOST_PARAMETERS: usize = 8;
 /// An object has at most this many entries.
 const MOST_ENTRIES: u16 = 4_096;
 /// Locals begin here: slots 0 to 7 are parameters, slot 8 is a family's index.
-const FIRST_LOCAL: u16 = 9;
-
-/// A text whose syntax was read, and one of its protected units.
-#[derive(Drop)]
-pub struct AdaText {
-    alloc: Global,
-    bytes: Vec<u8>,
-    text: Text,
-    wanted: Name,
-    heading: Heading,
-}
-
-/// The program of an object and its names.
-#[derive(Drop)]
-pub struct Made {
-    pub program: Program,
-    pub names: ObjectNames,
-}
-
-/// Everything that is known before a text's items.
-fn lowering<'a>(alloc: Global, bytes: &'a [u8], names: &'a Names, faults: &'a mut Faults) -> Lowering<'a> {
-    Lowering {
-        alloc,
-        bytes,
-        names,
-        faults,
-        kinds: Vec::new(alloc),
-        scope: Vec::new(alloc),
-        cells: 0,
-        operations: Vec::new(alloc),
-        entries: 0,
-        literals: Vec::new(alloc),
-        exceptions: Vec::new(alloc),
-        messages: Vec::new(alloc),
-        code: Vec::new(alloc),
-        slots: FIRST_LOCAL,
-        most_slots: FIRST_LOCAL,
-        loops: Vec::new(alloc),
-        current: None,
-        handled: None,
-    }
-}
-
-/// The protected unit of a text that is asked for; if none is, the only one.
-fn chosen(alloc: Global, text: &Text, wanted: Option<&str>, faults: &mut Faults) -> Result<Name, Stop> {
-    let mut found: Option<Name> = None;
-    let mut count = 0usize;
-    for item in text.items.iter() {
-        if let Item::Protected(unit) = item {
-            if is_wanted(&text.names, unit.name, wanted) {
-                count = count.saturating_add(1);
-                found = Some(unit.name);
-            }
-        }
-    }
-    let message = match wanted {
-        None if count > 1 => "the text has several protected units: say which one",
-        None => "the text has no protected type or object",
-        Some(_) => "the text has no protected unit of the name that is asked for",
-    };
-    match found {
-        Some(name) if count == 1 => Ok(name),
-        _ => {
-            faults.add(0, String::from_str(alloc, message)?)?;
-            Err(Stop::Fault)
-        }
-    }
-}
-
-fn is_wanted(names: &Names, name: Name, wanted: Option<&str>) -> bool {
-    match wanted {
-        None => true,
-        Some(text) => {
-            let written = names.written(name.number).as_bytes();
-            written.len() == text.len() && written.iter().zip(text.as_bytes()).all(|(a, b)| a.eq_ignore_ascii_case(b))
-        }
-    }
-}
+pub const FIRST_LOCAL: u16 = 9;
 
 impl<'a> Lowering<'a> {
     /// The meaning of a text's items, up to the body of the protected unit.
-    fn items(&mut self, items: &'a [Item], wanted: Name, values: &'a [i128]) -> Result<(), Stop> {
+    pub fn items(&mut self, items: &'a [Item], wanted: Name, values: &'a [i128]) -> Result<(), Stop> {
         let mut is_made = false;
         for item in items {
             let done = match item {
@@ -111,11 +34,16 @@ impl<'a> Lowering<'a> {
                 return Ok(());
             }
         }
-        Err(self.refuse_name(wanted.place, "the protected unit ", wanted.number, " has no body (9.4)"))
+        Err(self.refuse_name(
+            wanted.place,
+            "the protected unit ",
+            wanted.number,
+            " has no body (9.4)",
+        ))
     }
 
     /// A fault doesn't end reading; want of memory does.
-    fn keep_on(&self, done: Result<(), Stop>) -> Result<(), Stop> {
+    pub fn keep_on(&self, done: Result<(), Stop>) -> Result<(), Stop> {
         match done {
             Err(Stop::OutOfMemory) => Err(Stop::OutOfMemory),
             _ => Ok(()),
@@ -123,10 +51,11 @@ impl<'a> Lowering<'a> {
     }
 
     /// The meaning of an item before the body of the protected unit.
-    fn item(&mut self, item: &'a Item, wanted: Name, values: &'a [i128]) -> Result<(), Stop> {
+    pub fn item(&mut self, item: &'a Item, wanted: Name, values: &'a [i128]) -> Result<(), Stop> {
         match item {
             Item::Package(name) => self.define(*name, Meaning::Package),
-            Item::Declaration(Declaration::Variables(variables)) if !variables.constant => self.outer_variables(variables),
+            Item::Declaration(Declaration::Variables(variables)) if !variables.constant =>
+                self.outer_variables(variables),
             Item::Declaration(declaration) => self.declared(declaration, false),
             Item::Operation(body) => self.outer_operation(body),
             Item::Protected(unit) if unit.name.number == wanted.number => self.unit(unit, values),
@@ -176,17 +105,30 @@ impl<'a> Lowering<'a> {
                 let number = match (values.get(position), &variables.value) {
                     (Some(number), _) => *number,
                     (None, Some(default)) => self.fixed(default, LEVELS)?.0,
-                    (None, None) => return Err(self.refuse_name(name.place, "the discriminant ", name.number, " needs a value (3.7)")),
+                    (None, None) => return Err(self.refuse_name(
+                        name.place,
+                        "the discriminant ",
+                        name.number,
+                        " needs a value (3.7)",
+                    )),
                 };
                 if number < sub.low || number > sub.high {
-                    return Err(self.refuse_name(name.place, "the value of the discriminant ", name.number, " isn't in its range (3.7)"));
+                    return Err(self.refuse_name(
+                        name.place,
+                        "the value of the discriminant ",
+                        name.number,
+                        " isn't in its range (3.7)",
+                    ));
                 }
                 self.define(*name, Meaning::Number(number, sub.kind))?;
                 position = position.saturating_add(1);
             }
         }
         if position < values.len() {
-            return Err(self.refuse(unit.name.place, "there are more values than discriminants (3.7)"));
+            return Err(self.refuse(
+                unit.name.place,
+                "there are more values than discriminants (3.7)",
+            ));
         }
         Ok(())
     }
@@ -194,7 +136,7 @@ impl<'a> Lowering<'a> {
     fn parts(&mut self, parts: &'a [Part], public: bool) -> Result<(), Stop> {
         for part in parts {
             let done = match part {
-                Part::Operation(profile) => self.declare(profile, public, false).map(|_| ()),
+                Part::Operation(profile) => self.declare_or_fault(profile, public),
                 Part::Declaration(declaration) => self.declared(declaration, false),
             };
             self.keep_on(done)?;
@@ -202,10 +144,27 @@ impl<'a> Lowering<'a> {
         Ok(())
     }
 
+    /// The declaration of an operation. After a fault, its name is known, so that it causes no other fault.
+    fn declare_or_fault(&mut self, profile: &'a Profile, public: bool) -> Result<(), Stop> {
+        match self.declare(profile, public, false) {
+            Ok(_) => Ok(()),
+            Err(Stop::OutOfMemory) => Err(Stop::OutOfMemory),
+            Err(Stop::Fault) => self.define(profile.name, Meaning::Faulty),
+        }
+    }
+
     /// The declaration of an operation; returns its number.
-    fn declare(&mut self, profile: &'a Profile, public: bool, outside: bool) -> Result<usize, Stop> {
+    fn declare(
+        &mut self,
+        profile: &'a Profile,
+        public: bool,
+        outside: bool,
+    ) -> Result<usize, Stop> {
         if let Some(Meaning::Operation(_)) = self.look_up(profile.name.number) {
-            return Err(self.refuse(profile.name.place, "two operations of one name aren't in this subset: rename one (8.3)"));
+            return Err(self.refuse(
+                profile.name.place,
+                "two operations of one name aren't in this subset: rename one (8.3)",
+            ));
         }
         self.aspects(profile)?;
         let parameters = self.parameters(profile)?;
@@ -225,7 +184,10 @@ impl<'a> Lowering<'a> {
         }
         let number = self.operations.len();
         if number >= 30_000 {
-            return Err(self.refuse(profile.name.place, "an object has at most 30,000 operations"));
+            return Err(self.refuse(
+                profile.name.place,
+                "an object has at most 30,000 operations",
+            ));
         }
         self.operations.push(Declared {
             profile,
@@ -245,9 +207,21 @@ impl<'a> Lowering<'a> {
     /// Aspects that mean something here are refused.
     fn aspects(&mut self, profile: &'a Profile) -> Result<(), Stop> {
         for aspect in profile.aspects.iter() {
-            for text in ["pre", "post", "max_queue_length", "pre'class", "import", "address"] {
+            for text in [
+                "pre",
+                "post",
+                "max_queue_length",
+                "pre'class",
+                "import",
+                "address",
+            ] {
                 if self.names.find(text) == Some(aspect.name.number) {
-                    return Err(self.refuse_name(aspect.name.place, "the aspect ", aspect.name.number, " isn't in this subset yet: write pragma Assert in the body, or 'max' in the script"));
+                    return Err(self.refuse_name(
+                        aspect.name.place,
+                        "the aspect ",
+                        aspect.name.number,
+                        " isn't in this subset yet: write pragma Assert in the body, or 'max' in the script",
+                    ));
                 }
             }
         }
@@ -272,7 +246,10 @@ impl<'a> Lowering<'a> {
         if self.is_discrete(sub.kind) {
             return Ok(());
         }
-        Err(self.refuse(place, "a parameter or a result is of a discrete type here: arrays and records aren't in this subset"))
+        Err(self.refuse(
+            place,
+            "a parameter or a result is of a discrete type here: arrays and records aren't in this subset",
+        ))
     }
 
     /// The parameters of an operation (6.1).
@@ -292,7 +269,10 @@ impl<'a> Lowering<'a> {
             }
         }
         if list.len() > MOST_PARAMETERS {
-            return Err(self.refuse(profile.name.place, "an operation has at most 8 parameters here"));
+            return Err(self.refuse(
+                profile.name.place,
+                "an operation has at most 8 parameters here",
+            ));
         }
         Ok(list)
     }
@@ -312,8 +292,14 @@ impl<'a> Lowering<'a> {
         let name = body.profile.name;
         let number = match self.look_up(name.number) {
             Some(Meaning::Operation(number)) if !self.is_outer(number) => number,
+            Some(Meaning::Faulty) => return Err(Stop::Fault),
             _ if body.profile.kind == Kind::Entry => {
-                return Err(self.refuse_name(name.place, "the declaration has no entry ", name.number, " (9.5.2)"));
+                return Err(self.refuse_name(
+                    name.place,
+                    "the declaration has no entry ",
+                    name.number,
+                    " (9.5.2)",
+                ));
             }
             _ => self.declare(&body.profile, false, false)?,
         };
@@ -325,7 +311,12 @@ impl<'a> Lowering<'a> {
             return Ok(());
         };
         if declared.body.is_some() {
-            return Err(self.refuse_name(name.place, "the operation ", name.number, " has a body already"));
+            return Err(self.refuse_name(
+                name.place,
+                "the operation ",
+                name.number,
+                " has a body already",
+            ));
         }
         declared.body = Some(body);
         Ok(())
@@ -346,24 +337,37 @@ impl<'a> Lowering<'a> {
                 declared.profile.kind == profile.kind
                     && declared.family.is_some() == profile.family.is_some()
                     && declared.parameters.len() == parameters.len()
-                    && declared.parameters.iter().zip(parameters.iter()).all(|(a, b)| a.name == b.name && a.mode == b.mode && a.sub == b.sub)
+                    && declared.parameters.iter().zip(parameters.iter()).all(|(a, b)| a.name
+                        == b.name
+                        && a.mode == b.mode
+                        && a.sub == b.sub)
             }
             None => false,
         };
         if same {
             return Ok(());
         }
-        Err(self.refuse(profile.name.place, "the head of this body differs from its declaration (6.3.1)"))
+        Err(self.refuse(
+            profile.name.place,
+            "the head of this body differs from its declaration (6.3.1)",
+        ))
     }
 
     fn missing_bodies(&mut self) -> Result<(), Stop> {
         for number in 0..self.operations.len() {
             let missing = match self.operations.get(number) {
-                Some(declared) if declared.body.is_none() && !declared.outside => Some(declared.profile.name),
+                Some(declared) if declared.body.is_none() && !declared.outside => Some(
+                    declared.profile.name,
+                ),
                 _ => None,
             };
             if let Some(name) = missing {
-                let stop = self.refuse_name(name.place, "the operation ", name.number, " has no body");
+                let stop = self.refuse_name(
+                    name.place,
+                    "the operation ",
+                    name.number,
+                    " has no body",
+                );
                 self.keep_on(Err(stop))?;
             }
         }
@@ -385,7 +389,10 @@ impl<'a> Lowering<'a> {
             return Ok(());
         };
         let Some(name) = found.name else {
-            return Err(self.refuse(profile.name.place, "the index of a family has a name in its body: (for I in ..) (9.5.2)"));
+            return Err(self.refuse(
+                profile.name.place,
+                "the index of a family has a name in its body: (for I in ..) (9.5.2)",
+            ));
         };
         let variable = Variable {
             area: Area::Frame,
@@ -530,7 +537,7 @@ impl<'a> Lowering<'a> {
     }
 
     /// The program: operation 0 gives the data their values; then come the body and the barrier of each operation.
-    fn program(&mut self) -> Result<Program, Stop> {
+    pub fn program(&mut self) -> Result<Program, Stop> {
         let mut operations = Vec::new(self.alloc);
         operations.push(self.setup()?)?;
         let mut bodies = Vec::new(self.alloc);
@@ -556,13 +563,21 @@ impl<'a> Lowering<'a> {
     }
 
     /// The body and the barrier of an operation; none of one outside of the unit that isn't called.
-    fn made_operation(&mut self, number: usize, outside: bool) -> Result<Option<(Operation, Operation)>, Stop> {
+    fn made_operation(
+        &mut self,
+        number: usize,
+        outside: bool,
+    ) -> Result<Option<(Operation, Operation)>, Stop> {
         let body = match self.operations.get(number) {
-            Some(declared) if declared.outside == outside && (declared.used || !outside) => declared.body,
+            Some(declared) if declared.outside == outside && (declared.used || !outside) =>
+                declared.body,
             _ => None,
         };
         match body {
-            Some(body) => Ok(Some((self.made_body(number, body)?, self.made_barrier(number, body)?))),
+            Some(body) => Ok(Some((
+                self.made_body(number, body)?,
+                self.made_barrier(number, body)?,
+            ))),
             None => Ok(None),
         }
     }
@@ -603,76 +618,5 @@ impl<'a> Lowering<'a> {
             procedures,
             functions,
         })
-    }
-}
-
-/// The program of the object and its names.
-fn made(alloc: Global, ada: &AdaText, values: &[i128], faults: &mut Faults) -> Result<Made, Stop> {
-    let mut lowering = lowering(alloc, ada.bytes.as_slice(), &ada.text.names, faults);
-    lowering.predefine_all()?;
-    lowering.items(ada.text.items.as_slice(), ada.wanted, values)?;
-    let program = lowering.program()?;
-    let names = object_names(&lowering, ada.wanted)?;
-    Ok(Made { program, names })
-}
-
-/// What is known of the unit before its discriminants have values.
-fn heading(alloc: Global, text: &Text, bytes: &[u8], wanted: Name, faults: &mut Faults) -> Result<Heading, Stop> {
-    let mut lowering = lowering(alloc, bytes, &text.names, faults);
-    lowering.predefine_all()?;
-    for item in text.items.iter() {
-        if let Item::Protected(unit) = item {
-            if unit.name.number == wanted.number {
-                return crate::declared_names::heading(&mut lowering, unit);
-            }
-        }
-        let done = lowering.item(item, wanted, &[]);
-        lowering.keep_on(done)?;
-    }
-    Err(lowering.refuse(wanted.place, "the text has no protected type or object"))
-}
-
-/// A text and its unit, or a stop.
-fn read_text(alloc: Global, bytes: &[u8], wanted: Option<&str>, faults: &mut Faults) -> Result<AdaText, Stop> {
-    let text = parse(alloc, bytes, faults)?;
-    let wanted = chosen(alloc, &text, wanted, faults)?;
-    let heading = heading(alloc, &text, bytes, wanted, faults)?;
-    Ok(AdaText {
-        alloc,
-        bytes: bytes.to_vec(alloc)?,
-        text,
-        wanted,
-        heading,
-    })
-}
-
-/// What was made if nothing is wrong with a text; else its faults.
-fn outcome<T: Drop>(made: Result<T, Stop>, faults: Faults) -> Result<Result<T, Vec<Fault>>, AllocError> {
-    match made {
-        Ok(value) if faults.is_empty() => Ok(Ok(value)),
-        Err(Stop::OutOfMemory) => Err(AllocError),
-        _ => Ok(Err(faults.into_items())),
-    }
-}
-
-/// Reads a text. If it has several protected units, one of them is asked for by its name, in any case of letters. Returns the
-/// text with its unit, or what is wrong with it: at most 20 faults, in the order in which they were found.
-pub fn read(alloc: Global, bytes: &[u8], wanted: Option<&str>) -> Result<Result<AdaText, Vec<Fault>>, AllocError> {
-    let mut faults = Faults::new(alloc);
-    let made = read_text(alloc, bytes, wanted, &mut faults);
-    outcome(made, faults)
-}
-
-impl AdaText {
-    /// The unit's name and its discriminants.
-    pub fn heading(&self) -> &Heading {
-        &self.heading
-    }
-
-    /// The program of an object whose discriminants have these values, in order, and its names; or what is wrong with the text.
-    pub fn object(&self, alloc: Global, values: &[i128]) -> Result<Result<Made, Vec<Fault>>, AllocError> {
-        let mut faults = Faults::new(alloc);
-        let made = made(alloc, self, values, &mut faults);
-        outcome(made, faults)
     }
 }

@@ -7,7 +7,9 @@ use crate::reader::{MOST_LEVELS, Reader};
 use crate::reserved::Reserved;
 use crate::sign::Sign;
 use crate::statements::go_on;
-use crate::tree::{ArrayIndex, Aspect, Choice, Declaration, Expression, Form, Name, TypeForm, Variables};
+use crate::tree::{
+    ArrayIndex, Aspect, Choice, Declaration, Expression, Form, Name, TypeForm, Variables,
+};
 
 /// Aspects that change what a type's values are.
 const MEANINGFUL: [&str; 5] = [
@@ -26,7 +28,10 @@ impl<'a> Reader<'a> {
             return Err(self.refuse(place, "access types aren't in this subset (3.10)"));
         }
         if self.sees(Reserved::Array) {
-            return Err(self.refuse(place, "an array without a type's name isn't in this subset: declare its type first (3.6)"));
+            return Err(self.refuse(
+                place,
+                "an array without a type's name isn't in this subset: declare its type first (3.6)",
+            ));
         }
         let number = self.name("the name of a type")?.number;
         let mut mark = Expression {
@@ -41,7 +46,10 @@ impl<'a> Reader<'a> {
             mark.form = Form::Name(self.name("the name of a type")?.number);
         }
         if self.takes_sign(Sign::Tick) {
-            return Err(self.refuse(place, "an attribute as a type isn't in this subset: write the type's name (3.5)"));
+            return Err(self.refuse(
+                place,
+                "an attribute as a type isn't in this subset: write the type's name (3.5)",
+            ));
         }
         Ok(mark)
     }
@@ -71,7 +79,12 @@ impl<'a> Reader<'a> {
             Element::Name(_) => true,
             Element::Reserved(word) => matches!(
                 word,
-                Reserved::TypeWord | Reserved::Subtype | Reserved::Pragma | Reserved::Use | Reserved::With | Reserved::For
+                Reserved::TypeWord
+                    | Reserved::Subtype
+                    | Reserved::Pragma
+                    | Reserved::Use
+                    | Reserved::With
+                    | Reserved::For
             ),
             _ => false,
         }
@@ -99,7 +112,10 @@ impl<'a> Reader<'a> {
     fn representation(&mut self) -> Result<(), Stop> {
         let place = self.place();
         if self.skip_to(Reserved::Record) {
-            return Err(self.refuse(place, "a record representation clause isn't in this subset: leave it out (13.5.1)"));
+            return Err(self.refuse(
+                place,
+                "a record representation clause isn't in this subset: leave it out (13.5.1)",
+            ));
         }
         self.skip_semicolon();
         Ok(())
@@ -108,7 +124,9 @@ impl<'a> Reader<'a> {
     /// Reads `A, B : T := V;`, a named number or exceptions.
     fn variables_declaration(&mut self) -> Result<Declaration, Stop> {
         let names = self.name_list("a name")?;
-        self.needs_sign(Sign::Colon)?;
+        if !self.takes_sign(Sign::Colon) {
+            return Err(self.no_colon(names.as_slice()));
+        }
         if self.takes(Reserved::Exception) {
             self.semicolon()?;
             return Ok(Declaration::Exceptions(names));
@@ -126,12 +144,23 @@ impl<'a> Reader<'a> {
         Ok(Declaration::Variables(variables))
     }
 
+    /// The fault of names without a colon after them.
+    fn no_colon(&mut self, names: &[Name]) -> Stop {
+        match names {
+            [only] => self.misspelled(*only, "':'"),
+            _ => self.expected("':'"),
+        }
+    }
+
     /// Reads a subtype and a value for names.
     pub fn typed(&mut self, names: Vec<Name>, constant: bool) -> Result<Variables, Stop> {
         let subtype = self.subtype()?;
         if self.sees(Reserved::Renames) {
             let place = self.place();
-            return Err(self.refuse(place, "renaming isn't in this subset: use the first name (8.5)"));
+            return Err(self.refuse(
+                place,
+                "renaming isn't in this subset: use the first name (8.5)",
+            ));
         }
         let value = self.initial_value()?;
         Ok(Variables {
@@ -158,10 +187,17 @@ impl<'a> Reader<'a> {
         let name = self.name("a type's name")?;
         if self.sees_sign(Sign::LeftParenthesis) {
             let place = self.place();
-            return Err(self.refuse(place, "a record with discriminants isn't in this subset: only the protected unit has them (3.7)"));
+            return Err(self.refuse(
+                place,
+                "a record with discriminants isn't in this subset: only the protected unit has them (3.7)",
+            ));
         }
         self.needs(Reserved::Is)?;
-        let form = if is_formal { self.formal_type()? } else { self.type_form()? };
+        let form = if is_formal {
+            self.formal_type()?
+        } else {
+            self.type_form()?
+        };
         self.ignored_aspects()?;
         self.semicolon()?;
         Ok(Declaration::Type(name, form))
@@ -179,7 +215,10 @@ impl<'a> Reader<'a> {
             self.needs_sign(Sign::RightParenthesis)?;
             return Ok(TypeForm::Formal);
         }
-        Err(self.refuse(place, "this kind of generic formal type isn't in this subset: 'private', '(<>)', 'range <>' or 'mod <>' (12.5)"))
+        Err(self.refuse(
+            place,
+            "this kind of generic formal type isn't in this subset: 'private', '(<>)', 'range <>' or 'mod <>' (12.5)",
+        ))
     }
 
     /// Reads what a type is.
@@ -195,20 +234,36 @@ impl<'a> Reader<'a> {
             Element::Reserved(Reserved::Array) => self.array_type(),
             Element::Reserved(Reserved::Record) => self.record_type(),
             Element::Reserved(Reserved::New) => self.derived_type(),
-            Element::Reserved(Reserved::Null) => Err(self.refuse(place, "a null record isn't in this subset: it has no component (3.8)")),
+            Element::Reserved(Reserved::Null) => Err(self.refuse(
+                place,
+                "a null record isn't in this subset: it has no component (3.8)",
+            )),
             Element::Reserved(Reserved::Delta) | Element::Reserved(Reserved::Digits) => {
-                Err(self.refuse(place, "real types aren't in this subset: take an integer type, as milliseconds (3.5.6)"))
+                Err(self.refuse(
+                    place,
+                    "real types aren't in this subset: take an integer type, as milliseconds (3.5.6)",
+                ))
             }
             Element::Reserved(Reserved::Access) | Element::Reserved(Reserved::Not) => {
                 Err(self.refuse(place, "access types aren't in this subset (3.10)"))
             }
             Element::Reserved(Reserved::Private) => {
-                Err(self.refuse(place, "private types aren't in this subset: write the full declaration here (7.3)"))
+                Err(self.refuse(
+                    place,
+                    "private types aren't in this subset: write the full declaration here (7.3)",
+                ))
             }
-            Element::Reserved(Reserved::Tagged) | Element::Reserved(Reserved::Abstract) | Element::Reserved(Reserved::Interface) => {
-                Err(self.refuse(place, "tagged types aren't in this subset: take a record (3.9)"))
+            Element::Reserved(Reserved::Tagged)
+            | Element::Reserved(Reserved::Abstract)
+            | Element::Reserved(Reserved::Interface) => {
+                Err(self.refuse(
+                    place,
+                    "tagged types aren't in this subset: take a record (3.9)",
+                ))
             }
-            _ => Err(self.expected("'range', 'mod', '(', 'array', 'record' or 'new': other types aren't in this subset")),
+            _ => Err(self.expected(
+                "'range', 'mod', '(', 'array', 'record' or 'new': other types aren't in this subset",
+            )),
         }
     }
 
@@ -224,7 +279,10 @@ impl<'a> Reader<'a> {
         self.step();
         if let Element::Character(_) = self.peek() {
             let place = self.place();
-            return Err(self.refuse(place, "character literals of an enumeration type aren't in this subset: take names (3.5.1)"));
+            return Err(self.refuse(
+                place,
+                "character literals of an enumeration type aren't in this subset: take names (3.5.1)",
+            ));
         }
         let literals = self.name_list("the name of an enumeration literal")?;
         self.needs_sign(Sign::RightParenthesis)?;
@@ -236,7 +294,10 @@ impl<'a> Reader<'a> {
         let parent = self.subtype()?;
         if self.sees(Reserved::With) && self.ahead(1) == Element::Reserved(Reserved::Record) {
             let place = self.place();
-            return Err(self.refuse(place, "tagged types aren't in this subset: take a record (3.9)"));
+            return Err(self.refuse(
+                place,
+                "tagged types aren't in this subset: take a record (3.9)",
+            ));
         }
         Ok(TypeForm::Derived(parent))
     }
@@ -289,7 +350,10 @@ impl<'a> Reader<'a> {
     fn components(&mut self) -> Result<Variables, Stop> {
         if self.sees(Reserved::Case) {
             let place = self.place();
-            return Err(self.refuse(place, "variant parts aren't in this subset: a record has all its components (3.8.1)"));
+            return Err(self.refuse(
+                place,
+                "variant parts aren't in this subset: a record has all its components (3.8.1)",
+            ));
         }
         let names = self.name_list("a component's name")?;
         self.needs_sign(Sign::Colon)?;

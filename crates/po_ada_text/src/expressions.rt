@@ -6,7 +6,9 @@ use crate::lexer::Element;
 use crate::reader::{MOST_LEVELS, Reader};
 use crate::reserved::Reserved;
 use crate::sign::Sign;
-use crate::tree::{Arm, Association, Attribute, CaseArm, Choice, Expression, Form, Infix, Iteration, Name, Prefix};
+use crate::tree::{
+    Arm, Association, Attribute, CaseArm, Choice, Expression, Form, Infix, Iteration, Name, Prefix,
+};
 use std::alloc::AllocError;
 
 /// Operators of this precedence: `and`, `or`, `xor` (4.5(4)).
@@ -68,7 +70,11 @@ fn word_operator(precedence: u32, word: Reserved) -> Option<Infix> {
 fn height_of(list: &[Association]) -> usize {
     let mut height = 0;
     for association in list {
-        height = association.value.height.max(height).max(choices_height(association.choices.as_slice()));
+        height = association
+            .value
+            .height
+            .max(height)
+            .max(choices_height(association.choices.as_slice()));
     }
     height
 }
@@ -93,7 +99,10 @@ fn choices_height(choices: &[Choice]) -> usize {
 impl<'a> Reader<'a> {
     /// The fault of what is nested too deep.
     pub fn too_deep(&mut self, place: usize) -> Stop {
-        self.refuse(place, "nested deeper than 100, or more than 100 operators in a row: give a part of it a name")
+        self.refuse(
+            place,
+            "nested deeper than 100, or more than 100 operators in a row: give a part of it a name",
+        )
     }
 
     /// An expression of this form, unless it is too high.
@@ -112,13 +121,24 @@ impl<'a> Reader<'a> {
         Ok(Box::new(self.alloc, expression)?)
     }
 
-    fn infix(&mut self, place: usize, operator: Infix, left: Expression, right: Expression) -> Result<Expression, Stop> {
+    fn infix(
+        &mut self,
+        place: usize,
+        operator: Infix,
+        left: Expression,
+        right: Expression,
+    ) -> Result<Expression, Stop> {
         let below = left.height.max(right.height);
         let form = Form::Infix(operator, self.boxed(left)?, self.boxed(right)?);
         self.node(place, below, form)
     }
 
-    fn prefix(&mut self, place: usize, operator: Prefix, operand: Expression) -> Result<Expression, Stop> {
+    fn prefix(
+        &mut self,
+        place: usize,
+        operator: Prefix,
+        operand: Expression,
+    ) -> Result<Expression, Stop> {
         let below = operand.height;
         let form = Form::Prefix(operator, self.boxed(operand)?);
         self.node(place, below, form)
@@ -153,12 +173,21 @@ impl<'a> Reader<'a> {
     }
 
     /// Whether these operators stand in one expression without parentheses (4.4(4), 4.4(5)).
-    fn may_follow(&mut self, place: usize, precedence: u32, before: Option<Infix>, operator: Infix) -> Result<(), Stop> {
+    fn may_follow(
+        &mut self,
+        place: usize,
+        precedence: u32,
+        before: Option<Infix>,
+        operator: Infix,
+    ) -> Result<(), Stop> {
         let Some(before) = before else {
             return Ok(());
         };
         if precedence == RELATION {
-            return Err(self.refuse(place, "a relation can't be compared further: write parentheses, or 'and' (4.4)"));
+            return Err(self.refuse(
+                place,
+                "a relation can't be compared further: write parentheses, or 'and' (4.4)",
+            ));
         }
         if precedence == LOGICAL && before != operator {
             return Err(self.refuse(place, "different logical operators need parentheses (4.4)"));
@@ -264,7 +293,10 @@ impl<'a> Reader<'a> {
             Element::Character(byte) => Form::Character(byte),
             Element::Reserved(Reserved::Null) => Form::Null,
             Element::Sign(Sign::Anything) => Form::Anything,
-            Element::Sign(Sign::LeftParenthesis) => return self.enclosed(Sign::RightParenthesis, levels),
+            Element::Sign(Sign::LeftParenthesis) => return self.enclosed(
+                Sign::RightParenthesis,
+                levels,
+            ),
             Element::Sign(Sign::LeftBracket) => return self.enclosed(Sign::RightBracket, levels),
             Element::Sign(Sign::At) => return self.name_expression(levels),
             Element::Name(_) => return self.name_expression(levels),
@@ -278,14 +310,25 @@ impl<'a> Reader<'a> {
     fn no_primary(&mut self) -> Stop {
         let place = self.place();
         match self.peek() {
-            Element::Reserved(Reserved::If) | Element::Reserved(Reserved::Case) | Element::Reserved(Reserved::For) => {
-                self.refuse(place, "a conditional or quantified expression stands in parentheses (4.5.7, 4.5.8)")
+            Element::Reserved(Reserved::If)
+            | Element::Reserved(Reserved::Case)
+            | Element::Reserved(Reserved::For) => {
+                self.refuse(
+                    place,
+                    "a conditional or quantified expression stands in parentheses (4.5.7, 4.5.8)",
+                )
             }
             Element::Reserved(Reserved::New) => {
-                self.refuse(place, "allocators aren't in this subset: a protected object has all its data in itself (4.8)")
+                self.refuse(
+                    place,
+                    "allocators aren't in this subset: a protected object has all its data in itself (4.8)",
+                )
             }
             Element::Reserved(Reserved::Declare) => {
-                self.refuse(place, "declare expressions aren't in this subset: write a function with a block (4.5.9)")
+                self.refuse(
+                    place,
+                    "declare expressions aren't in this subset: write a function with a block (4.5.9)",
+                )
             }
             _ => self.expected("a value"),
         }
@@ -329,7 +372,11 @@ impl<'a> Reader<'a> {
         let mut choices = Vec::new(self.alloc);
         if self.sees(Reserved::If) || self.sees(Reserved::Case) || self.sees(Reserved::For) {
             let value = self.conditional(levels)?;
-            return Ok(Association { place, choices, value });
+            return Ok(Association {
+                place,
+                choices,
+                value,
+            });
         }
         for _ in 0..self.turns() {
             choices.push(self.choice(LOGICAL, levels)?)?;
@@ -339,12 +386,23 @@ impl<'a> Reader<'a> {
         }
         if self.takes_sign(Sign::Arrow) {
             let value = self.conditional(levels)?;
-            return Ok(Association { place, choices, value });
+            return Ok(Association {
+                place,
+                choices,
+                value,
+            });
         }
         match choices.pop() {
-            Some(Choice::Value(value)) if choices.is_empty() => Ok(Association { place, choices, value }),
+            Some(Choice::Value(value)) if choices.is_empty() => Ok(Association {
+                place,
+                choices,
+                value,
+            }),
             Some(Choice::Range(_, _)) if choices.is_empty() => {
-                Err(self.refuse(place, "slices aren't in this subset: write a loop over the components (4.1.2)"))
+                Err(self.refuse(
+                    place,
+                    "slices aren't in this subset: write a loop over the components (4.1.2)",
+                ))
             }
             _ => Err(self.expected("'=>'")),
         }
@@ -449,8 +507,14 @@ impl<'a> Reader<'a> {
             let choices = self.choices(levels)?;
             self.needs_sign(Sign::Arrow)?;
             let value = self.operation(LOGICAL, levels)?;
-            below = below.max(value.height).max(choices_height(choices.as_slice()));
-            arms.push(CaseArm { place: here, choices, value })?;
+            below = below
+                .max(value.height)
+                .max(choices_height(choices.as_slice()));
+            arms.push(CaseArm {
+                place: here,
+                choices,
+                value,
+            })?;
             if !self.takes_sign(Sign::Comma) {
                 break;
             }
@@ -467,7 +531,9 @@ impl<'a> Reader<'a> {
         self.step();
         let is_all = self.takes(Reserved::All);
         if !is_all && !self.takes(Reserved::Some) {
-            return Err(self.expected("'all' or 'some': iterated component associations aren't in this subset (4.3.5)"));
+            return Err(self.expected(
+                "'all' or 'some': iterated component associations aren't in this subset (4.3.5)",
+            ));
         }
         let name = self.name("the name of a loop parameter")?;
         let iteration = self.iteration(levels)?;
@@ -544,7 +610,10 @@ impl<'a> Reader<'a> {
     fn selected(&mut self, prefix: Expression) -> Result<Expression, Stop> {
         if self.sees(Reserved::All) {
             let place = self.place();
-            return Err(self.refuse(place, "access types aren't in this subset: '.all' has no meaning (3.10)"));
+            return Err(self.refuse(
+                place,
+                "access types aren't in this subset: '.all' has no meaning (3.10)",
+            ));
         }
         let place = prefix.place;
         let below = prefix.height;
@@ -555,7 +624,12 @@ impl<'a> Reader<'a> {
 
     /// Reads what comes after an apostrophe: an attribute or a qualified expression.
     #[cycle(operators)]
-    fn attribute(&mut self, place: usize, prefix: Expression, levels: usize) -> Result<Expression, Stop> {
+    fn attribute(
+        &mut self,
+        place: usize,
+        prefix: Expression,
+        levels: usize,
+    ) -> Result<Expression, Stop> {
         let start = prefix.place;
         let mut below = prefix.height;
         if self.sees_sign(Sign::LeftParenthesis) {
@@ -588,6 +662,8 @@ impl<'a> Reader<'a> {
                 }
             }
         }
-        Err(self.expected("an attribute of this subset (Count, First, Image, Last, Length, Max, Min, Modulus, Old, Pos, Pred, Range, Succ, Val, Value)"))
+        Err(self.expected(
+            "an attribute of this subset (Count, First, Image, Last, Length, Max, Min, Modulus, Old, Pos, Pred, Range, Succ, Val, Value)",
+        ))
     }
 }

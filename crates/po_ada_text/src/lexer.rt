@@ -54,27 +54,42 @@ fn byte_at(text: &[u8], index: usize) -> u8 {
 
 /// How many letters, digits and underlines there are from here on.
 fn word_length(text: &[u8], from: usize) -> usize {
-    text.iter().skip(from).take_while(|byte| is_letter_or_digit(**byte)).count()
+    text.iter()
+        .skip(from)
+        .take_while(|byte| is_letter_or_digit(**byte))
+        .count()
 }
 
 /// How many bytes there are from here to the end of the line.
 fn line_length(text: &[u8], from: usize) -> usize {
-    text.iter().skip(from).take_while(|byte| **byte != b'\n').count()
+    text.iter()
+        .skip(from)
+        .take_while(|byte| **byte != b'\n')
+        .count()
 }
 
 /// How many bytes there are from here to a quotation mark or the end of the line.
 fn quoted_length(text: &[u8], from: usize) -> usize {
-    text.iter().skip(from).take_while(|byte| **byte != b'"' && **byte != b'\n').count()
+    text.iter()
+        .skip(from)
+        .take_while(|byte| **byte != b'"' && **byte != b'\n')
+        .count()
 }
 
 /// How many blanks there are from here on.
 fn blank_length(text: &[u8], from: usize) -> usize {
-    text.iter().skip(from).take_while(|byte| is_blank(**byte)).count()
+    text.iter()
+        .skip(from)
+        .take_while(|byte| is_blank(**byte))
+        .count()
 }
 
 /// How many bytes from here on can begin no element.
 fn foreign_length(text: &[u8], from: usize) -> usize {
-    text.iter().skip(from).take_while(|byte| is_foreign(**byte)).count()
+    text.iter()
+        .skip(from)
+        .take_while(|byte| is_foreign(**byte))
+        .count()
 }
 
 /// Whether no element begins with this byte.
@@ -119,7 +134,8 @@ impl<'a> Lexer<'a> {
     /// Tells a fault at this place.
     fn tell(&mut self, place: usize, message: &str) -> Result<(), Stop> {
         if !self.faults.is_full() {
-            self.faults.add(place, String::from_str(self.alloc, message)?)?;
+            self.faults
+                .add(place, String::from_str(self.alloc, message)?)?;
         }
         Ok(())
     }
@@ -199,7 +215,11 @@ impl<'a> Lexer<'a> {
         for _ in 0..power.min(64) {
             scaled = scaled.checked_mul(base)?;
         }
-        if power > 64 && scaled > 0 { None } else { Some(scaled) }
+        if power > 64 && scaled > 0 {
+            None
+        } else {
+            Some(scaled)
+        }
     }
 
     /// The rest of a number between signs `#` (2.4.2).
@@ -227,15 +247,24 @@ impl<'a> Lexer<'a> {
             number = self.scaled(number, 10);
         }
         if self.byte(0) == b'.' && self.byte(1).is_ascii_digit() {
-            self.tell(place, "real numbers aren't in this subset: take an integer type, as milliseconds")?;
+            self.tell(
+                place,
+                "real numbers aren't in this subset: take an integer type, as milliseconds",
+            )?;
             self.skip(1);
             self.numeral(10);
         } else if is_letter(self.byte(0)) {
-            self.tell(place, "a number is followed by a letter: write a space between them, and 16#FF# for a number of base 16 (2.4)")?;
+            self.tell(
+                place,
+                "a number is followed by a letter: write a space between them, and 16#FF# for a number of base 16 (2.4)",
+            )?;
             let length = word_length(self.text, self.next);
             self.skip(length);
         } else if number.is_none() {
-            self.tell(place, "expected a number up to 2 ** 64 - 1, with digits of its base, as 1_000 or 16#FF# (2.4)")?;
+            self.tell(
+                place,
+                "expected a number up to 2 ** 64 - 1, with digits of its base, as 1_000 or 16#FF# (2.4)",
+            )?;
         }
         self.push(place, Element::Number(number.unwrap_or(0)))
     }
@@ -281,7 +310,10 @@ impl<'a> Lexer<'a> {
         }
         let length = foreign_length(self.text, place).max(1);
         self.skip(length);
-        self.tell(place, "no element of Ada begins with this character: names have the letters A to Z, digits and underlines here (2.1)")
+        self.tell(
+            place,
+            "no element of Ada begins with this character: names have the letters A to Z, digits and underlines here (2.1)",
+        )
     }
 
     /// Reads the next element, or skips blanks or a comment.
@@ -315,7 +347,10 @@ impl<'a> Lexer<'a> {
                 break;
             }
             if self.elements.len() >= MOST_ELEMENTS {
-                self.tell(self.next, "a text has at most 1,000,000 words, numbers and signs")?;
+                self.tell(
+                    self.next,
+                    "a text has at most 1,000,000 words, numbers and signs",
+                )?;
                 break;
             }
             self.element()?;
@@ -336,6 +371,10 @@ pub fn cut(alloc: Global, text: &[u8], faults: &mut Faults) -> Result<Lexed, Sto
         faults,
     };
     lexer.elements()?;
-    let Lexer { elements, names, .. } = lexer;
+    let Lexer {
+        elements,
+        names,
+        ..
+    } = lexer;
     Ok(Lexed { elements, names })
 }

@@ -7,15 +7,15 @@
 //! Begin with `tree.rt` and `reading.rt`.
 #![tactic(auto)]
 
-pub mod fault;
 mod declarations;
 mod expressions;
+pub mod fault;
 mod lexer;
 pub mod names;
-mod reading;
 mod reader;
-mod show;
+mod reading;
 pub mod reserved;
+mod show;
 pub mod sign;
 mod statements;
 pub mod tree;
@@ -25,6 +25,3 @@ pub use crate::fault::{Fault, Faults, Stop};
 pub use crate::names::Names;
 pub use crate::reading::{Text, parse};
 pub use crate::show::{Position, position_of, report};
-
-#[cfg(test)]
-mod tests;

@@ -151,6 +151,25 @@ impl<'a> Reader<'a> {
         Ok(message)
     }
 
+    /// Tells that this name is no word that may stand here, if it may be meant to be one; else what is expected now.
+    pub fn misspelled(&mut self, name: Name, what: &str) -> Stop {
+        match self.correction(name.number) {
+            Ok(Some(message)) => self.refuse_by(name.place, message),
+            Ok(None) => self.expected(what),
+            Err(_) => Stop::OutOfMemory,
+        }
+    }
+
+    fn correction(&self, name: u32) -> Result<Option<String>, AllocError> {
+        let written = self.names.written(name);
+        match meant(self.alloc, written)? {
+            Some(word) => Ok(Some(format!(in self.alloc;
+                "'{written}' begins nothing here; did you mean '{word}'?"
+            )?)),
+            None => Ok(None),
+        }
+    }
+
     /// Tells that something else is expected here.
     pub fn expected(&mut self, what: &str) -> Stop {
         match self.expectation(what) {

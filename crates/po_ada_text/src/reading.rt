@@ -68,8 +68,11 @@ impl<'a> Reader<'a> {
                 self.skip_task()?;
                 Ok(None)
             }
-            Element::Reserved(Reserved::TypeWord) => Ok(Some(Item::Declaration(self.outer_type()?))),
-            Element::Reserved(Reserved::Procedure) | Element::Reserved(Reserved::Function) => self.subprogram(),
+            Element::Reserved(Reserved::TypeWord) => Ok(Some(Item::Declaration(
+                self.outer_type()?,
+            ))),
+            Element::Reserved(Reserved::Procedure) | Element::Reserved(Reserved::Function) =>
+                self.subprogram(),
             _ => self.outer_declaration(),
         }
     }
@@ -130,14 +133,19 @@ impl<'a> Reader<'a> {
         self.ignored_aspects()?;
         self.needs(Reserved::Is)?;
         if self.sees(Reserved::New) {
-            return Err(self.refuse(place, "an instance of a generic package isn't in this subset (12.3)"));
+            return Err(self.refuse(
+                place,
+                "an instance of a generic package isn't in this subset (12.3)",
+            ));
         }
         Ok(Some(Item::Package(name)))
     }
 
     /// Reads a subprogram, or opens a main program.
     fn subprogram(&mut self) -> Result<Option<Item>, Stop> {
-        let is_main = self.sees(Reserved::Procedure) && self.ahead(2) == Element::Reserved(Reserved::Is) && self.holds_protected();
+        let is_main = self.sees(Reserved::Procedure)
+            && self.ahead(2) == Element::Reserved(Reserved::Is)
+            && self.holds_protected();
         if is_main {
             self.step();
             let name = self.name("the program's name")?;
@@ -209,7 +217,10 @@ impl<'a> Reader<'a> {
     /// Passes over the statements of a program or a package, up to the next protected unit or package.
     fn skip_program(&mut self) {
         for _ in 0..self.turns() {
-            if self.sees(Reserved::Protected) || self.sees(Reserved::Package) || self.peek() == Element::End {
+            if self.sees(Reserved::Protected)
+                || self.sees(Reserved::Package)
+                || self.peek() == Element::End
+            {
                 break;
             }
             self.step();
@@ -252,7 +263,10 @@ pub fn parse(alloc: Global, text: &[u8], faults: &mut Faults) -> Result<Text, St
     ensures told { result ≡ Err Stop.Fault → 1 ≤ vec_len faults.new.items }
 {
     if text.len() > MOST_BYTES {
-        faults.add(MOST_BYTES, String::from_str(alloc, "a text has at most 16 MiB, 16,777,216 bytes")?)?;
+        faults.add(
+            MOST_BYTES,
+            String::from_str(alloc, "a text has at most 16 MiB, 16,777,216 bytes")?,
+        )?;
     }
     if !faults.is_empty() {
         return Err(Stop::Fault);

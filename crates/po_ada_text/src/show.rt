@@ -4,8 +4,8 @@
 use crate::fault::Fault;
 use std::alloc::{AllocError, Global};
 
-/// A line that is shown has at most this many bytes.
-const MOST_SHOWN: usize = 160;
+/// At most this many bytes of a line are shown.
+const MOST_SHOWN: usize = 120;
 
 /// The place of a fault: its line and column, from 1, and the bytes of the line.
 #[derive(Clone, Copy, Debug)]
@@ -19,20 +19,31 @@ pub struct Position<'a> {
 pub fn position_of(text: &[u8], place: usize) -> Position<'_> {
     let before = text.get(..place).unwrap_or(text);
     let line = before.iter().filter(|byte| **byte == b'\n').count();
-    let column = before.iter().rev().take_while(|byte| **byte != b'\n').count();
+    let column = before
+        .iter()
+        .rev()
+        .take_while(|byte| **byte != b'\n')
+        .count();
     let start = before.len().saturating_sub(column);
     let rest = text.get(start..).unwrap_or(&[]);
-    let length = rest.iter().take_while(|byte| **byte != b'\n' && **byte != b'\r').count();
+    let length = rest
+        .iter()
+        .take_while(|byte| **byte != b'\n' && **byte != b'\r')
+        .count();
     Position {
         line: line.saturating_add(1),
         column: column.saturating_add(1),
-        text: rest.get(..length.min(MOST_SHOWN)).unwrap_or(rest),
+        text: rest.get(..length).unwrap_or(rest),
     }
 }
 
 /// A byte of the text as it is shown.
 fn shown(byte: u8) -> char {
-    if byte == b'\t' || byte.is_ascii_graphic() { char::from(byte) } else { ' ' }
+    if byte == b'\t' || byte.is_ascii_graphic() {
+        char::from(byte)
+    } else {
+        ' '
+    }
 }
 
 /// A byte under which no mark is.
@@ -40,14 +51,17 @@ fn unmarked(byte: u8) -> char {
     if byte == b'\t' { '\t' } else { ' ' }
 }
 
-/// The line, and a mark under the place.
+/// The line, and a mark under the place; of a long line the part around the place.
 fn marked(alloc: Global, position: &Position<'_>) -> Result<String, AllocError> {
+    let from = position.column.saturating_sub(MOST_SHOWN);
+    let part = position.text.get(from..).unwrap_or(&[]);
     let mut lines = String::from_str(alloc, "    ")?;
-    for byte in position.text {
+    for byte in part.iter().take(MOST_SHOWN) {
         lines.push(shown(*byte))?;
     }
     lines.push_str("\n    ")?;
-    for byte in position.text.iter().take(position.column.saturating_sub(1)) {
+    let before = position.column.saturating_sub(from).saturating_sub(1);
+    for byte in part.iter().take(before) {
         lines.push(unmarked(*byte))?;
     }
     lines.push_str("^\n")?;

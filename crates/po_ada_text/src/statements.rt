@@ -7,18 +7,24 @@ use crate::reader::{MOST_LEVELS, Reader};
 use crate::reserved::Reserved;
 use crate::sign::Sign;
 use crate::tree::{
-    Action, Alternative, Branch, Choice, Constraint, Expression, Form, Handler, LoopHead, Name, Pragma, Sequence, Statement,
-    Subtype, Variables,
+    Action, Alternative, Branch, Choice, Constraint, Expression, Form, Handler, LoopHead, Name,
+    Pragma, Sequence, Statement, Subtype, Variables,
 };
 
 /// Why a statement isn't read; nothing if it may be.
 fn refusal(word: Reserved) -> Option<&'static str> {
     match word {
         Reserved::Goto => Some("'goto' isn't in this subset: write a loop with 'exit' (5.8)"),
-        Reserved::Delay => Some("'delay' isn't allowed in a protected action, which must not block (9.5.1)"),
-        Reserved::Select => Some("'select' isn't allowed in a protected action, which must not block (9.5.1)"),
+        Reserved::Delay => Some(
+            "'delay' isn't allowed in a protected action, which must not block (9.5.1)",
+        ),
+        Reserved::Select => Some(
+            "'select' isn't allowed in a protected action, which must not block (9.5.1)",
+        ),
         Reserved::Accept => Some("'accept' stands in a task alone (9.5.2)"),
-        Reserved::Abort => Some("'abort' isn't allowed in a protected action, which must not block (9.5.1)"),
+        Reserved::Abort => Some(
+            "'abort' isn't allowed in a protected action, which must not block (9.5.1)",
+        ),
         Reserved::Terminate => Some("'terminate' stands in a 'select' of a task alone (9.7.1)"),
         Reserved::Parallel => Some("parallel blocks and loops aren't in this subset (5.6.1)"),
         _ => None,
@@ -159,12 +165,17 @@ impl<'a> Reader<'a> {
         let action = match self.peek() {
             Element::Reserved(Reserved::If) => self.if_statement(levels - 1)?,
             Element::Reserved(Reserved::Case) => self.case_statement(levels - 1)?,
-            Element::Reserved(Reserved::Loop) | Element::Reserved(Reserved::While) | Element::Reserved(Reserved::For) => {
-                self.loop_statement(None, levels - 1)?
-            }
-            Element::Reserved(Reserved::Declare) | Element::Reserved(Reserved::Begin) => self.block(None, levels - 1)?,
+            Element::Reserved(Reserved::Loop)
+            | Element::Reserved(Reserved::While)
+            | Element::Reserved(Reserved::For) => { self.loop_statement(None, levels - 1)? }
+            Element::Reserved(Reserved::Declare) | Element::Reserved(Reserved::Begin) => self.block(
+                None,
+                levels - 1,
+            )?,
             Element::Reserved(Reserved::Return) => self.return_statement(levels - 1)?,
-            Element::Name(_) if self.ahead(1) == Element::Sign(Sign::Colon) => self.named(levels - 1)?,
+            Element::Name(_) if self.ahead(1) == Element::Sign(Sign::Colon) => self.named(
+                levels - 1,
+            )?,
             _ => self.simple_statement()?,
         };
         Ok(Statement { place, action })
@@ -205,12 +216,28 @@ impl<'a> Reader<'a> {
             if self.sees_sign(Sign::Equal) {
                 return Err(self.expected("':=', which assigns"));
             }
+            if let Form::Name(number) = name.form {
+                self.ends_call(Name {
+                    number,
+                    place: name.place,
+                })?;
+                return Ok(Action::Call(name));
+            }
             self.semicolon()?;
             return Ok(Action::Call(name));
         }
         let value = self.expression(MOST_LEVELS)?;
         self.semicolon()?;
         Ok(Action::Assign(name, value))
+    }
+
+    /// Reads the semicolon after a call; another word than a procedure's name may have been meant.
+    fn ends_call(&mut self, name: Name) -> Result<(), Stop> {
+        if self.sees_sign(Sign::Semicolon) {
+            self.step();
+            return Ok(());
+        }
+        Err(self.misspelled(name, "';'"))
     }
 
     /// Reads an exit statement (5.7).
@@ -293,7 +320,10 @@ impl<'a> Reader<'a> {
             }
             let condition = self.expression_up_to(Reserved::Then)?;
             let statements = self.statements(levels)?;
-            branches.push(Branch { condition, statements })?;
+            branches.push(Branch {
+                condition,
+                statements,
+            })?;
             if !self.sees(Reserved::Elsif) {
                 break;
             }
@@ -325,7 +355,11 @@ impl<'a> Reader<'a> {
             }
             let choices = self.alternative_choices()?;
             let statements = self.statements(levels)?;
-            alternatives.push(Alternative { place, choices, statements })?;
+            alternatives.push(Alternative {
+                place,
+                choices,
+                statements,
+            })?;
         }
         self.closes(Reserved::Case)?;
         Ok(Action::Case(subject, alternatives))
@@ -384,7 +418,8 @@ impl<'a> Reader<'a> {
         if self.takes_sign(Sign::Semicolon) {
             return Ok(Action::Return(None));
         }
-        let is_extended = matches!(self.peek(), Element::Name(_)) && self.ahead(1) == Element::Sign(Sign::Colon);
+        let is_extended = matches!(self.peek(), Element::Name(_))
+            && self.ahead(1) == Element::Sign(Sign::Colon);
         if !is_extended {
             let value = self.expression(MOST_LEVELS)?;
             self.semicolon()?;
@@ -434,7 +469,10 @@ impl<'a> Reader<'a> {
                 handlers.push(self.handler(levels)?)?;
             }
         }
-        Ok(Sequence { statements, handlers })
+        Ok(Sequence {
+            statements,
+            handlers,
+        })
     }
 
     /// Reads a handler (11.2).
@@ -456,7 +494,12 @@ impl<'a> Reader<'a> {
         let mut list = Vec::new(self.alloc);
         if matches!(self.peek(), Element::Name(_)) && self.ahead(1) == Element::Sign(Sign::Colon) {
             let place = self.place();
-            return Err(self.refuse(place, "a name for the exception occurrence isn't in this subset: write 'when E =>' (11.2)"));
+            go_on(self.refuse(
+                place,
+                "a name for the exception occurrence isn't in this subset: write 'when E =>' (11.2)",
+            ))?;
+            self.step();
+            self.step();
         }
         if !self.takes(Reserved::Others) {
             for _ in 0..self.turns() {

@@ -8,8 +8,8 @@ use crate::reserved::Reserved;
 use crate::sign::Sign;
 use crate::statements::go_on;
 use crate::tree::{
-    Action, Body, Content, Expression, Family, Kind, Mode, Name, Parameters, Part, Profile, Protected, ProtectedBody, Sequence,
-    Statement, Subtype, Variables,
+    Action, Body, Content, Expression, Family, Kind, Mode, Name, Parameters, Part, Profile,
+    Protected, ProtectedBody, Sequence, Statement, Subtype, Variables,
 };
 
 impl<'a> Reader<'a> {
@@ -35,7 +35,8 @@ impl<'a> Reader<'a> {
     fn sees_family(&self) -> bool {
         self.sees_sign(Sign::LeftParenthesis)
             && !(matches!(self.ahead(1), Element::Name(_))
-                && (self.ahead(2) == Element::Sign(Sign::Colon) || self.ahead(2) == Element::Sign(Sign::Comma)))
+                && (self.ahead(2) == Element::Sign(Sign::Colon)
+                    || self.ahead(2) == Element::Sign(Sign::Comma)))
     }
 
     /// Reads a family's index (9.5.2).
@@ -53,7 +54,11 @@ impl<'a> Reader<'a> {
 
     fn mode(&mut self) -> Mode {
         if self.takes(Reserved::In) {
-            if self.takes(Reserved::Out) { Mode::InOut } else { Mode::In }
+            if self.takes(Reserved::Out) {
+                Mode::InOut
+            } else {
+                Mode::In
+            }
         } else if self.takes(Reserved::Out) {
             Mode::Out
         } else {
@@ -171,9 +176,15 @@ impl<'a> Reader<'a> {
 
     /// Refuses a subprogram or a package in an operation.
     fn inner_unit(&mut self) -> Result<(), Stop> {
-        if self.sees(Reserved::Procedure) || self.sees(Reserved::Function) || self.sees(Reserved::Package) {
+        if self.sees(Reserved::Procedure)
+            || self.sees(Reserved::Function)
+            || self.sees(Reserved::Package)
+        {
             let place = self.place();
-            return Err(self.refuse(place, "a subprogram in an operation isn't in this subset: declare it in the protected body (6.3)"));
+            return Err(self.refuse(
+                place,
+                "a subprogram in an operation isn't in this subset: declare it in the protected body (6.3)",
+            ));
         }
         Ok(())
     }
@@ -208,7 +219,10 @@ impl<'a> Reader<'a> {
         self.needs(Reserved::Is)?;
         if self.sees(Reserved::New) {
             let place = self.place();
-            return Err(self.refuse(place, "interfaces aren't in this subset: leave 'new .. with' out (9.4)"));
+            return Err(self.refuse(
+                place,
+                "interfaces aren't in this subset: leave 'new .. with' out (9.4)",
+            ));
         }
         let public = self.parts()?;
         let mut private = Vec::new(self.alloc);
