@@ -1,4 +1,5 @@
 -- SPDX-License-Identifier: MIT
 pub mod Exceptions
+pub mod Execution
 pub mod Operators
 pub mod Values

@@ -5,9 +5,11 @@
 #![tactic(auto)]
 
 mod exceptions;
+mod execution;
 mod operators;
 mod tree;
 mod values;
 
+pub use execution::{MOST_CALLS, MOST_SLOTS, MOST_TURNS, Setting, execute_operation};
 pub use exceptions::{ASSERTION_ERROR, CONSTRAINT_ERROR, FIRST_DECLARED, MESSAGES, PROGRAM_ERROR, STORAGE_ERROR, TASKING_ERROR, TOO_MANY_REQUEUES, TOO_MANY_TURNS};
 pub use tree::{Area, Base, Binary, Completion, Entry, Expr, Operation, Program, Range, Stmt, Unary};
