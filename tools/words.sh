@@ -159,7 +159,10 @@ take_script() {
 
 # Prints the name of the Ada text that the script's first command names, by `unit file "NAME"`.
 text_in() {
-  [ ! -f "$1" ] || grep -vE '^ *(#|$)' "$1" | head -n 1 | sed -nE 's/^ *unit +file +"([^"]+)".*/\1/p'
+  [ ! -f "$1" ] || awk '
+    NF == 0 || $1 ~ /^#/ { next }
+    $1 == "unit" && $2 == "file" { split($0, part, "\""); print part[2] }
+    { exit }' "$1"
 }
 
 # Shows the faulty line of a script, and what explains it: explain_fault ERRORS SCRIPT NAME. ERRORS is what the program wrote on

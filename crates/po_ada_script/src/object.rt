@@ -1,7 +1,7 @@
 // SPDX-License-Identifier: MIT
 //! The object of a script.
 
-ghost use Rattle.std.specs.Prelude.{◌≡◌, OnOk, OnErr, [], string_bytes};
+ghost use Rattle.std.specs.Prelude.{◌≡◌, IfOk, OnOk, OnErr, [], string_bytes};
 ghost use Rattle.po_script.specs.Tickets.{Knows, AreCollected};
 
 use crate::operate::carry_out;
@@ -63,6 +63,29 @@ fn shape_of(alloc: Global, entries: &[Entry]) -> Result<Shape, Stop> {
     }
 }
 
+/// Makes the core of an object with this unit and shape, whose calls are numbered from 1.
+fn make<U: TextUnit>(
+    alloc: Global,
+    unit: U,
+    shape: Shape,
+    order: Order,
+    max_queue: Option<u64>,
+) -> Result<Core<U>, Stop>
+    ensures tickets { IfOk result (λ core. core.tickets ≡ []) }
+    ensures collected { IfOk result (λ core. AreCollected core) }
+{
+    let start = Start {
+        first_number: 1,
+        first_place: 0,
+        max_queue,
+    };
+    match Core::start(alloc, unit, shape, order, start) {
+        Ok(core) => Ok(core),
+        Err(MakeError::OutOfMemory) => Err(Stop::OutOfMemory),
+        Err(MakeError::ShapeMismatch) => Err(no_object(alloc, MISMATCH)),
+    }
+}
+
 impl<U: TextUnit> TextObject<U> {
     ghost use Rattle.po_script.specs.Operations.{IsEither};
     ghost use Rattle.po_ada_script.specs.Operations.{after_operation};
@@ -76,20 +99,11 @@ impl<U: TextUnit> TextObject<U> {
         max_queue: Option<u64>,
     ) -> Result<TextObject<U>, Stop> {
         let shape = shape_of(alloc, names.entries.as_slice())?;
-        let start = Start {
-            first_number: 1,
-            first_place: 0,
-            max_queue,
-        };
-        match Core::start(alloc, unit, shape, order, start) {
-            Ok(core) => Ok(TextObject {
-                core,
-                tickets: Tickets::new(alloc),
-                names,
-            }),
-            Err(MakeError::OutOfMemory) => Err(Stop::OutOfMemory),
-            Err(MakeError::ShapeMismatch) => Err(no_object(alloc, MISMATCH)),
-        }
+        Ok(TextObject {
+            core: make(alloc, unit, shape, order, max_queue)?,
+            tickets: Tickets::new(alloc),
+            names,
+        })
     }
 
     /// Carries out the operation, and puts the lines that answer it into the empty reply.

@@ -48,7 +48,7 @@ struct Run<O, T> {
 }
 
 impl<O: ScriptedObject + Drop, T: Texts<O> + Drop> Run<O, T> {
-    ghost use Rattle.std.specs.Prelude.{◌≡◌, ◌×◌, ◌<◌, ◌∷◌, List, ℕ};
+    ghost use Rattle.std.specs.Prelude.{◌≡◌, ◌<◌, ◌∷◌, List, ℕ};
     ghost use Rattle.po_script.specs.Cutter.{total_of, waiting};
     ghost use Rattle.po_script.specs.declared.cutter.TheConstants.{SCRIPT_LIMIT};
 
