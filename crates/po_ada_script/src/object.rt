@@ -63,17 +63,18 @@ fn shape_of(alloc: Global, entries: &[Entry]) -> Result<Shape, Stop> {
     }
 }
 
-/// Makes the core of an object with this unit and shape, whose calls are numbered from 1.
+/// Makes the core of an object with this unit and these entries, whose calls are numbered from 1.
 fn make<U: TextUnit>(
     alloc: Global,
     unit: U,
-    shape: Shape,
+    entries: &[Entry],
     order: Order,
     max_queue: Option<u64>,
 ) -> Result<Core<U>, Stop>
     ensures tickets { IfOk result (λ core. core.tickets ≡ []) }
     ensures collected { IfOk result (λ core. AreCollected core) }
 {
+    let shape = shape_of(alloc, entries)?;
     let start = Start {
         first_number: 1,
         first_place: 0,
@@ -98,9 +99,8 @@ impl<U: TextUnit> TextObject<U> {
         order: Order,
         max_queue: Option<u64>,
     ) -> Result<TextObject<U>, Stop> {
-        let shape = shape_of(alloc, names.entries.as_slice())?;
         Ok(TextObject {
-            core: make(alloc, unit, shape, order, max_queue)?,
+            core: make(alloc, unit, names.entries.as_slice(), order, max_queue)?,
             tickets: Tickets::new(alloc),
             names,
         })
