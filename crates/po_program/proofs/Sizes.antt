@@ -2,7 +2,7 @@
 -- Bodies of operations are no deeper than the deepest one.
 use Rattle.std.proofs.Common.{◌≡◌, ℕ, zero, suc, ◌+◌, ◌-◌, ◌*◌, ◌<◌, ◌≤◌, max, List, [], ◌∷◌, length, get_or, arith, refl, sym, subst}
 use Rattle.po_program.specs.declared.tree.Operation.{Operation}
-use Rattle.po_program.specs.declared.tree.Stmt.{Stmt, size-Stmt}
+use Rattle.po_program.specs.declared.tree.Stmt.{size-Stmt}
 
 abbrev pub deepest : List Operation → ℕ
 deepest [] = 0

@@ -1,6 +1,6 @@
 -- SPDX-License-Identifier: MIT
 -- The turns of a loop.
-use Rattle.std.proofs.Common.{◌≡◌, ◌≢◌, ℕ, zero, suc, ap, ◌∙◌, refl, sym}
+use Rattle.std.proofs.Common.{◌≡◌, ℕ, zero, suc, ap, ◌∙◌, refl}
 use Rattle.po_program.specs.declared.tree.Completion.{Completion}
 use Rattle.po_program.specs.declared.tree.Completion.TheVariants.{Normal, Exited, Returned, Raised, Requeued}
 use Rattle.po_program.specs.Exceptions.{too_many_turns}

@@ -55,7 +55,8 @@ set_cell xs i v = cond (nat_lt i (length xs)) (Normal, slice_set xs i v) (Raised
 
 -- The cell at this distance from another gets the value.
 abbrev pub set_component : List ℤ → ℕ → ℤ → ℤ → Completion × List ℤ
-set_component xs i z v = cond (int_lt z (pos 0)) (Raised program_error, xs) (set_cell xs (i + nat_abs z) v)
+set_component xs i z v = cond (int_lt z (pos 0)) (Raised program_error, xs)
+    (cond (int_lt (pos (2 ^ 32 - 1)) z) (Raised program_error, xs) (set_cell xs (i + nat_abs z) v))
 
 abbrev pub in_object : Memory → Completion × List ℤ → Ended
 in_object m r = (r.0, memory r.1 m.stack m.left)
@@ -116,8 +117,8 @@ exception z = cond (int_lt z (pos 0)) program_error (cond (int_lt (pos (2 ^ 32 -
 
 -- A requeue on the entry at this distance from another (9.5.4).
 abbrev pub requeued : ℕ → ℤ → Bool → Completion
-requeued e z w = cond (int_lt z (pos 0)) (Raised program_error)
-    (cond (nat_lt (e + nat_abs z) (2 ^ 16)) (Requeued (e + nat_abs z) w) (Raised program_error))
+requeued e z w = cond (int_lt z (pos 0)) (Raised program_error) (cond (int_lt (pos (2 ^ 32 - 1)) z) (Raised program_error)
+    (cond (nat_lt (e + nat_abs z) (2 ^ 16)) (Requeued (e + nat_abs z) w) (Raised program_error)))
 
 -- If an exception was raised, goes on with its number (11.4).
 abbrev pub if_raised : Completion → Memory → (ℕ → Memory → Ended) → Ended

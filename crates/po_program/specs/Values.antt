@@ -1,15 +1,15 @@
 -- SPDX-License-Identifier: MIT
 -- What expressions give. In each definition, d is the object's data, l the slots of all frames, b the slot with which the frame
 -- of the operation begins, and c the counts: for each entry, how many calls are queued on it.
-use Rattle.std.specs.Prelude.{ℕ, ◌+◌, ◌^◌, Bool, cond, ◌&&◌, List, Option, Some, None, Result, Ok, Err, ℤ, pos, ◌-ℤ◌, ◌*ℤ◌, nat_abs, int_lt, int_le, nat_lt, slice_get}
+use Rattle.std.specs.Prelude.{ℕ, ◌+◌, ◌-◌, ◌*◌, ◌^◌, Bool, cond, ◌&&◌, List, Option, Some, None, Result, Ok, Err, ℤ, pos, ◌-ℤ◌, nat_abs, int_lt, int_le, nat_lt, slice_get}
 use Rattle.std.specs.Ordering.{int_eq}
 use Rattle.po_program.specs.declared.tree.Range.{Range}
 use Rattle.po_program.specs.declared.tree.Area.{Area}
 use Rattle.po_program.specs.declared.tree.Area.TheVariants.{Object, Frame}
 use Rattle.po_program.specs.declared.tree.Expr.{Expr}
 use Rattle.po_program.specs.declared.tree.Expr.TheVariants.{Number, Cell, CellAt', Index', Count, CountAt', Unary', Binary', AndThen', OrElse', If', In', Check', Raise}
-use Rattle.po_program.specs.Exceptions.{constraint_error, program_error}
-use Rattle.po_program.specs.Operators.{checked, widest, truth, unary, binary}
+use Rattle.po_program.specs.Exceptions.{program_error}
+use Rattle.po_program.specs.Operators.{checked, truth, unary, binary}
 
 -- The value, or Program_Error if the program names a cell that it hasn't (this project's own).
 abbrev pub found : Option ℤ → Result ℤ ℕ
@@ -22,7 +22,7 @@ cell xs i = found (slice_get xs i)
 
 -- The value of the cell at this distance from another.
 abbrev pub component : List ℤ → ℕ → ℤ → Result ℤ ℕ
-component xs i z = cond (int_lt z (pos 0)) (Err program_error) (cell xs (i + nat_abs z))
+component xs i z = cond (int_lt z (pos 0)) (Err program_error) (cond (int_lt (pos (2 ^ 32 - 1)) z) (Err program_error) (cell xs (i + nat_abs z)))
 
 -- The value of a variable.
 abbrev pub variable : Area → List ℤ → List ℤ → ℕ → ℕ → Result ℤ ℕ
@@ -34,10 +34,10 @@ abbrev pub component_of : Area → List ℤ → List ℤ → ℕ → ℕ → ℤ
 component_of Object d l b i z = component d i z
 component_of Frame d l b i z = component l (b + i) z
 
--- The count, or Program_Error if there is no such entry. A count that no cell can hold raises Constraint_Error.
+-- The count, or Program_Error if there is no such entry.
 abbrev pub counted_as : Option ℕ → Result ℤ ℕ
 counted_as None = Err program_error
-counted_as (Some n) = cond (nat_lt n (2 ^ 63)) (Ok (pos n)) (Err constraint_error)
+counted_as (Some n) = Ok (pos n)
 
 -- The attribute Count: how many calls are queued on the entry (9.9).
 abbrev pub counted : List ℕ → ℕ → Result ℤ ℕ
@@ -45,17 +45,22 @@ counted c e = counted_as (slice_get c e)
 
 -- The Count of the family's member at this distance from its first one (9.9).
 abbrev pub counted_at : List ℕ → ℕ → ℤ → Result ℤ ℕ
-counted_at c e z = cond (int_lt z (pos 0)) (Err program_error) (counted c (e + nat_abs z))
+counted_at c e z = cond (int_lt z (pos 0)) (Err program_error) (cond (int_lt (pos (2 ^ 32 - 1)) z) (Err program_error) (counted c (e + nat_abs z)))
 
 -- Goes on with the value, or ends with the exception.
 abbrev pub with_value : Result ℤ ℕ → (ℤ → Result ℤ ℕ) → Result ℤ ℕ
 with_value (Err k) go = Err k
 with_value (Ok z) go = go z
 
+-- How far a component is from the first one if n components are before it, and each takes w cells. No array has 2 ** 32
+-- components (this project's own).
+abbrev pub cells_before : ℕ → ℕ → Result ℤ ℕ
+cells_before w n = cond (nat_lt n (2 ^ 32)) (Ok (pos (n * w))) (Err program_error)
+
 -- How far the component with this index is from the first one: the index has to be in the index range, and a component takes
 -- w cells (4.1.1).
 abbrev pub distance : Range → ℕ → ℤ → Result ℤ ℕ
-distance r w x = with_value (checked r x) (λ y. checked widest ((y -ℤ r.low) *ℤ pos w))
+distance r w x = with_value (checked r x) (λ y. cells_before w (nat_abs (y -ℤ r.low)))
 
 -- Whether the value is in the range (4.5.2).
 abbrev pub is_in : Range → ℤ → Bool

@@ -23,12 +23,12 @@ pub const MOST_TURNS: u32 = 1_000_000;
 pub struct Setting<'a> {
     pub program: &'a Program,
     /// The object's data, if they can't change; else nothing.
-    pub constant: &'a [i64],
+    pub constant: &'a [i128],
     /// For each entry, how many calls are queued on it (9.9).
     pub counts: &'a [u64],
 }
 
-fn set(cells: &mut [i64], i: usize, n: i64) -> Completion
+fn set(cells: &mut [i128], i: usize, n: i128) -> Completion
     ensures { (result, cells.new) ≡ set_cell cells.old i n }
 {
     if i < cells.len() {
@@ -39,16 +39,23 @@ fn set(cells: &mut [i64], i: usize, n: i64) -> Completion
     }
 }
 
-fn set_at(cells: &mut [i64], first: u32, distance: i64, n: i64) -> Completion
+fn set_at(cells: &mut [i128], first: u32, distance: i128, n: i128) -> Completion
     ensures { (result, cells.new) ≡ set_component cells.old first distance n }
 {
-    if distance < 0 {
+    if distance < 0 || distance > 4_294_967_295 {
         return Completion::Raised(PROGRAM_ERROR);
     }
     set(cells, first as usize + distance as usize, n)
 }
 
-fn assign(area: Area, object: &mut [i64], stack: &mut [i64], base: u16, i: u16, n: i64) -> Completion
+fn assign(
+    area: Area,
+    object: &mut [i128],
+    stack: &mut [i128],
+    base: u16,
+    i: u16,
+    n: i128,
+) -> Completion
     ensures { (left : ℕ) → (result, memory object.new stack.new left) ≡ assigned area base i n (memory object.old stack.old left) }
 {
     match area {
@@ -57,7 +64,15 @@ fn assign(area: Area, object: &mut [i64], stack: &mut [i64], base: u16, i: u16, 
     }
 }
 
-fn assign_at(area: Area, object: &mut [i64], stack: &mut [i64], base: u16, i: u16, distance: i64, n: i64) -> Completion
+fn assign_at(
+    area: Area,
+    object: &mut [i128],
+    stack: &mut [i128],
+    base: u16,
+    i: u16,
+    distance: i128,
+    n: i128,
+) -> Completion
     ensures { (left : ℕ) → (result, memory object.new stack.new left) ≡ assigned_at area base i distance n (memory object.old stack.old left) }
 {
     match area {
@@ -67,7 +82,13 @@ fn assign_at(area: Area, object: &mut [i64], stack: &mut [i64], base: u16, i: u1
 }
 
 /// Returns the value of an expression, for which constant data are the object's.
-fn evaluate(setting: &Setting<'_>, e: &Expr, object: &[i64], stack: &[i64], base: u16) -> Result<i64, u32>
+fn evaluate(
+    setting: &Setting<'_>,
+    e: &Expr,
+    object: &[i128],
+    stack: &[i128],
+    base: u16,
+) -> Result<i128, u32>
     ensures { result ≡ value_of e.now (data_of setting.now.constant.now object.now) stack.now base setting.now.counts.now }
 {
     if setting.constant.is_empty() {
@@ -78,10 +99,19 @@ fn evaluate(setting: &Setting<'_>, e: &Expr, object: &[i64], stack: &[i64], base
 }
 
 /// Evaluates how far a component is from an array's first cell, and gives it the value.
-fn assign_component(setting: &Setting<'_>, area: Area, i: u16, place: &Expr, n: i64, object: &mut [i64], stack: &mut [i64], base: u16) -> Completion
+fn assign_component(
+    setting: &Setting<'_>,
+    area: Area,
+    i: u16,
+    place: &Expr,
+    n: i128,
+    object: &mut [i128],
+    stack: &mut [i128],
+    base: u16,
+) -> Completion
     ensures { (left : ℕ) → (result, memory object.new stack.new left)
         ≡ with_number (value_of place.now (data_of setting.now.constant.now object.old) stack.old base setting.now.counts.now) (memory object.old stack.old left)
-            (λ z. assigned_at area base i z n (memory object.old stack.old left)) }
+        (λ z. assigned_at area base i z n (memory object.old stack.old left)) }
 {
     match evaluate(setting, place, object, stack, base) {
         Ok(distance) => assign_at(area, object, stack, base, i, distance, n),
@@ -100,7 +130,7 @@ fn leave(loops: u16) -> Completion
     }
 }
 
-fn raise(n: i64) -> Completion
+fn raise(n: i128) -> Completion
     ensures { result ≡ Completion.Raised (exception n) }
 {
     if n < 0 || n > 4_294_967_295 {
@@ -109,10 +139,10 @@ fn raise(n: i64) -> Completion
     Completion::Raised(n as u32)
 }
 
-fn requeue(first: u16, distance: i64, with_abort: bool) -> Completion
+fn requeue(first: u16, distance: i128, with_abort: bool) -> Completion
     ensures { result ≡ requeued first distance with_abort }
 {
-    if distance < 0 {
+    if distance < 0 || distance > 4_294_967_295 {
         return Completion::Raised(PROGRAM_ERROR);
     }
     let target = u64::from(first) + distance as u64;
@@ -135,11 +165,17 @@ fn finish(completion: Completion) -> Completion
 
 /// Executes a statement.
 #[cycle(executing)]
-fn execute(setting: &Setting<'_>, s: &Stmt, object: &mut [i64], stack: &mut [i64], left: &mut u32, base: u16, depth: u8) -> Completion
-    ensures {
-        let found = setting_of setting.now.program.now.operations.items setting.now.constant.now setting.now.counts.now in
-        (result, memory object.new stack.new left.new) ≡ executed s.now found (called depth found) base (memory object.old stack.old left.old)
-    }
+fn execute(
+    setting: &Setting<'_>,
+    s: &Stmt,
+    object: &mut [i128],
+    stack: &mut [i128],
+    left: &mut u32,
+    base: u16,
+    depth: u8,
+) -> Completion
+    ensures { let found = setting_of setting.now.program.now.operations.items setting.now.constant.now setting.now.counts.now in
+        (result, memory object.new stack.new left.new) ≡ executed s.now found (called depth found) base (memory object.old stack.old left.old) }
 {
     match s {
         Stmt::Null => Completion::Normal,
@@ -151,7 +187,9 @@ fn execute(setting: &Setting<'_>, s: &Stmt, object: &mut [i64], stack: &mut [i64
             Ok(n) => assign_component(setting, *area, *i, place, n, object, stack, base),
             Err(exception) => Completion::Raised(exception),
         },
-        Stmt::Then(first, second) => match execute(setting, first, object, stack, left, base, depth) {
+        Stmt::Then(first, second) => match execute(
+            setting, first, object, stack, left, base, depth,
+        ) {
             Completion::Normal => execute(setting, second, object, stack, left, base, depth),
             completion => completion,
         },
@@ -167,13 +205,27 @@ fn execute(setting: &Setting<'_>, s: &Stmt, object: &mut [i64], stack: &mut [i64
             Ok(n) => raise(n),
             Err(exception) => Completion::Raised(exception),
         },
-        Stmt::Requeue(first, place, with_abort) => match evaluate(setting, place, object, stack, base) {
+        Stmt::Requeue(first, place, with_abort) => match evaluate(
+            setting, place, object, stack, base,
+        ) {
             Ok(distance) => requeue(*first, distance, *with_abort),
             Err(exception) => Completion::Raised(exception),
         },
-        Stmt::Call(operation, first) => call(setting, *operation, u32::from(base) + u32::from(*first), object, stack, left, depth),
-        Stmt::Handle(body, i, handlers) => match execute(setting, body, object, stack, left, base, depth) {
-            Completion::Raised(exception) => handle(setting, exception, *i, handlers, object, stack, left, base, depth),
+        Stmt::Call(operation, first) => call(
+            setting,
+            *operation,
+            u32::from(base) + u32::from(*first),
+            object,
+            stack,
+            left,
+            depth,
+        ),
+        Stmt::Handle(body, i, handlers) => match execute(
+            setting, body, object, stack, left, base, depth,
+        ) {
+            Completion::Raised(exception) => handle(
+                setting, exception, *i, handlers, object, stack, left, base, depth,
+            ),
             completion => completion,
         },
     }
@@ -181,14 +233,22 @@ fn execute(setting: &Setting<'_>, s: &Stmt, object: &mut [i64], stack: &mut [i64
 
 /// Executes the handlers for the exception of this number, which the slot gets.
 #[cycle(executing)]
-fn handle(setting: &Setting<'_>, number: u32, i: u16, handlers: &Stmt, object: &mut [i64], stack: &mut [i64], left: &mut u32, base: u16, depth: u8) -> Completion
-    ensures {
-        let found = setting_of setting.now.program.now.operations.items setting.now.constant.now setting.now.counts.now in
+fn handle(
+    setting: &Setting<'_>,
+    number: u32,
+    i: u16,
+    handlers: &Stmt,
+    object: &mut [i128],
+    stack: &mut [i128],
+    left: &mut u32,
+    base: u16,
+    depth: u8,
+) -> Completion
+    ensures { let found = setting_of setting.now.program.now.operations.items setting.now.constant.now setting.now.counts.now in
         (result, memory object.new stack.new left.new)
-            ≡ then_executed (assigned Area.Frame base i (pos number) (memory object.old stack.old left.old)) (executed handlers.now found (called depth found) base)
-    }
+        ≡ then_executed (assigned Area.Frame base i (pos number) (memory object.old stack.old left.old)) (executed handlers.now found (called depth found) base) }
 {
-    match assign(Area::Frame, object, stack, base, i, i64::from(number)) {
+    match assign(Area::Frame, object, stack, base, i, i128::from(number)) {
         Completion::Normal => execute(setting, handlers, object, stack, left, base, depth),
         completion => completion,
     }
@@ -196,12 +256,18 @@ fn handle(setting: &Setting<'_>, number: u32, i: u16, handlers: &Stmt, object: &
 
 /// Executes the turns of a loop.
 #[cycle(executing)]
-fn repeat(setting: &Setting<'_>, body: &Stmt, object: &mut [i64], stack: &mut [i64], left: &mut u32, base: u16, depth: u8) -> Completion
-    ensures {
-        let found = setting_of setting.now.program.now.operations.items setting.now.constant.now setting.now.counts.now in
+fn repeat(
+    setting: &Setting<'_>,
+    body: &Stmt,
+    object: &mut [i128],
+    stack: &mut [i128],
+    left: &mut u32,
+    base: u16,
+    depth: u8,
+) -> Completion
+    ensures { let found = setting_of setting.now.program.now.operations.items setting.now.constant.now setting.now.counts.now in
         (result, memory object.new stack.new left.new)
-            ≡ turns (suc left.old) (executed body.now found (called depth found) base) (memory object.old stack.old left.old)
-    }
+        ≡ turns (suc left.old) (executed body.now found (called depth found) base) (memory object.old stack.old left.old) }
 {
     let most = u64::from(*left) + 1;
     for _ in 0..most {
@@ -220,11 +286,17 @@ fn repeat(setting: &Setting<'_>, body: &Stmt, object: &mut [i64], stack: &mut [i
 
 /// Executes an operation whose frame begins with this slot.
 #[cycle(executing)]
-fn call(setting: &Setting<'_>, operation: u16, base: u32, object: &mut [i64], stack: &mut [i64], left: &mut u32, depth: u8) -> Completion
-    ensures {
-        let found = setting_of setting.now.program.now.operations.items setting.now.constant.now setting.now.counts.now in
-        (result, memory object.new stack.new left.new) ≡ called depth found operation base (memory object.old stack.old left.old)
-    }
+fn call(
+    setting: &Setting<'_>,
+    operation: u16,
+    base: u32,
+    object: &mut [i128],
+    stack: &mut [i128],
+    left: &mut u32,
+    depth: u8,
+) -> Completion
+    ensures { let found = setting_of setting.now.program.now.operations.items setting.now.constant.now setting.now.counts.now in
+        (result, memory object.new stack.new left.new) ≡ called depth found operation base (memory object.old stack.old left.old) }
 {
     if depth == 0 {
         return Completion::Raised(STORAGE_ERROR);
@@ -235,15 +307,28 @@ fn call(setting: &Setting<'_>, operation: u16, base: u32, object: &mut [i64], st
     if u64::from(base) + u64::from(operation.slots) > u64::from(MOST_SLOTS) {
         return Completion::Raised(STORAGE_ERROR);
     }
-    finish(execute(setting, &operation.body, object, stack, left, base as u16, depth - 1))
+    finish(execute(
+        setting,
+        &operation.body,
+        object,
+        stack,
+        left,
+        base as u16,
+        depth - 1,
+    ))
 }
 
 /// Executes an operation whose frame begins with the first slot, within these limits.
-fn execute_within(setting: &Setting<'_>, operation: u16, object: &mut [i64], stack: &mut [i64], turns: u32, calls: u8) -> Completion
-    ensures {
-        let found = setting_of setting.now.program.now.operations.items setting.now.constant.now setting.now.counts.now in
-        (result, object.new, stack.new) ≡ executed_within calls turns found operation object.old stack.old
-    }
+fn execute_within(
+    setting: &Setting<'_>,
+    operation: u16,
+    object: &mut [i128],
+    stack: &mut [i128],
+    turns: u32,
+    calls: u8,
+) -> Completion
+    ensures { let found = setting_of setting.now.program.now.operations.items setting.now.constant.now setting.now.counts.now in
+        (result, object.new, stack.new) ≡ executed_within calls turns found operation object.old stack.old }
 {
     let mut left = turns;
     call(setting, operation, 0, object, stack, &mut left, calls)
@@ -253,11 +338,14 @@ fn execute_within(setting: &Setting<'_>, operation: u16, object: &mut [i64], sta
 /// the values of its parameters before and after.
 ///
 /// A requeue is told by `Requeued`; any other end that isn't an exception is `Normal`.
-pub fn execute_operation(setting: &Setting<'_>, operation: u16, object: &mut [i64], stack: &mut [i64]) -> Completion
-    ensures {
-        let found = setting_of setting.now.program.now.operations.items setting.now.constant.now setting.now.counts.now in
-        (result, object.new, stack.new) ≡ operation_executed found operation object.old stack.old
-    }
+pub fn execute_operation(
+    setting: &Setting<'_>,
+    operation: u16,
+    object: &mut [i128],
+    stack: &mut [i128],
+) -> Completion
+    ensures { let found = setting_of setting.now.program.now.operations.items setting.now.constant.now setting.now.counts.now in
+        (result, object.new, stack.new) ≡ operation_executed found operation object.old stack.old }
 {
     execute_within(setting, operation, object, stack, MOST_TURNS, MOST_CALLS)
 }

@@ -7,17 +7,17 @@
 /// The values from `low` to `high` (3.5). If `low` is above `high`, the range is null.
 #[derive(Clone, Copy, Debug, PartialEq, Eq)]
 pub struct Range {
-    pub low: i64,
-    pub high: i64,
+    pub low: i128,
+    pub high: i128,
 }
 
 /// What the results of an operator can be (3.5.4).
 #[derive(Clone, Copy, Debug, PartialEq, Eq)]
 pub enum Base {
-    /// The values of this range. Any other result raises Constraint_Error (4.5(10)).
+    /// The values of this range, which is within 64 bits. Any other result raises Constraint_Error (4.5(10)).
     Signed(Range),
-    /// The values from 0 to this modulus less one: results wrap around. A modulus is from 1 to 2 ** 63.
-    Modular(u64),
+    /// The values from 0 to this modulus less one: results wrap around. A modulus is from 1 to 2 ** 64.
+    Modular(u128),
 }
 
 /// An operator with one operand (4.5.4, 4.5.6).
@@ -68,7 +68,7 @@ pub enum Binary {
     Max,
 }
 
-/// Where a cell is.
+/// The list that a cell is in.
 #[derive(Clone, Copy, Debug, PartialEq, Eq)]
 pub enum Area {
     /// Among the data of the protected object. Functions and barriers read them and change none (9.5.1).
@@ -83,7 +83,7 @@ pub enum Area {
 #[derive(Drop, Debug)]
 pub enum Expr {
     /// A static value (4.9).
-    Number(i64),
+    Number(i128),
     /// A variable, or a component at a place that is known.
     Cell(Area, u16),
     /// An array's component: the array's first cell, and how far from it the component is (4.1.1). The distance is a sum of
@@ -178,7 +178,7 @@ pub struct Entry {
     /// The operation that is the entry's body.
     pub body: u16,
     /// The member's index, which both have in slot 8; of a single entry any number.
-    pub index: i64,
+    pub index: i128,
 }
 
 /// The program of a protected object. It holds no names: tables beside it tell the names of entries, operations and exceptions.

@@ -1,14 +1,14 @@
 // SPDX-License-Identifier: MIT
 //! The evaluation of expressions. It takes no memory. An error is the number of the exception that is raised.
 
-ghost use Rattle.std.specs.Prelude.{◌≡◌, ◌^◌, ◌<◌, pos, nat_abs, ◌-ℤ◌, ◌*ℤ◌};
-ghost use Rattle.po_program.specs.Values.{cell, component, component_of, counted, counted_at, distance, is_in, value_of, variable};
+ghost use Rattle.std.specs.Prelude.{◌≡◌};
+ghost use Rattle.po_program.specs.Values.{cell, cells_before, component, component_of, counted, counted_at, distance, is_in, value_of, variable};
 
-use crate::exceptions::{CONSTRAINT_ERROR, PROGRAM_ERROR};
-use crate::operators::{WIDEST, binary_of, check, truth_of, unary_of};
+use crate::exceptions::PROGRAM_ERROR;
+use crate::operators::{binary_of, check, truth_of, unary_of};
 use crate::tree::{Area, Expr, Range};
 
-fn read(cells: &[i64], i: usize) -> Result<i64, u32>
+fn read(cells: &[i128], i: usize) -> Result<i128, u32>
     ensures { result ≡ cell cells.now i }
 {
     match cells.get(i) {
@@ -17,16 +17,22 @@ fn read(cells: &[i64], i: usize) -> Result<i64, u32>
     }
 }
 
-fn read_at(cells: &[i64], first: u32, distance: i64) -> Result<i64, u32>
+fn read_at(cells: &[i128], first: u32, distance: i128) -> Result<i128, u32>
     ensures { result ≡ component cells.now first distance }
 {
-    if distance < 0 {
+    if distance < 0 || distance > 4_294_967_295 {
         return Err(PROGRAM_ERROR);
     }
     read(cells, first as usize + distance as usize)
 }
 
-fn read_variable(area: Area, object: &[i64], stack: &[i64], base: u16, i: u16) -> Result<i64, u32>
+fn read_variable(
+    area: Area,
+    object: &[i128],
+    stack: &[i128],
+    base: u16,
+    i: u16,
+) -> Result<i128, u32>
     ensures { result ≡ variable area object.now stack.now base i }
 {
     match area {
@@ -35,7 +41,14 @@ fn read_variable(area: Area, object: &[i64], stack: &[i64], base: u16, i: u16) -
     }
 }
 
-fn read_component(area: Area, object: &[i64], stack: &[i64], base: u16, i: u16, distance: i64) -> Result<i64, u32>
+fn read_component(
+    area: Area,
+    object: &[i128],
+    stack: &[i128],
+    base: u16,
+    i: u16,
+    distance: i128,
+) -> Result<i128, u32>
     ensures { result ≡ component_of area object.now stack.now base i distance }
 {
     match area {
@@ -44,56 +57,56 @@ fn read_component(area: Area, object: &[i64], stack: &[i64], base: u16, i: u16, 
     }
 }
 
-fn count(counts: &[u64], e: usize) -> Result<i64, u32>
+fn count(counts: &[u64], e: usize) -> Result<i128, u32>
     ensures { result ≡ counted counts.now e }
 {
     match counts.get(e) {
-        Some(n) if *n < 9_223_372_036_854_775_808 => Ok(*n as i64),
-        Some(_) => Err(CONSTRAINT_ERROR),
+        Some(n) => Ok(i128::from(*n)),
         None => Err(PROGRAM_ERROR),
     }
 }
 
-fn count_at(counts: &[u64], first: u16, distance: i64) -> Result<i64, u32>
+fn count_at(counts: &[u64], first: u16, distance: i128) -> Result<i128, u32>
     ensures { result ≡ counted_at counts.now first distance }
 {
-    if distance < 0 {
+    if distance < 0 || distance > 4_294_967_295 {
         return Err(PROGRAM_ERROR);
     }
     count(counts, usize::from(first) + distance as usize)
 }
 
-/// Returns how many components there are between two indices of an array.
-fn components_between(low: i64, index: i64) -> i128
-    ensures value { result ≡ index -ℤ low }
-    ensures bound { nat_abs result < 2 ^ 64 }
+/// Returns how many cells are before a component, if this many components are before it.
+fn cells_before_component(width: u16, components: u128) -> Result<i128, u32>
+    ensures { result ≡ cells_before width components }
 {
-    i128::from(index) - i128::from(low)
+    if components < 4_294_967_296 {
+        Ok(i128::from(components as u64 * u64::from(width)))
+    } else {
+        Err(PROGRAM_ERROR)
+    }
 }
 
-/// Returns how many cells there are between two indices of an array.
-fn cells_between(low: i64, index: i64, width: u16) -> i128
-    ensures { result ≡ (index -ℤ low) *ℤ pos width }
-{
-    let components = components_between(low, index);
-    components * i128::from(width)
-}
-
-fn distance_of(range: Range, width: u16, index: i64) -> Result<i64, u32>
+fn distance_of(range: Range, width: u16, index: i128) -> Result<i128, u32>
     ensures { result ≡ distance range width index }
 {
-    let index = check(range, i128::from(index))?;
-    check(WIDEST, cells_between(range.low, index, width))
+    let index = check(range, index)?;
+    cells_before_component(width, index.abs_diff(range.low))
 }
 
-fn contains(range: Range, n: i64) -> bool
+fn contains(range: Range, n: i128) -> bool
     ensures { result ≡ is_in range n }
 {
     range.low <= n && n <= range.high
 }
 
 /// Returns the value of an expression, or the number of the exception that it raises.
-pub(crate) fn value(e: &Expr, object: &[i64], stack: &[i64], base: u16, counts: &[u64]) -> Result<i64, u32>
+pub(crate) fn value(
+    e: &Expr,
+    object: &[i128],
+    stack: &[i128],
+    base: u16,
+    counts: &[u64],
+) -> Result<i128, u32>
     ensures { result ≡ value_of e.now object.now stack.now base counts.now }
 {
     match e {
@@ -148,7 +161,7 @@ pub(crate) fn value(e: &Expr, object: &[i64], stack: &[i64], base: u16, counts: 
         }
         Expr::Check(range, a) => {
             let a = value(a, object, stack, base, counts)?;
-            check(*range, i128::from(a))
+            check(*range, a)
         }
         Expr::Raise(exception) => Err(*exception),
     }

@@ -1,5 +1,5 @@
 -- SPDX-License-Identifier: MIT
-use Rattle.std.proofs.Common.{◌≡◌, ℕ, suc, ◌+◌, ◌-◌, ◌*◌, ◌<◌, ◌≤◌}
+use Rattle.std.proofs.Common.{◌≡◌, suc, ◌+◌, ◌-◌, ◌*◌}
 use Rattle.po_program.specs.Execution.{called, executed, memory, setting_of, turns}
 use Rattle.po_program.specs.declared.tree.Stmt.{size-Stmt}
 use Rattle.po_program.proofs.Sizes.{span}
