@@ -12,7 +12,10 @@ fi
 library=$(cd "$1" && pwd)
 cross=${2-}
 runner=(timeout 60)
-[ $# -eq 1 ] || runner=(timeout 300 "$3")
+# By an emulator on one processor: on several, qemu lets a load pass an earlier store, though both are sequentially consistent (STLR,
+# then LDAR), which aarch64 forbids. litmus.c sees that.
+one=$(taskset -cp $$ | sed -E 's/.*: ([0-9]+).*/\1/')
+[ $# -eq 1 ] || runner=(timeout 300 taskset -c "$one" "$3")
 cd "$(dirname "$0")/.." || exit 2
 include=$(cd ../../include && pwd)
 scratch=$(mktemp -d) || exit 2
