@@ -28,7 +28,8 @@
    4. An object that is read is one whose mutex is made: the write is a release, and the read acquires.
    5. What the caller reads of a call that has ended was written before the waking thread locked the call's mutex.
 
-   x86-64 shows only the weak order of 2; so does qemu on several processors, which doesn't order 2 as aarch64 would (run.sh). The thread sanitizer judges 1, 3, 4 and 5 by the model. */
+   x86-64 shows only the weak order of 2; so does qemu on several processors, which doesn't order 2 as aarch64 would (run.sh). The
+   thread sanitizer judges 1, 3, 4 and 5 by the model. */
 #define _POSIX_C_SOURCE 200809L
 #include "check.h"
 #include "pobj_threads.h"

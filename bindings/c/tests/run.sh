@@ -12,8 +12,8 @@ fi
 library=$(cd "$1" && pwd)
 cross=${2-}
 runner=(timeout 60)
-# By an emulator on one processor: on several, qemu lets a load pass an earlier store, though both are sequentially consistent (STLR,
-# then LDAR), which aarch64 forbids. litmus.c sees that.
+# By an emulator on one processor. On several, qemu lets a load pass an earlier store, though both are sequentially consistent
+# (STLR, then LDAR); aarch64 forbids that, and litmus.c sees it.
 one=$(taskset -cp $$ | sed -E 's/.*: ([0-9]+).*/\1/')
 [ $# -eq 1 ] || runner=(timeout 300 taskset -c "$one" "$3")
 cd "$(dirname "$0")/.." || exit 2
