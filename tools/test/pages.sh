@@ -88,6 +88,16 @@ code_is_the_example() {
   done < <(awk '/^```$/ && inside { printf "%c", 0; inside = 0 } inside { print } /^```rust$/ { inside = 1 }' docs/OBJECTS.md)
 }
 
+# The Ada text at the head of each unit is that of its file in examples/ada/, word for word.
+heads_are_the_texts() {
+  local head unit text
+  for head in $(grep -l '^//! ```ada$' crates/po_classic_units/src/*.rt); do
+    unit=$(basename "$head" .rt)
+    text=$(sed -n '/^\/\/! ```ada$/,/^\/\/! ```$/{/```/d; s:^//! \{0,1\}::; p}' "$head")
+    if [[ $(<"examples/ada/$unit.adb") == *"$text"* ]]; then pass; else fail "the head of $head isn't in examples/ada/$unit.adb"; fi
+  done
+}
+
 # Each line of code and of definitions that the page quotes is in the crate.
 lines_stand_in() {
   local line
@@ -139,6 +149,7 @@ pages() {
   headline_is_counted
   claims_lead_somewhere
   code_is_the_example
+  heads_are_the_texts
   lines_stand_in LAWS.md example_readers
   lines_stand_in YOUR_UNIT.md example_unit
   paragraphs_are_short
