@@ -5,8 +5,8 @@ use crate::giving::Steady;
 use crate::lowering::{LEVELS, Lowering, Parameter, sequence};
 use crate::types::{Meaning, Sub};
 use crate::values::{Denoted, Part, range_of, slot_cell};
-use po_ada_text::Stop;
-use po_ada_text::tree::{
+use po_ada_tree::Stop;
+use po_ada_tree::tree::{
     Action, Alternative, Association, Attribute, Branch, Expression, Form, Handler, Kind, LoopHead,
     Mode, Name, Pragma, Sequence, Statement, Variables,
 };

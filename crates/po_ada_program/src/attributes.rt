@@ -4,8 +4,8 @@
 use crate::lowering::Lowering;
 use crate::types::{INTEGER, Meaning, Structure, Sub, UNIVERSAL, Variable};
 use crate::values::{Denoted, Part, Value, computed, fixed_value, range_of, slot_cell};
-use po_ada_text::Stop;
-use po_ada_text::tree::{Association, Attribute, Choice, Expression, Form, Iteration, Kind, Name};
+use po_ada_tree::Stop;
+use po_ada_tree::tree::{Association, Attribute, Choice, Expression, Form, Iteration, Kind, Name};
 use po_program::{Area, Base, Binary, Expr, MESSAGES, Stmt};
 
 /// A loop over a range whose turns are to come: the slot of its parameter, the slot of its last value, and whether reverse.

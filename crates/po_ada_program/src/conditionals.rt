@@ -4,8 +4,8 @@
 use crate::lowering::{Lowering, sequence};
 use crate::types::{BOOLEAN, GREATEST, LEAST, Meaning, Structure, Sub, UNIVERSAL};
 use crate::values::{Value, choice_place, computed, fixed_value, range_of, slot_cell};
-use po_ada_text::Stop;
-use po_ada_text::tree::{Arm, CaseArm, Choice, Expression, Form, Iteration, Name};
+use po_ada_tree::Stop;
+use po_ada_tree::tree::{Arm, CaseArm, Choice, Expression, Form, Iteration, Name};
 use po_program::{Area, Base, Binary, Expr, Range, Stmt};
 /// A test and what is evaluated after it, with the statements before each.
 #[derive(Drop)]

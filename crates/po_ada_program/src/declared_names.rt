@@ -7,8 +7,8 @@ use po_ada_names::{
     Discriminant, Entry, Enumeration, Family, Form, Heading, Mode, ObjectNames, Operation,
     Parameter, Subtype, Types,
 };
-use po_ada_text::tree::{Kind, Name, Protected};
-use po_ada_text::{Stop, tree};
+use po_ada_tree::tree::{Kind, Name, Protected};
+use po_ada_tree::{Stop, tree};
 use std::alloc::AllocError;
 
 /// The types that were named so far, and the numbers of those that are enumerations.
@@ -208,7 +208,10 @@ pub fn object_names(lowering: &Lowering<'_>, unit: Name) -> Result<ObjectNames, 
 }
 
 /// The unit's name and its discriminants.
-pub fn heading_names<'a>(lowering: &mut Lowering<'a>, unit: &'a Protected) -> Result<Heading, Stop> {
+pub fn heading_names<'a>(
+    lowering: &mut Lowering<'a>,
+    unit: &'a Protected,
+) -> Result<Heading, Stop> {
     let mut table = lowering.table();
     let mut discriminants = Vec::new(lowering.alloc);
     for variables in unit.discriminants.iter() {

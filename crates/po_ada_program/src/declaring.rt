@@ -6,8 +6,8 @@ use crate::types::{
     BOOLEAN, Field, GREATEST, INTEGER, Kind, LEAST, Meaning, Structure, Sub, Variable, base_range,
 };
 use crate::values::Part;
-use po_ada_text::Stop;
-use po_ada_text::tree::{
+use po_ada_tree::Stop;
+use po_ada_tree::tree::{
     ArrayIndex, Choice, Constraint, Declaration, Expression, Form, Name, Subtype, TypeForm,
     Variables,
 };

@@ -3,11 +3,15 @@
 
 use crate::lowering::Lowering;
 use crate::types::{GREATEST, LEAST, Meaning, Structure, Sub, Variable};
-use crate::values::{Denoted, Part, Value, body_number, computed, first_value, fixed_value, is_name, range_of, slot_cell};
-use po_ada_text::Stop;
-use po_ada_text::tree::{Association, Expression, Form, Kind, Mode, Name};
+use crate::values::{
+    Denoted, Part, Value, body_number, computed, first_value, fixed_value, is_name, range_of,
+    slot_cell,
+};
+use po_ada_tree::Stop;
+use po_ada_tree::tree::{Association, Expression, Form, Kind, Mode, Name};
 use po_program::{Area, Base, Binary, Expr, Range, Stmt};
 use std::alloc::AllocError;
+
 impl<'a> Lowering<'a> {
     /// The subtype that an expression names.
     pub fn subtype_mark(&mut self, mark: &'a Expression) -> Result<Sub, Stop> {
@@ -37,7 +41,12 @@ impl<'a> Lowering<'a> {
 
     /// What is in a denoted part: a value of a discrete type.
     #[cycle(values)]
-    pub fn as_value(&mut self, place: usize, denoted: Denoted, levels: usize) -> Result<Value, Stop> {
+    pub fn as_value(
+        &mut self,
+        place: usize,
+        denoted: Denoted,
+        levels: usize,
+    ) -> Result<Value, Stop> {
         match denoted {
             Denoted::Value(value) => Ok(value),
             Denoted::Part(part) => self.read(place, part),

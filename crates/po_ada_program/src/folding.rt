@@ -1,7 +1,7 @@
 // SPDX-License-Identifier: MIT
 //! Static expressions: their values are known when the text is read (4.9).
 
-use po_ada_text::tree::{Infix, Prefix};
+use po_ada_tree::tree::{Infix, Prefix};
 use po_program::Base;
 
 /// The value as a base has it; none if it is outside of the base.

@@ -4,8 +4,8 @@
 use crate::lowering::Lowering;
 use crate::types::{Structure, Sub};
 use crate::values::{Denoted, Part, first_value, slot_cell};
-use po_ada_text::Stop;
-use po_ada_text::tree::{Association, Choice, Expression, Form};
+use po_ada_tree::Stop;
+use po_ada_tree::tree::{Association, Choice, Expression, Form};
 use po_program::{Area, Expr, Stmt};
 
 /// Cells that get one value: how far they are from the variable's first one, how many, and the value: a number or a slot.

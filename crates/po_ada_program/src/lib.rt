@@ -1,10 +1,10 @@
 // SPDX-License-Identifier: MIT
 //! From the syntax tree of an Ada text to the program of its protected object: names and types.
 //!
-//! `read` reads a text; `AdaText::object` makes the program and the names for scripts, for values of the discriminants.
-//! What is wrong is told by faults. Reading is tested, not proved, beyond that it ends and never panics.
+//! `object_of` makes the program and the names for scripts, for values of the discriminants. What is wrong is told by faults.
+//! This is tested, not proved, beyond that it ends and never panics.
 //!
-//! Begin with `text.rt` and `unit.rt`.
+//! Begin with `object.rt` and `unit.rt`.
 #![tactic(auto)]
 
 mod actions;
@@ -16,9 +16,9 @@ mod denoting;
 mod folding;
 mod giving;
 mod lowering;
-mod text;
+mod object;
 mod types;
 mod unit;
 mod values;
 
-pub use crate::text::{AdaText, Made, read};
+pub use crate::object::{Made, heading_of, object_of};

@@ -4,8 +4,8 @@
 use crate::types::{
     BOOLEAN, INTEGER, Kind, Meaning, Structure, Sub, Symbol, UNIVERSAL, base_of, count,
 };
-use po_ada_text::tree::{Body, Expression, Mode, Name, Profile};
-use po_ada_text::{Faults, Names, Stop};
+use po_ada_tree::tree::{Body, Expression, Mode, Name, Profile};
+use po_ada_tree::{Faults, Names, Stop};
 use po_program::{Base, Expr, Stmt};
 use std::alloc::{AllocError, Global};
 use std::mem;

@@ -1,7 +1,7 @@
 // SPDX-License-Identifier: MIT
 //! Types and subtypes, and what names stand for.
 
-use po_ada_text::tree::Expression;
+use po_ada_tree::tree::Expression;
 use po_program::{Area, Base, Range};
 
 /// The type of numbers without a type, and of Count (3.4.1, 9.9).

@@ -3,11 +3,11 @@
 
 use crate::lowering::{Declared, LEVELS, Lowering, Parameter, sequence};
 use crate::types::{Meaning, Sub, Variable};
-use po_ada_text::tree::{
+use po_ada_tree::Stop;
+use po_ada_tree::tree::{
     Body, Content, Declaration, Item, Kind, Mode, Name, Parameters, Part, Profile, Protected,
     ProtectedBody, Variables,
 };
-use po_ada_text::Stop;
 use po_program::{Area, Entry, Operation, Program, Stmt};
 
 /// A call carries at most this many parameters.
@@ -19,7 +19,12 @@ pub const FIRST_LOCAL: u16 = 9;
 
 impl<'a> Lowering<'a> {
     /// The meaning of a text's items, up to the body of the protected unit.
-    pub fn items(&mut self, items: &'a [Item], wanted: Name, values: &'a [i128]) -> Result<(), Stop> {
+    pub fn items(
+        &mut self,
+        items: &'a [Item],
+        wanted: Name,
+        values: &'a [i128],
+    ) -> Result<(), Stop> {
         let mut is_made = false;
         for item in items {
             let done = match item {

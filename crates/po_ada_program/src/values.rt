@@ -1,12 +1,12 @@
 // SPDX-License-Identifier: MIT
 //! Expressions get their meaning (4.4). A call of a function is a statement before its expression.
 
+use crate::conditionals::Branching;
 use crate::folding::{folded, folded_prefix, within};
 use crate::lowering::Lowering;
-use crate::conditionals::Branching;
 use crate::types::{BOOLEAN, CHARACTER, Sub, UNIVERSAL};
-use po_ada_text::Stop;
-use po_ada_text::tree::{Choice, Expression, Form, Infix, Prefix};
+use po_ada_tree::Stop;
+use po_ada_tree::tree::{Choice, Expression, Form, Infix, Prefix};
 use po_program::{Area, Base, Binary, Expr, Range, Unary};
 use std::alloc::AllocError;
 
@@ -142,7 +142,13 @@ impl<'a> Lowering<'a> {
         Ok(code)
     }
 
-    pub fn power(&mut self, place: usize, base: Base, left: Expr, right: Expr) -> Result<Expr, Stop> {
+    pub fn power(
+        &mut self,
+        place: usize,
+        base: Base,
+        left: Expr,
+        right: Expr,
+    ) -> Result<Expr, Stop> {
         match base {
             Base::Signed(range) => Ok(self.binary(Binary::Power(range), left, right)?),
             Base::Modular(_) => {

@@ -1,13 +1,13 @@
 // SPDX-License-Identifier: MIT
 //! Reads declarations of types, variables, constants and exceptions (3.1).
 
-use crate::fault::Stop;
 use crate::lexer::Element;
 use crate::reader::{MOST_LEVELS, Reader};
-use crate::reserved::Reserved;
 use crate::sign::Sign;
 use crate::statements::go_on;
-use crate::tree::{
+use po_ada_tree::fault::Stop;
+use po_ada_tree::reserved::Reserved;
+use po_ada_tree::tree::{
     ArrayIndex, Aspect, Choice, Declaration, Expression, Form, Name, TypeForm, Variables,
 };
 

@@ -1,10 +1,10 @@
 // SPDX-License-Identifier: MIT
 //! Cuts a text into its lexical elements (2.2).
 
-use crate::fault::{Faults, Stop};
-use crate::names::{Names, Word};
-use crate::reserved::Reserved;
 use crate::sign::{Sign, double_sign, single_sign};
+use po_ada_tree::fault::{Faults, Stop};
+use po_ada_tree::names::{Names, Word};
+use po_ada_tree::reserved::Reserved;
 use std::alloc::Global;
 
 /// A text has at most this many elements.

@@ -1,12 +1,12 @@
 // SPDX-License-Identifier: MIT
 //! A cursor over the elements of a text, and the faults that reading finds.
 
-use crate::fault::{Faults, Stop};
 use crate::lexer::{Element, Placed};
-use crate::names::Names;
-use crate::reserved::{RESERVED, Reserved};
 use crate::sign::Sign;
-use crate::tree::Name;
+use po_ada_tree::fault::{Faults, Stop};
+use po_ada_tree::names::Names;
+use po_ada_tree::reserved::{RESERVED, Reserved};
+use po_ada_tree::tree::Name;
 use std::alloc::{AllocError, Global};
 use strsim::levenshtein;
 

@@ -3,25 +3,18 @@
 
 ghost use Rattle.std.specs.Prelude.{◌≡◌, ◌≤◌, vec_len, OnOk, Err};
 
-use crate::fault::{Faults, Stop};
 use crate::lexer::{Element, Lexed, cut};
-use crate::names::Names;
 use crate::reader::Reader;
-use crate::reserved::Reserved;
 use crate::sign::Sign;
 use crate::statements::go_on;
-use crate::tree::{Declaration, Item, Name};
+use po_ada_tree::fault::{Faults, Stop};
+use po_ada_tree::names::Names;
+use po_ada_tree::reserved::Reserved;
+use po_ada_tree::tree::{Declaration, Item, Name, Text};
 use std::alloc::Global;
 
 /// A text has at most this many bytes.
 pub const MOST_BYTES: usize = 16_777_216;
-
-/// A text that was read.
-#[derive(Drop)]
-pub struct Text {
-    pub items: Vec<Item>,
-    pub names: Names,
-}
 
 impl<'a> Reader<'a> {
     /// Reads a text's items. After a fault, goes on at the next item.

@@ -1,12 +1,12 @@
 // SPDX-License-Identifier: MIT
 //! Reads statements (5.1). The functions call one another; `levels` says how much deeper they may.
 
-use crate::fault::Stop;
 use crate::lexer::Element;
 use crate::reader::{MOST_LEVELS, Reader};
-use crate::reserved::Reserved;
 use crate::sign::Sign;
-use crate::tree::{
+use po_ada_tree::fault::Stop;
+use po_ada_tree::reserved::Reserved;
+use po_ada_tree::tree::{
     Action, Alternative, Branch, Choice, Constraint, Expression, Form, Handler, LoopHead, Name,
     Pragma, Sequence, Statement, Subtype, Variables,
 };

@@ -1,13 +1,13 @@
 // SPDX-License-Identifier: MIT
 //! Reads protected units and the operations in them (9.4), and operations outside of them.
 
-use crate::fault::Stop;
 use crate::lexer::Element;
 use crate::reader::{MOST_LEVELS, Reader};
-use crate::reserved::Reserved;
 use crate::sign::Sign;
 use crate::statements::go_on;
-use crate::tree::{
+use po_ada_tree::fault::Stop;
+use po_ada_tree::reserved::Reserved;
+use po_ada_tree::tree::{
     Action, Body, Content, Expression, Family, Kind, Mode, Name, Parameters, Part, Profile,
     Protected, ProtectedBody, Sequence, Statement, Subtype, Variables,
 };

@@ -4,8 +4,9 @@
 #![tactic(auto)]
 
 use anyhow::Result;
-use po_ada_program::{AdaText, Made, read};
-use po_ada_text::{Fault, report};
+use po_ada_program::Made;
+use po_ada_reading::{AdaText, read};
+use po_ada_tree::{Fault, report};
 use std::alloc::Global;
 use std::io::{self, Input, Print, Read};
 

@@ -1,6 +1,8 @@
 // SPDX-License-Identifier: MIT
 //! The syntax tree of a text: what is written, with the place of each part, and not what it means.
 
+use crate::names::Names;
+
 /// A name that stands at a place.
 #[derive(Clone, Copy, Debug, PartialEq, Eq)]
 pub struct Name {
@@ -395,4 +397,11 @@ pub enum Item {
     ProtectedBody(ProtectedBody),
     /// A subprogram that has what isn't in the subset.
     Unread(Name),
+}
+
+/// A text that was read.
+#[derive(Drop)]
+pub struct Text {
+    pub items: Vec<Item>,
+    pub names: Names,
 }

@@ -1,13 +1,11 @@
 // SPDX-License-Identifier: MIT
 //! Reads a text, and makes the program of one of its protected units.
 
-use crate::declared_names::{heading_names, object_names};
-use crate::lowering::Lowering;
-use crate::unit::FIRST_LOCAL;
-use po_ada_names::{Heading, ObjectNames};
-use po_ada_text::tree::{Item, Name};
-use po_ada_text::{Fault, Faults, Names, Stop, Text, parse};
-use po_program::Program;
+use po_ada_names::Heading;
+use po_ada_program::{Made, heading_of, object_of};
+use po_ada_text::parse;
+use po_ada_tree::tree::{Item, Name};
+use po_ada_tree::{Fault, Faults, Names, Stop, Text};
 use std::alloc::{AllocError, Global};
 
 /// A text whose syntax was read, and one of its protected units.
@@ -18,42 +16,6 @@ pub struct AdaText {
     text: Text,
     wanted: Name,
     heading: Heading,
-}
-
-/// The program of an object and its names.
-#[derive(Drop)]
-pub struct Made {
-    pub program: Program,
-    pub names: ObjectNames,
-}
-
-/// Everything that is known before a text's items.
-fn lowering<'a>(
-    alloc: Global,
-    bytes: &'a [u8],
-    names: &'a Names,
-    faults: &'a mut Faults,
-) -> Lowering<'a> {
-    Lowering {
-        alloc,
-        bytes,
-        names,
-        faults,
-        kinds: Vec::new(alloc),
-        scope: Vec::new(alloc),
-        cells: 0,
-        operations: Vec::new(alloc),
-        entries: 0,
-        literals: Vec::new(alloc),
-        exceptions: Vec::new(alloc),
-        messages: Vec::new(alloc),
-        code: Vec::new(alloc),
-        slots: FIRST_LOCAL,
-        most_slots: FIRST_LOCAL,
-        loops: Vec::new(alloc),
-        current: None,
-        handled: None,
-    }
 }
 
 /// The protected unit of a text that is asked for; if none is, the only one.
@@ -101,39 +63,6 @@ fn is_wanted(names: &Names, name: Name, wanted: Option<&str>) -> bool {
     }
 }
 
-
-/// The program of the object and its names.
-fn made(alloc: Global, ada: &AdaText, values: &[i128], faults: &mut Faults) -> Result<Made, Stop> {
-    let mut lowering = lowering(alloc, ada.bytes.as_slice(), &ada.text.names, faults);
-    lowering.predefine_all()?;
-    lowering.items(ada.text.items.as_slice(), ada.wanted, values)?;
-    let program = lowering.program()?;
-    let names = object_names(&lowering, ada.wanted)?;
-    Ok(Made { program, names })
-}
-
-/// What is known of the unit before its discriminants have values.
-fn heading(
-    alloc: Global,
-    text: &Text,
-    bytes: &[u8],
-    wanted: Name,
-    faults: &mut Faults,
-) -> Result<Heading, Stop> {
-    let mut lowering = lowering(alloc, bytes, &text.names, faults);
-    lowering.predefine_all()?;
-    for item in text.items.iter() {
-        if let Item::Protected(unit) = item {
-            if unit.name.number == wanted.number {
-                return heading_names(&mut lowering, unit);
-            }
-        }
-        let done = lowering.item(item, wanted, &[]);
-        lowering.keep_on(done)?;
-    }
-    Err(lowering.refuse(wanted.place, "the text has no protected type or object"))
-}
-
 /// A text and its unit, or a stop.
 fn read_text(
     alloc: Global,
@@ -143,7 +72,7 @@ fn read_text(
 ) -> Result<AdaText, Stop> {
     let text = parse(alloc, bytes, faults)?;
     let wanted = chosen(alloc, &text, wanted, faults)?;
-    let heading = heading(alloc, &text, bytes, wanted, faults)?;
+    let heading = heading_of(alloc, &text, bytes, wanted, faults)?;
     Ok(AdaText {
         alloc,
         bytes: bytes.to_vec(alloc)?,
@@ -190,7 +119,14 @@ impl AdaText {
         values: &[i128],
     ) -> Result<Result<Made, Vec<Fault>>, AllocError> {
         let mut faults = Faults::new(alloc);
-        let made = made(alloc, self, values, &mut faults);
+        let made = object_of(
+            alloc,
+            &self.text,
+            self.bytes.as_slice(),
+            self.wanted,
+            values,
+            &mut faults,
+        );
         outcome(made, faults)
     }
 }
