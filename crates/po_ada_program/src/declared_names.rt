@@ -1,14 +1,15 @@
 // SPDX-License-Identifier: MIT
 //! The names that scripts use: operations, parameters, types, exceptions.
 
-use crate::lowering::{Declared, LEVELS, Lowering};
-use crate::types::{BOOLEAN, Sub};
+use crate::making::Making;
 use po_ada_names::{
     Discriminant, Entry, Enumeration, Family, Form, Heading, Mode, ObjectNames, Operation,
     Parameter, Subtype, Types,
 };
 use po_ada_tree::tree::{Kind, Name, Protected};
 use po_ada_tree::{Stop, tree};
+use po_ada_types::{BOOLEAN, Sub};
+use po_ada_values::Declared;
 use std::alloc::AllocError;
 
 /// The types that were named so far, and the numbers of those that are enumerations.
@@ -18,24 +19,27 @@ struct Table {
     enumerations: Vec<usize>,
 }
 
-impl<'a> Lowering<'a> {
+impl<'a> Making<'a> {
     fn table(&self) -> Table {
         Table {
             types: Types {
-                enumerations: Vec::new(self.alloc),
-                subtypes: Vec::new(self.alloc),
+                enumerations: Vec::new(self.lowering.known.alloc),
+                subtypes: Vec::new(self.lowering.known.alloc),
             },
-            enumerations: Vec::new(self.alloc),
+            enumerations: Vec::new(self.lowering.known.alloc),
         }
     }
 
     fn text(&self, name: u32) -> Result<String, AllocError> {
-        String::from_str(self.alloc, self.names.written(name))
+        String::from_str(
+            self.lowering.known.alloc,
+            self.lowering.known.names.written(name),
+        )
     }
 
     fn literals_of(&self, kind: usize) -> Result<Enumeration, AllocError> {
-        let mut literals = Vec::new(self.alloc);
-        for (name, found) in self.literals.iter() {
+        let mut literals = Vec::new(self.lowering.known.alloc);
+        for (name, found) in self.lowering.known.literals.iter() {
             if *found == kind {
                 literals.push(self.text(*name)?)?;
             }
@@ -48,7 +52,12 @@ impl<'a> Lowering<'a> {
         if kind == BOOLEAN {
             return Ok(Form::Boolean);
         }
-        let is_enumeration = self.literals.iter().any(|(_, found)| *found == kind);
+        let is_enumeration = self
+            .lowering
+            .known
+            .literals
+            .iter()
+            .any(|(_, found)| *found == kind);
         if !is_enumeration {
             return Ok(Form::Integer);
         }
@@ -73,7 +82,7 @@ impl<'a> Lowering<'a> {
         let form = self.form(table, sub.kind)?;
         let name = match mark.map(|found| &found.form) {
             Some(tree::Form::Name(name)) => self.text(*name)?,
-            _ => self.text(self.kind_name(sub.kind))?,
+            _ => self.text(self.lowering.known.kind_name(sub.kind))?,
         };
         let number = table.types.subtypes.len();
         table.types.subtypes.push(Subtype {
@@ -90,7 +99,7 @@ impl<'a> Lowering<'a> {
         table: &mut Table,
         declared: &Declared<'a>,
     ) -> Result<Vec<Parameter>, AllocError> {
-        let mut list = Vec::new(self.alloc);
+        let mut list = Vec::new(self.lowering.known.alloc);
         let mut position = 0usize;
         for group in declared.profile.parameters.iter() {
             for _ in group.variables.names.iter() {
@@ -170,34 +179,34 @@ fn static_number(default: Option<&tree::Expression>) -> Option<i128> {
 }
 
 /// What scripts know of the object.
-pub fn object_names(lowering: &Lowering<'_>, unit: Name) -> Result<ObjectNames, AllocError> {
-    let mut table = lowering.table();
-    let mut entries = Vec::new(lowering.alloc);
-    let mut procedures = Vec::new(lowering.alloc);
-    let mut functions = Vec::new(lowering.alloc);
-    for declared in lowering.operations.iter() {
+pub fn object_names(making: &Making<'_>, unit: Name) -> Result<ObjectNames, AllocError> {
+    let mut table = making.table();
+    let mut entries = Vec::new(making.lowering.known.alloc);
+    let mut procedures = Vec::new(making.lowering.known.alloc);
+    let mut functions = Vec::new(making.lowering.known.alloc);
+    for declared in making.lowering.operations.iter() {
         match declared.profile.kind {
-            Kind::Entry => entries.push(lowering.entry_names(&mut table, declared)?)?,
-            Kind::Procedure if declared.public => procedures.push(lowering.operation_names(
+            Kind::Entry => entries.push(making.entry_names(&mut table, declared)?)?,
+            Kind::Procedure if declared.public => procedures.push(making.operation_names(
                 &mut table, declared,
             )?)?,
-            Kind::Function if declared.public => functions.push(lowering.operation_names(
+            Kind::Function if declared.public => functions.push(making.operation_names(
                 &mut table, declared,
             )?)?,
             _ => {}
         }
     }
-    let mut exceptions = Vec::new(lowering.alloc);
-    for name in lowering.exceptions.iter() {
-        exceptions.push(lowering.text(*name)?)?;
+    let mut exceptions = Vec::new(making.lowering.known.alloc);
+    for name in making.exceptions.iter() {
+        exceptions.push(making.text(*name)?)?;
     }
-    let mut messages = Vec::new(lowering.alloc);
-    for message in lowering.messages.iter() {
+    let mut messages = Vec::new(making.lowering.known.alloc);
+    for message in making.lowering.messages.iter() {
         messages.push(message.clone()?)?;
     }
     let Table { types, .. } = table;
     Ok(ObjectNames {
-        unit: lowering.text(unit.number)?,
+        unit: making.text(unit.number)?,
         types,
         entries,
         procedures,
@@ -208,22 +217,19 @@ pub fn object_names(lowering: &Lowering<'_>, unit: Name) -> Result<ObjectNames, 
 }
 
 /// The unit's name and its discriminants.
-pub fn heading_names<'a>(
-    lowering: &mut Lowering<'a>,
-    unit: &'a Protected,
-) -> Result<Heading, Stop> {
-    let mut table = lowering.table();
-    let mut discriminants = Vec::new(lowering.alloc);
+pub fn heading_names<'a>(making: &mut Making<'a>, unit: &'a Protected) -> Result<Heading, Stop> {
+    let mut table = making.table();
+    let mut discriminants = Vec::new(making.lowering.known.alloc);
     for variables in unit.discriminants.iter() {
-        let sub = lowering.subtype(&variables.subtype)?;
+        let sub = making.subtype(&variables.subtype)?;
         let default = match &variables.value {
-            Some(value) => Some(lowering.fixed(value, LEVELS)?.0),
+            Some(value) => Some(making.lowering.fixed(value)?.0),
             None => None,
         };
         for name in variables.names.iter() {
-            let subtype = lowering.subtype_number(&mut table, Some(&variables.subtype.mark), sub)?;
+            let subtype = making.subtype_number(&mut table, Some(&variables.subtype.mark), sub)?;
             discriminants.push(Discriminant {
-                name: lowering.text(name.number)?,
+                name: making.text(name.number)?,
                 subtype,
                 default,
             })?;
@@ -231,7 +237,7 @@ pub fn heading_names<'a>(
     }
     let Table { types, .. } = table;
     Ok(Heading {
-        unit: lowering.text(unit.name.number)?,
+        unit: making.text(unit.name.number)?,
         types,
         discriminants,
     })

@@ -8,17 +8,10 @@
 #![tactic(auto)]
 
 mod actions;
-mod attributes;
-mod conditionals;
 mod declared_names;
 mod declaring;
-mod denoting;
-mod folding;
-mod giving;
-mod lowering;
+mod making;
 mod object;
-mod types;
 mod unit;
-mod values;
 
 pub use crate::object::{Made, heading_of, object_of};

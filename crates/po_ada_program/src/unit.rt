@@ -1,23 +1,22 @@
 // SPDX-License-Identifier: MIT
 //! Reads a protected unit and its operations (9.4), and makes its program.
 
-use crate::lowering::{Declared, LEVELS, Lowering, Parameter, sequence};
-use crate::types::{Meaning, Sub, Variable};
+use crate::making::{FIRST_LOCAL, Making};
 use po_ada_tree::Stop;
 use po_ada_tree::tree::{
     Body, Content, Declaration, Item, Kind, Mode, Name, Parameters, Part, Profile, Protected,
     ProtectedBody, Variables,
 };
+use po_ada_types::{Meaning, Sub, Variable};
+use po_ada_values::{Declared, LEVELS, Parameter, body_number, sequence};
 use po_program::{Area, Entry, Operation, Program, Stmt};
 
 /// A call carries at most this many parameters.
 pub const MOST_PARAMETERS: usize = 8;
 /// An object has at most this many entries.
 const MOST_ENTRIES: u16 = 4_096;
-/// Locals begin here: slots 0 to 7 are parameters, slot 8 is a family's index.
-pub const FIRST_LOCAL: u16 = 9;
 
-impl<'a> Lowering<'a> {
+impl<'a> Making<'a> {
     /// The meaning of a text's items, up to the body of the protected unit.
     pub fn items(
         &mut self,
@@ -39,12 +38,14 @@ impl<'a> Lowering<'a> {
                 return Ok(());
             }
         }
-        Err(self.refuse_name(
-            wanted.place,
-            "the protected unit ",
-            wanted.number,
-            " has no body (9.4)",
-        ))
+        Err(
+            self.lowering.known.refuse_name(
+                wanted.place,
+                "the protected unit ",
+                wanted.number,
+                " has no body (9.4)",
+            ),
+        )
     }
 
     /// A fault doesn't end reading; want of memory does.
@@ -58,36 +59,36 @@ impl<'a> Lowering<'a> {
     /// The meaning of an item before the body of the protected unit.
     pub fn item(&mut self, item: &'a Item, wanted: Name, values: &'a [i128]) -> Result<(), Stop> {
         match item {
-            Item::Package(name) => self.define(*name, Meaning::Package),
+            Item::Package(name) => self.lowering.known.define(*name, Meaning::Package),
             Item::Declaration(Declaration::Variables(variables)) if !variables.constant =>
                 self.outer_variables(variables),
             Item::Declaration(declaration) => self.declared(declaration, false),
             Item::Operation(body) => self.outer_operation(body),
             Item::Protected(unit) if unit.name.number == wanted.number => self.unit(unit, values),
-            Item::Protected(unit) => self.define(unit.name, Meaning::Unread),
+            Item::Protected(unit) => self.lowering.known.define(unit.name, Meaning::Unread),
             Item::ProtectedBody(_) => Ok(()),
-            Item::Unread(name) => self.define(*name, Meaning::Unread),
+            Item::Unread(name) => self.lowering.known.define(*name, Meaning::Unread),
         }
     }
 
     /// Variables outside of the object: no operation reads or changes them here.
     fn outer_variables(&mut self, variables: &'a Variables) -> Result<(), Stop> {
         for name in variables.names.iter() {
-            self.define(*name, Meaning::Unread)?;
+            self.lowering.known.define(*name, Meaning::Unread)?;
         }
         Ok(())
     }
 
     /// An operation outside of the protected unit.
     fn outer_operation(&mut self, body: &'a Body) -> Result<(), Stop> {
-        let number = match self.look_up(body.profile.name.number) {
+        let number = match self.lowering.known.look_up(body.profile.name.number) {
             Some(Meaning::Operation(number)) => number,
             _ => self.declare(&body.profile, false, true)?,
         };
         if matches!(body.content, Content::Declared) {
             return Ok(());
         }
-        if let Some(declared) = self.operations.get_mut(number) {
+        if let Some(declared) = self.lowering.operations.get_mut(number) {
             declared.body = Some(body);
         }
         Ok(())
@@ -95,7 +96,7 @@ impl<'a> Lowering<'a> {
 
     /// The declaration of the protected unit (9.4).
     fn unit(&mut self, unit: &'a Protected, values: &'a [i128]) -> Result<(), Stop> {
-        self.define(unit.name, Meaning::Package)?;
+        self.lowering.known.define(unit.name, Meaning::Package)?;
         self.discriminants(unit, values)?;
         self.parts(unit.public.as_slice(), true)?;
         self.parts(unit.private.as_slice(), false)
@@ -109,31 +110,39 @@ impl<'a> Lowering<'a> {
             for name in variables.names.iter() {
                 let number = match (values.get(position), &variables.value) {
                     (Some(number), _) => *number,
-                    (None, Some(default)) => self.fixed(default, LEVELS)?.0,
-                    (None, None) => return Err(self.refuse_name(
-                        name.place,
-                        "the discriminant ",
-                        name.number,
-                        " needs a value (3.7)",
-                    )),
+                    (None, Some(default)) => self.lowering.fixed(default)?.0,
+                    (None, None) => return Err(
+                        self.lowering.known.refuse_name(
+                            name.place,
+                            "the discriminant ",
+                            name.number,
+                            " needs a value (3.7)",
+                        ),
+                    ),
                 };
                 if number < sub.low || number > sub.high {
-                    return Err(self.refuse_name(
-                        name.place,
-                        "the value of the discriminant ",
-                        name.number,
-                        " isn't in its range (3.7)",
-                    ));
+                    return Err(
+                        self.lowering.known.refuse_name(
+                            name.place,
+                            "the value of the discriminant ",
+                            name.number,
+                            " isn't in its range (3.7)",
+                        ),
+                    );
                 }
-                self.define(*name, Meaning::Number(number, sub.kind))?;
+                self.lowering
+                    .known
+                    .define(*name, Meaning::Number(number, sub.kind))?;
                 position = position.saturating_add(1);
             }
         }
         if position < values.len() {
-            return Err(self.refuse(
-                unit.name.place,
-                "there are more values than discriminants (3.7)",
-            ));
+            return Err(
+                self.lowering.known.refuse(
+                    unit.name.place,
+                    "there are more values than discriminants (3.7)",
+                ),
+            );
         }
         Ok(())
     }
@@ -154,7 +163,7 @@ impl<'a> Lowering<'a> {
         match self.declare(profile, public, false) {
             Ok(_) => Ok(()),
             Err(Stop::OutOfMemory) => Err(Stop::OutOfMemory),
-            Err(Stop::Fault) => self.define(profile.name, Meaning::Faulty),
+            Err(Stop::Fault) => self.lowering.known.define(profile.name, Meaning::Faulty),
         }
     }
 
@@ -165,11 +174,13 @@ impl<'a> Lowering<'a> {
         public: bool,
         outside: bool,
     ) -> Result<usize, Stop> {
-        if let Some(Meaning::Operation(_)) = self.look_up(profile.name.number) {
-            return Err(self.refuse(
-                profile.name.place,
-                "two operations of one name aren't in this subset: rename one (8.3)",
-            ));
+        if let Some(Meaning::Operation(_)) = self.lowering.known.look_up(profile.name.number) {
+            return Err(
+                self.lowering.known.refuse(
+                    profile.name.place,
+                    "two operations of one name aren't in this subset: rename one (8.3)",
+                ),
+            );
         }
         self.aspects(profile)?;
         let parameters = self.parameters(profile)?;
@@ -181,20 +192,22 @@ impl<'a> Lowering<'a> {
         }
         let mut family = None;
         if let Some(found) = &profile.family {
-            family = Some(self.static_range(&found.range, LEVELS)?);
+            family = Some(self.lowering.static_range(&found.range)?);
         }
         let entry = self.entries;
         if profile.kind == Kind::Entry {
             self.count_entries(profile.name.place, family)?;
         }
-        let number = self.operations.len();
+        let number = self.lowering.operations.len();
         if number >= 30_000 {
-            return Err(self.refuse(
-                profile.name.place,
-                "an object has at most 30,000 operations",
-            ));
+            return Err(
+                self.lowering.known.refuse(
+                    profile.name.place,
+                    "an object has at most 30,000 operations",
+                ),
+            );
         }
-        self.operations.push(Declared {
+        self.lowering.operations.push(Declared {
             profile,
             public,
             outside,
@@ -205,7 +218,9 @@ impl<'a> Lowering<'a> {
             body: None,
             used: false,
         })?;
-        self.define(profile.name, Meaning::Operation(number))?;
+        self.lowering
+            .known
+            .define(profile.name, Meaning::Operation(number))?;
         Ok(number)
     }
 
@@ -220,13 +235,15 @@ impl<'a> Lowering<'a> {
                 "import",
                 "address",
             ] {
-                if self.names.find(text) == Some(aspect.name.number) {
-                    return Err(self.refuse_name(
-                        aspect.name.place,
-                        "the aspect ",
-                        aspect.name.number,
-                        " isn't in this subset yet: write pragma Assert in the body, or 'max' in the script",
-                    ));
+                if self.lowering.known.names.find(text) == Some(aspect.name.number) {
+                    return Err(
+                        self.lowering.known.refuse_name(
+                            aspect.name.place,
+                            "the aspect ",
+                            aspect.name.number,
+                            " isn't in this subset yet: write pragma Assert in the body, or 'max' in the script",
+                        ),
+                    );
                 }
             }
         }
@@ -236,30 +253,36 @@ impl<'a> Lowering<'a> {
     /// One entry, or those of a family.
     fn count_entries(&mut self, place: usize, family: Option<Sub>) -> Result<(), Stop> {
         let count = match family {
-            Some(sub) => crate::types::count(sub),
+            Some(sub) => po_ada_types::count(sub),
             None => 1,
         };
         let after = self.entries.saturating_add(count);
         if after > MOST_ENTRIES {
-            return Err(self.refuse(place, "an object has at most 4,096 entries"));
+            return Err(
+                self.lowering
+                    .known
+                    .refuse(place, "an object has at most 4,096 entries"),
+            );
         }
         self.entries = after;
         Ok(())
     }
 
     fn discrete(&mut self, place: usize, sub: Sub) -> Result<(), Stop> {
-        if self.is_discrete(sub.kind) {
+        if self.lowering.known.is_discrete(sub.kind) {
             return Ok(());
         }
-        Err(self.refuse(
-            place,
-            "a parameter or a result is of a discrete type here: arrays and records aren't in this subset",
-        ))
+        Err(
+            self.lowering.known.refuse(
+                place,
+                "a parameter or a result is of a discrete type here: arrays and records aren't in this subset",
+            ),
+        )
     }
 
     /// The parameters of an operation (6.1).
     fn parameters(&mut self, profile: &'a Profile) -> Result<Vec<Parameter<'a>>, Stop> {
-        let mut list = Vec::new(self.alloc);
+        let mut list = Vec::new(self.lowering.known.alloc);
         for group in profile.parameters.iter() {
             let variables = &group.variables;
             let sub = self.subtype(&variables.subtype)?;
@@ -274,10 +297,12 @@ impl<'a> Lowering<'a> {
             }
         }
         if list.len() > MOST_PARAMETERS {
-            return Err(self.refuse(
-                profile.name.place,
-                "an operation has at most 8 parameters here",
-            ));
+            return Err(
+                self.lowering.known.refuse(
+                    profile.name.place,
+                    "an operation has at most 8 parameters here",
+                ),
+            );
         }
         Ok(list)
     }
@@ -295,16 +320,18 @@ impl<'a> Lowering<'a> {
     /// A body belongs to its declaration, or declares an operation of the body alone.
     fn attach(&mut self, body: &'a Body) -> Result<(), Stop> {
         let name = body.profile.name;
-        let number = match self.look_up(name.number) {
-            Some(Meaning::Operation(number)) if !self.is_outer(number) => number,
+        let number = match self.lowering.known.look_up(name.number) {
+            Some(Meaning::Operation(number)) if !self.lowering.is_outside(number) => number,
             Some(Meaning::Faulty) => return Err(Stop::Fault),
             _ if body.profile.kind == Kind::Entry => {
-                return Err(self.refuse_name(
-                    name.place,
-                    "the declaration has no entry ",
-                    name.number,
-                    " (9.5.2)",
-                ));
+                return Err(
+                    self.lowering.known.refuse_name(
+                        name.place,
+                        "the declaration has no entry ",
+                        name.number,
+                        " (9.5.2)",
+                    ),
+                );
             }
             _ => self.declare(&body.profile, false, false)?,
         };
@@ -312,32 +339,27 @@ impl<'a> Lowering<'a> {
             return Ok(());
         }
         self.conforms(number, &body.profile)?;
-        let Some(declared) = self.operations.get_mut(number) else {
+        let Some(declared) = self.lowering.operations.get_mut(number) else {
             return Ok(());
         };
         if declared.body.is_some() {
-            return Err(self.refuse_name(
-                name.place,
-                "the operation ",
-                name.number,
-                " has a body already",
-            ));
+            return Err(
+                self.lowering.known.refuse_name(
+                    name.place,
+                    "the operation ",
+                    name.number,
+                    " has a body already",
+                ),
+            );
         }
         declared.body = Some(body);
         Ok(())
     }
 
-    fn is_outer(&self, number: usize) -> bool {
-        match self.operations.get(number) {
-            Some(declared) => declared.outside,
-            None => false,
-        }
-    }
-
     /// The head of a body is as its declaration (6.3.1).
     fn conforms(&mut self, number: usize, profile: &'a Profile) -> Result<(), Stop> {
         let parameters = self.parameters(profile)?;
-        let same = match self.operations.get(number) {
+        let same = match self.lowering.operations.get(number) {
             Some(declared) => {
                 declared.profile.kind == profile.kind
                     && declared.family.is_some() == profile.family.is_some()
@@ -352,27 +374,27 @@ impl<'a> Lowering<'a> {
         if same {
             return Ok(());
         }
-        Err(self.refuse(
-            profile.name.place,
-            "the head of this body differs from its declaration (6.3.1)",
-        ))
+        Err(
+            self.lowering.known.refuse(
+                profile.name.place,
+                "the head of this body differs from its declaration (6.3.1)",
+            ),
+        )
     }
 
     fn missing_bodies(&mut self) -> Result<(), Stop> {
-        for number in 0..self.operations.len() {
-            let missing = match self.operations.get(number) {
+        for number in 0..self.lowering.operations.len() {
+            let missing = match self.lowering.operations.get(number) {
                 Some(declared) if declared.body.is_none() && !declared.outside => Some(
                     declared.profile.name,
                 ),
                 _ => None,
             };
             if let Some(name) = missing {
-                let stop = self.refuse_name(
-                    name.place,
-                    "the operation ",
-                    name.number,
-                    " has no body",
-                );
+                let stop = self
+                    .lowering
+                    .known
+                    .refuse_name(name.place, "the operation ", name.number, " has no body");
                 self.keep_on(Err(stop))?;
             }
         }
@@ -381,8 +403,8 @@ impl<'a> Lowering<'a> {
 
     /// The frame of an operation is empty.
     fn begin_frame(&mut self, number: usize) {
-        self.slots = FIRST_LOCAL;
-        self.most_slots = FIRST_LOCAL;
+        self.lowering.slots = FIRST_LOCAL;
+        self.lowering.most_slots = FIRST_LOCAL;
         self.loops.truncate(0);
         self.current = Some(number);
         self.handled = None;
@@ -394,10 +416,12 @@ impl<'a> Lowering<'a> {
             return Ok(());
         };
         let Some(name) = found.name else {
-            return Err(self.refuse(
-                profile.name.place,
-                "the index of a family has a name in its body: (for I in ..) (9.5.2)",
-            ));
+            return Err(
+                self.lowering.known.refuse(
+                    profile.name.place,
+                    "the index of a family has a name in its body: (for I in ..) (9.5.2)",
+                ),
+            );
         };
         let variable = Variable {
             area: Area::Frame,
@@ -406,7 +430,9 @@ impl<'a> Lowering<'a> {
             sub,
             constant: true,
         };
-        self.define(name, Meaning::Variable(variable))
+        self.lowering
+            .known
+            .define(name, Meaning::Variable(variable))
     }
 
     /// The parameters of a body, in slots from 0 on.
@@ -429,7 +455,9 @@ impl<'a> Lowering<'a> {
                 sub,
                 constant: group.mode == Mode::In,
             };
-            self.define(*name, Meaning::Variable(variable))?;
+            self.lowering
+                .known
+                .define(*name, Meaning::Variable(variable))?;
             slot = slot.saturating_add(1);
         }
         Ok(slot)
@@ -441,12 +469,16 @@ impl<'a> Lowering<'a> {
             Content::Declared => Ok(()),
             Content::Value(value) => {
                 let Some(sub) = returns else {
-                    return Err(self.refuse(value.place, "only a function is an expression (6.8)"));
+                    return Err(
+                        self.lowering
+                            .known
+                            .refuse(value.place, "only a function is an expression (6.8)"),
+                    );
                 };
-                let result = self.value(value, LEVELS)?;
-                let code = self.fit(value.place, result, sub)?;
-                self.emit(Stmt::Assign(Area::Frame, 0, code))?;
-                self.emit(Stmt::Return)
+                let result = self.lowering.value(value, LEVELS)?;
+                let code = self.lowering.fit(value.place, result, sub)?;
+                self.lowering.emit(Stmt::Assign(Area::Frame, 0, code))?;
+                self.lowering.emit(Stmt::Return)
             }
             Content::Statements(declarations, list) => {
                 self.locals(declarations.as_slice())?;
@@ -461,13 +493,13 @@ impl<'a> Lowering<'a> {
 
     /// The operation of a body in the program.
     fn made_body(&mut self, number: usize, body: &'a Body) -> Result<Operation, Stop> {
-        let (family, returns) = match self.operations.get(number) {
+        let (family, returns) = match self.lowering.operations.get(number) {
             Some(declared) => (declared.family, declared.returns),
             None => (None, None),
         };
-        let scope = self.scope.len();
+        let scope = self.lowering.known.scope.len();
         self.begin_frame(number);
-        let before = self.begin_list();
+        let before = self.lowering.begin_list();
         let mut done = self.family_index(&body.profile, family);
         if done.is_ok() {
             done = self.body_parameters(&body.profile);
@@ -475,30 +507,30 @@ impl<'a> Lowering<'a> {
         if done.is_ok() {
             done = self.content(body, returns);
         }
-        let made = self.end_sequence(before)?;
-        self.scope.truncate(scope);
+        let made = self.lowering.end_sequence(before)?;
+        self.lowering.known.scope.truncate(scope);
         self.keep_on(done)?;
         Ok(Operation {
-            slots: self.most_slots,
+            slots: self.lowering.most_slots,
             body: made,
         })
     }
 
     /// The operation of a barrier in the program: its value is in slot 0.
     fn made_barrier(&mut self, number: usize, body: &'a Body) -> Result<Operation, Stop> {
-        let family = match self.operations.get(number) {
+        let family = match self.lowering.operations.get(number) {
             Some(declared) => declared.family,
             None => None,
         };
-        let scope = self.scope.len();
+        let scope = self.lowering.known.scope.len();
         self.begin_frame(number);
-        let before = self.begin_list();
+        let before = self.lowering.begin_list();
         let done = self.barrier_code(body, family);
-        let made = self.end_sequence(before)?;
-        self.scope.truncate(scope);
+        let made = self.lowering.end_sequence(before)?;
+        self.lowering.known.scope.truncate(scope);
         self.keep_on(done)?;
         Ok(Operation {
-            slots: self.most_slots,
+            slots: self.lowering.most_slots,
             body: made,
         })
     }
@@ -509,15 +541,15 @@ impl<'a> Lowering<'a> {
         };
         self.family_index(&body.profile, family)?;
         self.hide_parameters(&body.profile)?;
-        let test = self.condition(barrier, LEVELS)?;
-        self.emit(Stmt::Assign(Area::Frame, 0, test))
+        let test = self.lowering.condition(barrier)?;
+        self.lowering.emit(Stmt::Assign(Area::Frame, 0, test))
     }
 
     /// The barrier doesn't use the parameters.
     fn hide_parameters(&mut self, profile: &'a Profile) -> Result<(), Stop> {
         for group in profile.parameters.iter() {
             for name in group.variables.names.iter() {
-                self.define(*name, Meaning::Hidden)?;
+                self.lowering.known.define(*name, Meaning::Hidden)?;
             }
         }
         Ok(())
@@ -525,11 +557,11 @@ impl<'a> Lowering<'a> {
 
     /// The statements that give the object's data their values.
     fn setup(&mut self) -> Result<Operation, Stop> {
-        let list = self.end_list(Vec::new(self.alloc));
-        let slots = self.most_slots;
+        let list = self.lowering.end_list(Vec::new(self.lowering.known.alloc));
+        let slots = self.lowering.most_slots;
         Ok(Operation {
             slots,
-            body: sequence(self.alloc, list)?,
+            body: sequence(self.lowering.known.alloc, list)?,
         })
     }
 
@@ -543,13 +575,13 @@ impl<'a> Lowering<'a> {
 
     /// The program: operation 0 gives the data their values; then come the body and the barrier of each operation.
     pub fn program(&mut self) -> Result<Program, Stop> {
-        let mut operations = Vec::new(self.alloc);
+        let mut operations = Vec::new(self.lowering.known.alloc);
         operations.push(self.setup()?)?;
-        let mut bodies = Vec::new(self.alloc);
-        for number in 0..self.operations.len() {
+        let mut bodies = Vec::new(self.lowering.known.alloc);
+        for number in 0..self.lowering.operations.len() {
             bodies.push(self.made_operation(number, false)?)?;
         }
-        for number in 0..self.operations.len() {
+        for number in 0..self.lowering.operations.len() {
             let outer = self.made_operation(number, true)?;
             let inner = bodies.get_mut(number);
             if let (Some(found), Some(made)) = (inner, outer) {
@@ -573,7 +605,7 @@ impl<'a> Lowering<'a> {
         number: usize,
         outside: bool,
     ) -> Result<Option<(Operation, Operation)>, Stop> {
-        let body = match self.operations.get(number) {
+        let body = match self.lowering.operations.get(number) {
             Some(declared) if declared.outside == outside && (declared.used || !outside) =>
                 declared.body,
             _ => None,
@@ -588,18 +620,18 @@ impl<'a> Lowering<'a> {
     }
 
     fn assembled(&mut self, operations: Vec<Operation>) -> Result<Program, Stop> {
-        let mut entries = Vec::new(self.alloc);
-        let mut procedures = Vec::new(self.alloc);
-        let mut functions = Vec::new(self.alloc);
-        for number in 0..self.operations.len() {
-            let Some(declared) = self.operations.get(number) else {
+        let mut entries = Vec::new(self.lowering.known.alloc);
+        let mut procedures = Vec::new(self.lowering.known.alloc);
+        let mut functions = Vec::new(self.lowering.known.alloc);
+        for number in 0..self.lowering.operations.len() {
+            let Some(declared) = self.lowering.operations.get(number) else {
                 break;
             };
-            let body = crate::values::body_number(number);
+            let body = body_number(number);
             match declared.profile.kind {
                 Kind::Entry => {
                     let (low, count) = match declared.family {
-                        Some(sub) => (sub.low, crate::types::count(sub)),
+                        Some(sub) => (sub.low, po_ada_types::count(sub)),
                         None => (0, 1),
                     };
                     for offset in 0..count {

@@ -1,12 +1,12 @@
 // SPDX-License-Identifier: MIT
 //! Variables get values: of discrete types, aggregates (4.3) and copies of arrays and records (5.2).
 
-use crate::lowering::Lowering;
-use crate::types::{Structure, Sub};
-use crate::values::{Denoted, Part, first_value, slot_cell};
+use crate::lowering::{LEVELS, Lowering};
+use crate::values::{Denoted, Part, Value, choice_place, first_value, slot_cell};
 use po_ada_tree::Stop;
 use po_ada_tree::tree::{Association, Choice, Expression, Form};
-use po_program::{Area, Expr, Stmt};
+use po_ada_types::Sub;
+use po_program::{Area, Binary, Expr, Stmt};
 
 /// Cells that get one value: how far they are from the variable's first one, how many, and the value: a number or a slot.
 #[derive(Clone, Copy, Debug)]
@@ -39,28 +39,33 @@ fn given_code(value: Given) -> Expr {
 
 impl<'a> Lowering<'a> {
     /// A variable gets the value of an expression.
-    pub fn give(
-        &mut self,
-        part: Part,
-        expression: &'a Expression,
-        levels: usize,
-    ) -> Result<(), Stop> {
-        if self.is_discrete(part.sub.kind) {
-            let value = self.value(expression, levels)?;
+    pub fn give(&mut self, part: Part, expression: &'a Expression) -> Result<(), Stop> {
+        if self.known.is_discrete(part.sub.kind) {
+            let value = self.value(expression, LEVELS)?;
             let code = self.fit(expression.place, value, part.sub)?;
             return self.put(part, code);
         }
         if let Form::Aggregate(_) | Form::Qualified(_, _) = &expression.form {
-            let mut list = Vec::new(self.alloc);
-            self.aggregate(part.sub, 0, expression, &mut list, levels)?;
+            let mut list = Vec::new(self.known.alloc);
+            self.aggregate(part.sub, 0, expression, &mut list, LEVELS)?;
             return self.fill(part, list);
         }
-        match self.denoted(expression, levels)? {
+        match self.denoted(expression, LEVELS)? {
             Denoted::Part(from) => self.copy(expression.place, part, from),
-            _ => Err(self.refuse(
-                expression.place,
-                "expected a variable or an aggregate (5.2)",
-            )),
+            _ => Err(
+                self.known.refuse(
+                    expression.place,
+                    "expected a variable or an aggregate (5.2)",
+                ),
+            ),
+        }
+    }
+
+    /// A variable of a discrete type gets a value.
+    fn put(&mut self, part: Part, value: Expr) -> Result<(), Stop> {
+        match part.distance {
+            None => self.emit(Stmt::Assign(part.area, part.first, value)),
+            Some(distance) => self.emit(Stmt::AssignAt(part.area, part.first, distance, value)),
         }
     }
 
@@ -95,13 +100,15 @@ impl<'a> Lowering<'a> {
     }
 
     /// One array or record gets the values of another (5.2).
-    fn copy(&mut self, place: usize, part: Part, from: Part) -> Result<(), Stop> {
-        let width = self.width(part.sub);
-        if part.sub.kind != from.sub.kind || width != self.width(from.sub) {
-            return Err(self.refuse(
-                place,
-                "the variables are of different types or lengths (5.2)",
-            ));
+    pub fn copy(&mut self, place: usize, part: Part, from: Part) -> Result<(), Stop> {
+        let width = self.known.width(part.sub);
+        if part.sub.kind != from.sub.kind || width != self.known.width(from.sub) {
+            return Err(
+                self.known.refuse(
+                    place,
+                    "the variables are of different types or lengths (5.2)",
+                ),
+            );
         }
         if width > 64 {
             return self.copy_loop(place, part, from, width);
@@ -147,7 +154,7 @@ impl<'a> Lowering<'a> {
         let next = self.sum(slot_cell(counter), Expr::Number(1))?;
         let advance = Stmt::Assign(Area::Frame, counter, next);
         let test = self.binary(
-            po_program::Binary::Less,
+            Binary::Less,
             slot_cell(counter),
             Expr::Number(i128::from(width)),
         )?;
@@ -207,15 +214,17 @@ impl<'a> Lowering<'a> {
     ) -> Result<(), Stop> {
         let place = expression.place;
         if levels == 0 {
-            return Err(self.refuse(place, "nested deeper than 100"));
+            return Err(self.known.refuse(place, "nested deeper than 100"));
         }
         if list.len() > 4_096 {
-            return Err(self.refuse(
-                place,
-                "an aggregate has at most 4,096 values here: take 'others', or a loop",
-            ));
+            return Err(
+                self.known.refuse(
+                    place,
+                    "an aggregate has at most 4,096 values here: take 'others', or a loop",
+                ),
+            );
         }
-        if self.is_discrete(sub.kind) {
+        if self.known.is_discrete(sub.kind) {
             let value = self.value(expression, levels - 1)?;
             return self.scalar(place, sub, first, value, list);
         }
@@ -229,10 +238,12 @@ impl<'a> Lowering<'a> {
                 list,
                 levels - 1,
             ),
-            _ => Err(self.refuse(
-                place,
-                "in an aggregate an array or a record is an aggregate itself here (4.3)",
-            )),
+            _ => Err(
+                self.known.refuse(
+                    place,
+                    "in an aggregate an array or a record is an aggregate itself here (4.3)",
+                ),
+            ),
         }
     }
 
@@ -242,7 +253,7 @@ impl<'a> Lowering<'a> {
         place: usize,
         sub: Sub,
         first: u16,
-        value: crate::values::Value,
+        value: Value,
         list: &mut Vec<Filled>,
     ) -> Result<(), Stop> {
         let fixed = value.fixed;
@@ -274,7 +285,7 @@ impl<'a> Lowering<'a> {
         list: &mut Vec<Filled>,
         levels: usize,
     ) -> Result<(), Stop> {
-        match self.array_parts(sub) {
+        match self.known.array_parts(sub) {
             Some((index, element, width)) => self.array_aggregate(
                 place,
                 sub,
@@ -299,18 +310,16 @@ impl<'a> Lowering<'a> {
         list: &mut Vec<Filled>,
         levels: usize,
     ) -> Result<(), Stop> {
-        let count = self.field_count(sub);
+        let count = self.known.field_count(sub);
         for position in 0..count {
-            let Some((name, part, offset)) = self.field(sub, position) else {
+            let Some((name, part, offset)) = self.known.field(sub, position) else {
                 break;
             };
             let Some(found) = component_value(associations, position, name) else {
-                return Err(self.refuse_name(
-                    place,
-                    "the component ",
-                    name,
-                    " has no value (4.3.1)",
-                ));
+                return Err(
+                    self.known
+                        .refuse_name(place, "the component ", name, " has no value (4.3.1)"),
+                );
             };
             self.aggregate(
                 part,
@@ -322,59 +331,22 @@ impl<'a> Lowering<'a> {
         }
         for association in associations {
             if association.choices.is_empty() && associations.len() > count {
-                return Err(self.refuse(
-                    association.place,
-                    "the record has fewer components (4.3.1)",
-                ));
+                return Err(
+                    self.known.refuse(association.place, "the record has fewer components (4.3.1)"),
+                );
             }
             for choice in association.choices.iter() {
-                if !self.is_component(sub, choice) {
-                    return Err(self.refuse(
-                        association.place,
-                        "the record has no such component (4.3.1)",
-                    ));
+                if !self.known.is_component(sub, choice) {
+                    return Err(
+                        self.known.refuse(
+                            association.place,
+                            "the record has no such component (4.3.1)",
+                        ),
+                    );
                 }
             }
         }
         Ok(())
-    }
-
-    fn field_count(&self, sub: Sub) -> usize {
-        match self.kinds.get(sub.kind) {
-            Some(kind) => match &kind.structure {
-                Structure::Record(fields) => fields.len(),
-                _ => 0,
-            },
-            None => 0,
-        }
-    }
-
-    /// The name, subtype and offset of a record's component.
-    pub fn field(&self, sub: Sub, position: usize) -> Option<(u32, Sub, u16)> {
-        match &self.kinds.get(sub.kind)?.structure {
-            Structure::Record(fields) => fields
-                .get(position)
-                .map(|field| (field.name, field.sub, field.first)),
-            _ => None,
-        }
-    }
-
-    fn is_component(&self, sub: Sub, choice: &Choice) -> bool {
-        let name = match choice {
-            Choice::Others(_) => return true,
-            Choice::Value(value) => match value.form {
-                Form::Name(name) => name,
-                _ => return false,
-            },
-            _ => return false,
-        };
-        match self.kinds.get(sub.kind) {
-            Some(kind) => match &kind.structure {
-                Structure::Record(fields) => fields.iter().any(|field| field.name == name),
-                _ => false,
-            },
-            None => false,
-        }
     }
 
     /// An aggregate of an array: by position, by index, or both with `others` (4.3.3).
@@ -389,13 +361,13 @@ impl<'a> Lowering<'a> {
         list: &mut Vec<Filled>,
         levels: usize,
     ) -> Result<(), Stop> {
-        let mut taken = Vec::new(self.alloc);
-        for _ in 0..crate::types::count(sub) {
+        let mut taken = Vec::new(self.known.alloc);
+        for _ in 0..po_ada_types::count(sub) {
             taken.push(false)?;
         }
         let mut next = 0usize;
         for association in associations {
-            let mut inner = Vec::new(self.alloc);
+            let mut inner = Vec::new(self.known.alloc);
             self.aggregate(element, 0, &association.value, &mut inner, levels)?;
             if association.choices.is_empty() {
                 let range = self.element_position(sub, association, next)?;
@@ -411,7 +383,7 @@ impl<'a> Lowering<'a> {
                 )?;
             }
             for choice in association.choices.iter() {
-                let range = self.element_range(sub, index, choice, levels)?;
+                let range = self.element_range(sub, index, choice)?;
                 self.place_elements(
                     association.place,
                     &mut taken,
@@ -424,10 +396,12 @@ impl<'a> Lowering<'a> {
             }
         }
         if taken.iter().any(|found| !*found) {
-            return Err(self.refuse(
-                place,
-                "the aggregate has a value for each component, or 'others' (4.3.3)",
-            ));
+            return Err(
+                self.known.refuse(
+                    place,
+                    "the aggregate has a value for each component, or 'others' (4.3.3)",
+                ),
+            );
         }
         Ok(())
     }
@@ -439,11 +413,13 @@ impl<'a> Lowering<'a> {
         association: &'a Association,
         next: usize,
     ) -> Result<(usize, usize), Stop> {
-        if next >= usize::from(crate::types::count(sub)) {
-            return Err(self.refuse(
-                association.place,
-                "the aggregate has more values than the array has components (4.3.3)",
-            ));
+        if next >= usize::from(po_ada_types::count(sub)) {
+            return Err(
+                self.known.refuse(
+                    association.place,
+                    "the aggregate has more values than the array has components (4.3.3)",
+                ),
+            );
         }
         Ok((next, next.saturating_add(1)))
     }
@@ -454,19 +430,20 @@ impl<'a> Lowering<'a> {
         sub: Sub,
         index: usize,
         choice: &'a Choice,
-        levels: usize,
     ) -> Result<(usize, usize), Stop> {
-        let count = usize::from(crate::types::count(sub));
+        let count = usize::from(po_ada_types::count(sub));
         if is_others(choice) {
             return Ok((0, count));
         }
-        let range = self.choice_range(choice, index, levels)?;
+        let range = self.choice_range(choice, index)?;
         if range.low < sub.low || range.high > sub.high {
-            let place = crate::values::choice_place(choice);
-            return Err(self.refuse(
-                place,
-                "this index isn't in the array's range: Constraint_Error (4.3.3)",
-            ));
+            let place = choice_place(choice);
+            return Err(
+                self.known.refuse(
+                    place,
+                    "this index isn't in the array's range: Constraint_Error (4.3.3)",
+                ),
+            );
         }
         let low = usize::try_from(range.low.saturating_sub(sub.low)).unwrap_or(count);
         let high = usize::try_from(range.high.saturating_sub(sub.low).saturating_add(1)).unwrap_or(
@@ -494,7 +471,10 @@ impl<'a> Lowering<'a> {
                 if others {
                     continue;
                 }
-                return Err(self.refuse(place, "a component has two values (4.3.3)"));
+                return Err(
+                    self.known
+                        .refuse(place, "a component has two values (4.3.3)"),
+                );
             }
             *found = true;
             let start = first.saturating_add(
@@ -510,19 +490,21 @@ impl<'a> Lowering<'a> {
                 )?;
             }
             if list.len() > 4_096 {
-                return Err(self.refuse(
-                    place,
-                    "an aggregate has at most 4,096 values here: take 'others', or a loop",
-                ));
+                return Err(
+                    self.known.refuse(
+                        place,
+                        "an aggregate has at most 4,096 values here: take 'others', or a loop",
+                    ),
+                );
             }
         }
         Ok(())
     }
 
     /// A variable that gets no value has 0 or the first value of its type in each cell, and defaults of record components.
-    pub fn give_first(&mut self, part: Part, levels: usize) -> Result<(), Stop> {
-        let mut list = Vec::new(self.alloc);
-        self.first_values(part.sub, 0, &mut list, levels)?;
+    pub fn give_first(&mut self, part: Part) -> Result<(), Stop> {
+        let mut list = Vec::new(self.known.alloc);
+        self.first_values(part.sub, 0, &mut list, LEVELS)?;
         self.fill(part, list)
     }
 
@@ -537,7 +519,7 @@ impl<'a> Lowering<'a> {
         if levels == 0 {
             return Ok(());
         }
-        if self.is_discrete(sub.kind) {
+        if self.known.is_discrete(sub.kind) {
             list.push(Filled {
                 first,
                 count: 1,
@@ -545,13 +527,13 @@ impl<'a> Lowering<'a> {
             })?;
             return Ok(());
         }
-        let Some((_, element, width)) = self.array_parts(sub) else {
+        let Some((_, element, width)) = self.known.array_parts(sub) else {
             return self.first_fields(sub, first, list, levels - 1);
         };
-        let mut inner = Vec::new(self.alloc);
+        let mut inner = Vec::new(self.known.alloc);
         self.first_values(element, 0, &mut inner, levels - 1)?;
-        let mut taken = Vec::new(self.alloc);
-        for _ in 0..crate::types::count(sub) {
+        let mut taken = Vec::new(self.known.alloc);
+        for _ in 0..po_ada_types::count(sub) {
             taken.push(false)?;
         }
         let count = taken.len();
@@ -574,31 +556,18 @@ impl<'a> Lowering<'a> {
         list: &mut Vec<Filled>,
         levels: usize,
     ) -> Result<(), Stop> {
-        for position in 0..self.field_count(sub) {
-            let Some((_, part, offset)) = self.field(sub, position) else {
+        for position in 0..self.known.field_count(sub) {
+            let Some((_, part, offset)) = self.known.field(sub, position) else {
                 break;
             };
-            let default = self.field_default(sub, position);
+            let default = self.known.field_default(sub, position);
             let start = first.saturating_add(offset);
             match default {
-                Some(expression) => self.aggregate(
-                    part,
-                    start,
-                    expression,
-                    list,
-                    crate::lowering::LEVELS,
-                )?,
+                Some(expression) => self.aggregate(part, start, expression, list, LEVELS)?,
                 None => self.first_values(part, start, list, levels)?,
             }
         }
         Ok(())
-    }
-
-    fn field_default(&self, sub: Sub, position: usize) -> Option<&'a Expression> {
-        match &self.kinds.get(sub.kind)?.structure {
-            Structure::Record(fields) => fields.get(position)?.default,
-            _ => None,
-        }
     }
 }
 
