@@ -269,7 +269,7 @@ impl<'a> Reader<'a> {
 
     fn range_type(&mut self) -> Result<TypeForm, Stop> {
         self.step();
-        match self.discrete_range(MOST_LEVELS)? {
+        match self.discrete_range()? {
             Choice::Range(low, high) => Ok(TypeForm::Range(low, high)),
             _ => Err(self.expected("'..' and an upper bound (3.5.4)")),
         }
@@ -325,7 +325,7 @@ impl<'a> Reader<'a> {
             && self.ahead(1) == Element::Reserved(Reserved::Range)
             && self.ahead(2) == Element::Sign(Sign::Anything);
         if !is_open {
-            return Ok(ArrayIndex::Constrained(self.discrete_range(MOST_LEVELS)?));
+            return Ok(ArrayIndex::Constrained(self.discrete_range()?));
         }
         let mark = self.subtype_mark()?;
         self.step();

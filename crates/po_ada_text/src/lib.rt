@@ -9,6 +9,8 @@
 mod declarations;
 mod expressions;
 mod lexer;
+mod nodes;
+mod operators;
 mod reader;
 mod reading;
 mod sign;

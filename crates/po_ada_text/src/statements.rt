@@ -162,23 +162,42 @@ impl<'a> Reader<'a> {
         if levels == 0 {
             return Err(self.too_deep(place));
         }
-        let action = match self.peek() {
-            Element::Reserved(Reserved::If) => self.if_statement(levels - 1)?,
-            Element::Reserved(Reserved::Case) => self.case_statement(levels - 1)?,
+        let action = self.action(levels - 1)?;
+        Ok(Statement { place, action })
+    }
+
+    /// Reads the name of a loop or a block and its colon, if they come next.
+    fn statement_name(&mut self) -> Result<Option<Name>, Stop> {
+        if self.ahead(1) != Element::Sign(Sign::Colon) {
+            return Ok(None);
+        }
+        let Element::Name(_) = self.peek() else {
+            return Ok(None);
+        };
+        let name = self.name("a name")?;
+        self.step();
+        Ok(Some(name))
+    }
+
+    /// Reads what a statement does.
+    #[cycle(blocks)]
+    fn action(&mut self, levels: usize) -> Result<Action, Stop> {
+        let name = self.statement_name()?;
+        match self.peek() {
             Element::Reserved(Reserved::Loop)
             | Element::Reserved(Reserved::While)
-            | Element::Reserved(Reserved::For) => { self.loop_statement(None, levels - 1)? }
-            Element::Reserved(Reserved::Declare) | Element::Reserved(Reserved::Begin) => self.block(
-                None,
-                levels - 1,
-            )?,
-            Element::Reserved(Reserved::Return) => self.return_statement(levels - 1)?,
-            Element::Name(_) if self.ahead(1) == Element::Sign(Sign::Colon) => self.named(
-                levels - 1,
-            )?,
-            _ => self.simple_statement()?,
-        };
-        Ok(Statement { place, action })
+            | Element::Reserved(Reserved::For) => self.loop_statement(name, levels),
+            Element::Reserved(Reserved::Declare) | Element::Reserved(Reserved::Begin) => {
+                self.block(name, levels)
+            }
+            _ if name.is_some() => Err(self.expected(
+                "'loop', 'while', 'for', 'declare' or 'begin' after a statement's name",
+            )),
+            Element::Reserved(Reserved::If) => self.if_statement(levels),
+            Element::Reserved(Reserved::Case) => self.case_statement(levels),
+            Element::Reserved(Reserved::Return) => self.return_statement(levels),
+            _ => self.simple_statement(),
+        }
     }
 
     /// Reads a statement that has no statements in it.
@@ -295,20 +314,6 @@ impl<'a> Reader<'a> {
         Ok(Pragma { name, arguments })
     }
 
-    /// Reads a loop or a block that has a name.
-    #[cycle(blocks)]
-    fn named(&mut self, levels: usize) -> Result<Action, Stop> {
-        let name = self.name("a name")?;
-        self.step();
-        if self.sees(Reserved::Declare) || self.sees(Reserved::Begin) {
-            return self.block(Some(name), levels);
-        }
-        if self.sees(Reserved::Loop) || self.sees(Reserved::While) || self.sees(Reserved::For) {
-            return self.loop_statement(Some(name), levels);
-        }
-        Err(self.expected("'loop', 'while', 'for', 'declare' or 'begin' after a statement's name"))
-    }
-
     /// Reads an if statement (5.3).
     #[cycle(blocks)]
     fn if_statement(&mut self, levels: usize) -> Result<Action, Stop> {
@@ -337,7 +342,7 @@ impl<'a> Reader<'a> {
 
     /// Reads the choices of an alternative, up to `=>`.
     fn alternative_choices(&mut self) -> Result<Vec<Choice>, Stop> {
-        let choices = self.choices(MOST_LEVELS)?;
+        let choices = self.choice_list()?;
         self.needs_sign(Sign::Arrow)?;
         Ok(choices)
     }
@@ -372,7 +377,7 @@ impl<'a> Reader<'a> {
         }
         if self.takes(Reserved::For) {
             let name = self.name("the name of a loop parameter")?;
-            let iteration = self.iteration(MOST_LEVELS)?;
+            let iteration = self.iteration()?;
             self.needs(Reserved::Loop)?;
             return Ok(LoopHead::For(name, iteration));
         }
@@ -461,31 +466,28 @@ impl<'a> Reader<'a> {
     pub fn sequence(&mut self, levels: usize) -> Result<Sequence, Stop> {
         let statements = self.statements(levels)?;
         let mut handlers = Vec::new(self.alloc);
-        if self.takes(Reserved::Exception) {
-            for _ in 0..self.turns() {
-                if !self.sees(Reserved::When) {
-                    break;
-                }
-                handlers.push(self.handler(levels)?)?;
+        if !self.takes(Reserved::Exception) {
+            return Ok(Sequence {
+                statements,
+                handlers,
+            });
+        }
+        for _ in 0..self.turns() {
+            let place = self.place();
+            if !self.takes(Reserved::When) {
+                break;
             }
+            let exceptions = self.handled()?;
+            let statements = self.statements(levels)?;
+            handlers.push(Handler {
+                place,
+                exceptions,
+                statements,
+            })?;
         }
         Ok(Sequence {
             statements,
             handlers,
-        })
-    }
-
-    /// Reads a handler (11.2).
-    #[cycle(blocks)]
-    fn handler(&mut self, levels: usize) -> Result<Handler, Stop> {
-        let place = self.place();
-        self.step();
-        let exceptions = self.handled()?;
-        let statements = self.statements(levels)?;
-        Ok(Handler {
-            place,
-            exceptions,
-            statements,
         })
     }
 
@@ -526,7 +528,7 @@ impl<'a> Reader<'a> {
         let mark = self.subtype_mark()?;
         let mut constraint = Constraint::Absent;
         if self.takes(Reserved::Range) {
-            constraint = Constraint::Range(self.discrete_range(MOST_LEVELS)?);
+            constraint = Constraint::Range(self.discrete_range()?);
         } else if self.takes_sign(Sign::LeftParenthesis) {
             constraint = Constraint::Index(self.index_constraint()?);
         }
@@ -537,7 +539,7 @@ impl<'a> Reader<'a> {
     fn index_constraint(&mut self) -> Result<Vec<Choice>, Stop> {
         let mut list = Vec::new(self.alloc);
         for _ in 0..self.turns() {
-            list.push(self.discrete_range(MOST_LEVELS)?)?;
+            list.push(self.discrete_range()?)?;
             if !self.takes_sign(Sign::Comma) {
                 break;
             }

@@ -47,7 +47,7 @@ impl<'a> Reader<'a> {
             name = Some(self.name("the index of the family")?);
             self.needs(Reserved::In)?;
         }
-        let range = self.discrete_range(MOST_LEVELS)?;
+        let range = self.discrete_range()?;
         self.needs_sign(Sign::RightParenthesis)?;
         Ok(Family { name, range })
     }
