@@ -386,6 +386,24 @@ impl<'a> Making<'a> {
         self.lowering.operations.get(self.current?)?.returns
     }
 
+    /// The statement that ends the body: before a postcondition it leaves the loop around the body.
+    pub fn leave(&mut self) -> Result<(), Stop> {
+        if !self.has_postcondition {
+            return self.lowering.emit(Stmt::Return);
+        }
+        let around = u16::try_from(self.loops.len()).unwrap_or(0);
+        self.lowering.emit(Stmt::Exit(around))
+    }
+
+    /// Raises Assertion_Error unless the condition holds (11.4.2).
+    pub fn assertion(&mut self, condition: &'a Expression, exception: u32) -> Result<(), Stop> {
+        let test = self.lowering.condition(condition)?;
+        let raise = Stmt::Raise(Expr::Number(i128::from(exception)));
+        let fails = self.lowering.boxed_statement(raise)?;
+        let holds = self.lowering.boxed_statement(Stmt::Null)?;
+        self.lowering.emit(Stmt::If(test, holds, fails))
+    }
+
     /// A return statement (6.5).
     fn return_statement(
         &mut self,
@@ -393,12 +411,12 @@ impl<'a> Making<'a> {
         value: &'a Option<Expression>,
     ) -> Result<(), Stop> {
         match (value, self.current_result()) {
-            (None, None) => self.lowering.emit(Stmt::Return),
+            (None, None) => self.leave(),
             (Some(value), Some(sub)) => {
                 let result = self.lowering.value(value, LEVELS)?;
                 let code = self.lowering.fit(value.place, result, sub)?;
                 self.lowering.emit(Stmt::Assign(Area::Frame, 0, code))?;
-                self.lowering.emit(Stmt::Return)
+                self.leave()
             }
             (None, Some(_)) => Err(
                 self.lowering
@@ -448,7 +466,7 @@ impl<'a> Making<'a> {
         let value = self.lowering.read(place, result)?;
         let code = self.lowering.fit(place, value, sub)?;
         self.lowering.emit(Stmt::Assign(Area::Frame, 0, code))?;
-        self.lowering.emit(Stmt::Return)
+        self.leave()
     }
 
     /// A raise statement (11.3).
@@ -609,12 +627,7 @@ impl<'a> Making<'a> {
         if let Some(message) = pragma.arguments.get(1) {
             number = self.lowering.with_message(number, &message.value)?;
         }
-        let test = self.lowering.condition(&check.value)?;
-        let fails = self
-            .lowering
-            .boxed_statement(Stmt::Raise(Expr::Number(i128::from(number))))?;
-        let holds = self.lowering.boxed_statement(Stmt::Null)?;
-        self.lowering.emit(Stmt::If(test, holds, fails))
+        self.assertion(&check.value, number)
     }
 
     /// Statements with handlers of exceptions (11.2, 11.4).

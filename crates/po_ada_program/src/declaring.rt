@@ -4,7 +4,7 @@
 use crate::making::{MOST_CELLS, Making};
 use po_ada_tree::Stop;
 use po_ada_tree::tree::{
-    ArrayIndex, Choice, Constraint, Declaration, Expression, Form, Name, Subtype, TypeForm,
+    ArrayIndex, Choice, Constraint, Declaration, Expression, Form, Name, Pragma, Subtype, TypeForm,
     Variables,
 };
 use po_ada_types::{Field, GREATEST, LEAST, Meaning, Structure, Sub, Variable, base_range};
@@ -75,8 +75,31 @@ impl<'a> Making<'a> {
                 }
                 Ok(())
             }
-            Declaration::Pragma(_) => Ok(()),
+            Declaration::Pragma(pragma) => self.declared_pragma(pragma),
         }
+    }
+
+    /// Pragmas among declarations are passed over, but Assertion_Policy is Check alone (11.4.2).
+    fn declared_pragma(&mut self, pragma: &'a Pragma) -> Result<(), Stop> {
+        let names = self.lowering.known.names;
+        if names.find("assertion_policy") != Some(pragma.name.number) {
+            return Ok(());
+        }
+        for argument in pragma.arguments.iter() {
+            let is_check = match argument.value.form {
+                Form::Name(name) => names.find("check") == Some(name),
+                _ => false,
+            };
+            if !is_check {
+                return Err(
+                    self.lowering.known.refuse(
+                        argument.place,
+                        "assertions are checked here: the policy is Check, or no assertion stands in the text (11.4.2)",
+                    ),
+                );
+            }
+        }
+        Ok(())
     }
 
     fn new_exception(&mut self, name: Name) -> Result<(), Stop> {

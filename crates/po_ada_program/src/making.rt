@@ -23,6 +23,8 @@ pub struct Making<'a> {
     pub current: Option<usize>,
     /// The slot with the exception of the handler around.
     pub handled: Option<u16>,
+    /// Whether a postcondition comes after the body.
+    pub has_postcondition: bool,
 }
 
 impl<'a> Making<'a> {
@@ -41,6 +43,7 @@ impl<'a> Making<'a> {
             loops: Vec::new(alloc),
             current: None,
             handled: None,
+            has_postcondition: false,
         }
     }
 

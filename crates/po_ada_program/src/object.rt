@@ -5,7 +5,7 @@ use crate::declared_names::{heading_names, object_names};
 use crate::making::Making;
 use po_ada_names::{Heading, ObjectNames};
 use po_ada_tree::tree::{Item, Name};
-use po_ada_tree::{Faults, Names, Stop, Text};
+use po_ada_tree::{Faults, Stop, Text};
 use po_program::Program;
 use std::alloc::Global;
 

@@ -4,12 +4,13 @@
 use crate::making::{FIRST_LOCAL, Making};
 use po_ada_tree::Stop;
 use po_ada_tree::tree::{
-    Body, Content, Declaration, Item, Kind, Mode, Name, Parameters, Part, Profile, Protected,
-    ProtectedBody, Variables,
+    Aspect, Body, Content, Declaration, Expression, Item, Kind, Mode, Name, Parameters, Part,
+    Profile, Protected, ProtectedBody, Variables,
 };
 use po_ada_types::{Meaning, Sub, Variable};
 use po_ada_values::{Declared, LEVELS, Parameter, body_number, sequence};
-use po_program::{Area, Entry, Operation, Program, Stmt};
+use po_program::{ASSERTION_ERROR, Area, Entry, Operation, Program, Stmt};
+use std::mem;
 
 /// A call carries at most this many parameters.
 pub const MOST_PARAMETERS: usize = 8;
@@ -224,30 +225,42 @@ impl<'a> Making<'a> {
         Ok(number)
     }
 
-    /// Aspects that mean something here are refused.
+    /// Aspects that mean something and aren't in the subset are refused.
     fn aspects(&mut self, profile: &'a Profile) -> Result<(), Stop> {
         for aspect in profile.aspects.iter() {
-            for text in [
-                "pre",
-                "post",
-                "max_queue_length",
-                "pre'class",
-                "import",
-                "address",
-            ] {
-                if self.lowering.known.names.find(text) == Some(aspect.name.number) {
-                    return Err(
-                        self.lowering.known.refuse_name(
-                            aspect.name.place,
-                            "the aspect ",
-                            aspect.name.number,
-                            " isn't in this subset yet: write pragma Assert in the body, or 'max' in the script",
-                        ),
-                    );
-                }
+            if self.is_refused(aspect, profile.kind) {
+                return Err(
+                    self.lowering.known.refuse_name(
+                        aspect.name.place,
+                        "the aspect ",
+                        aspect.name.number,
+                        " isn't in this subset yet: write pragma Assert in the body, or 'max' in the script",
+                    ),
+                );
             }
         }
         Ok(())
+    }
+
+    /// Whether the subset lacks an aspect; a precondition of an entry is checked before the call is queued, which no body does.
+    fn is_refused(&self, aspect: &Aspect, kind: Kind) -> bool {
+        let names = self.lowering.known.names;
+        let found = Some(aspect.name.number);
+        if kind == Kind::Entry && names.find("pre") == found {
+            return true;
+        }
+        for text in [
+            "max_queue_length",
+            "pre'class",
+            "post'class",
+            "import",
+            "address",
+        ] {
+            if names.find(text) == found {
+                return true;
+            }
+        }
+        false
     }
 
     /// One entry, or those of a family.
@@ -478,7 +491,7 @@ impl<'a> Making<'a> {
                 let result = self.lowering.value(value, LEVELS)?;
                 let code = self.lowering.fit(value.place, result, sub)?;
                 self.lowering.emit(Stmt::Assign(Area::Frame, 0, code))?;
-                self.lowering.emit(Stmt::Return)
+                self.leave()
             }
             Content::Statements(declarations, list) => {
                 self.locals(declarations.as_slice())?;
@@ -489,6 +502,71 @@ impl<'a> Making<'a> {
                 Ok(())
             }
         }
+    }
+
+    /// The value of an aspect of an operation.
+    fn aspect(&self, number: usize, text: &str) -> Option<&'a Expression> {
+        let declared = self.lowering.operations.get(number)?;
+        let wanted = self.lowering.known.names.find(text)?;
+        let aspects = &declared.profile.aspects;
+        aspects
+            .iter()
+            .find(|aspect| aspect.name.number == wanted)?
+            .value
+            .as_ref()
+    }
+
+    /// What a body does, with its precondition before it and its postcondition after it (6.1.1).
+    fn asserted_content(
+        &mut self,
+        number: usize,
+        body: &'a Body,
+        returns: Option<Sub>,
+    ) -> Result<(), Stop> {
+        if let Some(condition) = self.aspect(number, "pre") {
+            self.assertion(condition, ASSERTION_ERROR)?;
+        }
+        match self.aspect(number, "post") {
+            None => self.content(body, returns),
+            Some(condition) => self.ensured_content(condition, body, returns),
+        }
+    }
+
+    /// What a body does, and the check of its postcondition if it ends normally.
+    fn ensured_content(
+        &mut self,
+        condition: &'a Expression,
+        body: &'a Body,
+        returns: Option<Sub>,
+    ) -> Result<(), Stop> {
+        let scope = self.lowering.known.scope.len();
+        let before = self.lowering.begin_list();
+        self.has_postcondition = true;
+        let made = self.content(body, returns);
+        self.has_postcondition = false;
+        self.lowering.emit(Stmt::Exit(0))?;
+        let inner = self.lowering.end_sequence(before)?;
+        made?;
+        self.lowering.known.scope.truncate(scope);
+        let check = self.postcondition(condition);
+        let olds = mem::replace(&mut self.lowering.olds, Vec::new(self.lowering.known.alloc));
+        let check = check?;
+        self.lowering.emit_all(olds)?;
+        let inner = self.lowering.boxed_statement(inner)?;
+        self.lowering.emit(Stmt::Loop(inner))?;
+        self.lowering.emit(check)
+    }
+
+    /// The check of a postcondition, whose values for 'Old are kept in slots that the body doesn't use.
+    fn postcondition(&mut self, condition: &'a Expression) -> Result<Stmt, Stop> {
+        self.lowering.slots = self.lowering.most_slots;
+        self.lowering.in_postcondition = true;
+        let before = self.lowering.begin_list();
+        let made = self.assertion(condition, ASSERTION_ERROR);
+        let check = self.lowering.end_sequence(before)?;
+        self.lowering.in_postcondition = false;
+        made?;
+        Ok(check)
     }
 
     /// The operation of a body in the program.
@@ -505,7 +583,7 @@ impl<'a> Making<'a> {
             done = self.body_parameters(&body.profile);
         }
         if done.is_ok() {
-            done = self.content(body, returns);
+            done = self.asserted_content(number, body, returns);
         }
         let made = self.lowering.end_sequence(before)?;
         self.lowering.known.scope.truncate(scope);

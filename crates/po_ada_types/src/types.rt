@@ -102,8 +102,9 @@ pub struct Symbol {
 /// The base range of a signed type with this range, as GNAT takes it: of 8, 16, 32 or 64 bits (3.5.4).
 pub fn base_range(low: i128, high: i128) -> (i128, i128) {
     for limit in [128i128, 32_768, 2_147_483_648] {
-        if low >= 0 - limit && high < limit {
-            return (0 - limit, limit - 1);
+        let least = 0i128.saturating_sub(limit);
+        if low >= least && high < limit {
+            return (least, limit.saturating_sub(1));
         }
     }
     (LEAST, GREATEST)

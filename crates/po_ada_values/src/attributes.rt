@@ -3,12 +3,13 @@
 
 use crate::lowering::Lowering;
 use crate::values::{
-    Denoted, Lowered, Placed, Value, computed, fixed_value, only_value, range_of, two_values,
+    Denoted, Lowered, Placed, Value, computed, fixed_value, only_value, range_of, slot_cell,
+    two_values,
 };
 use po_ada_tree::Stop;
 use po_ada_tree::tree::{Attribute, Kind};
 use po_ada_types::{Structure, Sub, UNIVERSAL};
-use po_program::{Base, Binary, Expr};
+use po_program::{Area, Base, Binary, Expr, Stmt};
 
 impl<'a> Lowering<'a> {
     /// An attribute with the values in its parentheses.
@@ -41,6 +42,24 @@ impl<'a> Lowering<'a> {
                 ),
             ),
         }
+    }
+
+    /// `A'Old`: the value that the operand has before the body (6.1.1).
+    pub fn old_value(&mut self, place: usize, values: Vec<Lowered>) -> Result<Value, Stop> {
+        let mut values = values;
+        let (Some(lowered), true) = (values.pop(), self.in_postcondition) else {
+            return Err(
+                self.known
+                    .refuse(place, "'Old stands in a postcondition alone (6.1.1)"),
+            );
+        };
+        let Lowered { code, value, .. } = lowered;
+        let slot = self.take_slots(place, 1)?;
+        for statement in code {
+            self.olds.push(statement)?;
+        }
+        self.olds.push(Stmt::Assign(Area::Frame, slot, value.code))?;
+        Ok(computed(value.kind, slot_cell(slot)))
     }
 
     /// The number of calls that wait on an entry (9.9).

@@ -1,7 +1,7 @@
 // SPDX-License-Identifier: MIT
 //! Calls of operations: which actual belongs to which parameter, and what a call is made into (6.4).
 
-use crate::lowering::{Lowering, Parameter};
+use crate::lowering::Lowering;
 use crate::values::{
     Operand, Placed, Value, body_number, computed, first_value, is_name, slot_cell,
 };

@@ -8,7 +8,7 @@ use crate::values::{
     range_of, slot_cell, two_values,
 };
 use po_ada_tree::Stop;
-use po_ada_tree::tree::{Attribute, CaseArm, Choice, Expression, Form};
+use po_ada_tree::tree::{Attribute, Choice, Expression, Form};
 use po_ada_types::{BOOLEAN, GREATEST, INTEGER, LEAST, Sub, UNIVERSAL};
 use po_program::{Base, Binary, Expr, Range};
 

@@ -45,23 +45,30 @@ impl<'a> Lowering<'a> {
         if let Some(number) = decimal(text) {
             return Ok(exception.saturating_add(1).saturating_add(number));
         }
+        let position = self.add_message(text)?;
+        Ok(
+            exception
+                .saturating_add(MESSAGES / 2)
+                .saturating_add(position),
+        )
+    }
+
+    /// Adds a string to the table of messages, and returns its position.
+    fn add_message(&mut self, text: &[u8]) -> Result<u32, Stop> {
         let position = u32::try_from(self.messages.len()).unwrap_or(0);
         let mut copy = String::new(self.known.alloc);
         for byte in text {
             copy.push(char::from(*byte))?;
         }
         self.messages.push(copy)?;
-        Ok(
-            exception
-                .saturating_add(MESSAGES / 2)
-                .saturating_add(position.min(MESSAGES / 2 - 1)),
-        )
+        Ok(position.min(MESSAGES / 2 - 1))
     }
 }
 
-/// The number that these bytes are, if they are digits, and it is small enough for a message.
+/// The number that these bytes are, if they are its digits, and it is small enough for a message.
 fn decimal(text: &[u8]) -> Option<u32> {
-    if text.is_empty() || text.len() > 7 {
+    let is_padded = text.len() > 1 && text.first() == Some(&b'0');
+    if text.is_empty() || text.len() > 7 || is_padded {
         return None;
     }
     let mut number = 0u32;
@@ -73,5 +80,9 @@ fn decimal(text: &[u8]) -> Option<u32> {
             .checked_mul(10)?
             .checked_add(u32::from(*byte).saturating_sub(48))?;
     }
-    Some(number)
+    if number < MESSAGES / 2 - 1 {
+        Some(number)
+    } else {
+        None
+    }
 }

@@ -8,7 +8,7 @@ use crate::loops::Opened;
 use crate::lowering::{LEVELS, Lowering};
 use crate::values::{Denoted, Lowered, Operand, Value, choice_place, fixed_value, positional};
 use po_ada_tree::Stop;
-use po_ada_tree::tree::{Association, Choice, Expression, Form, Iteration, Kind, Name};
+use po_ada_tree::tree::{Association, Attribute, Choice, Expression, Form, Iteration, Kind, Name};
 use po_ada_types::{CHARACTER, Sub, UNIVERSAL};
 use po_program::{Expr, Range};
 
@@ -90,6 +90,10 @@ impl<'a> Lowering<'a> {
             Form::Applied(prefix, list) => {
                 let denoted = self.denoted(prefix, levels - 1)?;
                 self.applied(place, denoted, list, levels - 1)
+            }
+            Form::Attribute(prefix, Attribute::Old, _) => {
+                let values = self.values(&[Operand::Written(prefix)], levels - 1)?;
+                Ok(Denoted::Value(self.old_value(place, values)?))
             }
             Form::Attribute(prefix, attribute, list) => {
                 let denoted = self.denoted(prefix, levels - 1)?;

@@ -51,6 +51,9 @@ pub struct Lowering<'a> {
     /// The next slot, and the most that there were.
     pub slots: u16,
     pub most_slots: u16,
+    /// Whether a postcondition is read, and the statements that keep values for its 'Old.
+    pub in_postcondition: bool,
+    pub olds: Vec<Stmt>,
 }
 
 /// One statement of two.
@@ -101,6 +104,8 @@ impl<'a> Lowering<'a> {
             code: Vec::new(alloc),
             slots,
             most_slots: slots,
+            in_postcondition: false,
+            olds: Vec::new(alloc),
         }
     }
 
