@@ -1,6 +1,8 @@
 // SPDX-License-Identifier: MIT
 //! Exceptions and their messages (11.3).
 
+ghost use Rattle.std.specs.Prelude.{◌<◌, IfSome};
+
 use crate::lowering::Lowering;
 use po_ada_tree::Stop;
 use po_ada_tree::tree::{Expression, Form};
@@ -66,7 +68,9 @@ impl<'a> Lowering<'a> {
 }
 
 /// The number that these bytes are, if they are its digits, and it is small enough for a message.
-fn decimal(text: &[u8]) -> Option<u32> {
+fn decimal(text: &[u8]) -> Option<u32>
+    ensures { IfSome result (λ number. number < 8388607) }
+{
     let is_padded = text.len() > 1 && text.first() == Some(&b'0');
     if text.is_empty() || text.len() > 7 || is_padded {
         return None;

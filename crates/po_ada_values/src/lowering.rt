@@ -1,6 +1,8 @@
 // SPDX-License-Identifier: MIT
 //! What expressions are made into: the statements so far, the slots of the frame, and the operations that they call.
 
+ghost use Rattle.std.specs.Prelude.{◌+◌, ◌≤◌, IfOk, OnOk};
+
 use po_ada_tree::tree::{Body, Expression, Kind, Mode, Profile};
 use po_ada_tree::{Faults, Names, Stop};
 use po_ada_types::{GREATEST, Known, LEAST, Sub};
@@ -140,7 +142,10 @@ impl<'a> Lowering<'a> {
     }
 
     /// The first of this many slots, which were not used.
-    pub fn take_slots(&mut self, place: usize, count: u16) -> Result<u16, Stop> {
+    pub fn take_slots(&mut self, place: usize, count: u16) -> Result<u16, Stop>
+        ensures room { IfOk result (λ first. first + count ≤ 200) }
+        ensures taken { OnOk result (self.new.slots ≤ self.new.most_slots) }
+    {
         let first = self.slots;
         let after = first.saturating_add(count);
         if after > MOST_SLOTS {

@@ -1,6 +1,8 @@
 // SPDX-License-Identifier: MIT
 //! Names and what comes after them: variables, components, conversions (4.1, 4.6).
 
+ghost use Rattle.std.specs.Prelude.{◌≡◌, ◌≤ℤ◌, ◌+ℤ◌, pos, IfSome, Some};
+
 use crate::lowering::Lowering;
 use crate::values::{
     Denoted, Lowered, Operand, Part, Placed, Value, computed, fixed_value, only_value, positional,
@@ -346,11 +348,13 @@ impl<'a> Lowering<'a> {
 }
 
 /// How far a static index is from the first one, if it is in the range.
-fn steps_to(range: Range, index: Option<i128>) -> Option<u16> {
+fn steps_to(range: Range, index: Option<i128>) -> Option<u16>
+    ensures steps { IfSome result (λ steps. index ≡ Some (range.low +ℤ pos steps)) }
+    ensures within { IfSome result (λ steps. (range.low +ℤ pos steps) ≤ℤ range.high) }
+{
     let number = index?;
-    if range.low <= number && number <= range.high {
-        Some(u16::try_from(number.saturating_sub(range.low)).unwrap_or(0))
-    } else {
-        None
+    if number < range.low || number > range.high {
+        return None;
     }
+    u16::try_from(number.checked_sub(range.low)?).ok()
 }

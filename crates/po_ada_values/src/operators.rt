@@ -1,6 +1,8 @@
 // SPDX-License-Identifier: MIT
 //! Operators at values (4.5), checks of ranges (4.6).
 
+ghost use Rattle.std.specs.Prelude.{◌≤ℤ◌, IfSome, OnOk};
+
 use crate::conditionals::Branching;
 use crate::lowering::Lowering;
 use crate::values::{Lowered, Value, computed, fixed_value, range_of};
@@ -206,7 +208,9 @@ impl<'a> Lowering<'a> {
     }
 
     /// A value that has to be in the range of a subtype.
-    pub fn checked(&mut self, place: usize, value: Value, sub: Sub) -> Result<Expr, Stop> {
+    pub fn checked(&mut self, place: usize, value: Value, sub: Sub) -> Result<Expr, Stop>
+        ensures within { OnOk result (IfSome value.fixed (λ number. (sub.low ≤ℤ number) × (number ≤ℤ sub.high))) }
+    {
         if let Some(number) = value.fixed {
             if sub.low <= number && number <= sub.high {
                 return Ok(value.code);

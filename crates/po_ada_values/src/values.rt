@@ -1,6 +1,8 @@
 // SPDX-License-Identifier: MIT
 //! Values, parts of variables and operands.
 
+ghost use Rattle.std.specs.Prelude.{◌≡◌, ◌+◌, ◌*◌, ◌≤◌, ◌≤ℤ◌};
+
 use po_ada_tree::tree::{Association, Choice, Expression, Form};
 use po_ada_types::Sub;
 use po_program::{Area, Expr, Range, Stmt};
@@ -135,12 +137,16 @@ pub fn range_of(sub: Sub) -> Range {
 }
 
 /// The number in the program of an operation's body.
-pub fn body_number(operation: usize) -> u16 {
+pub fn body_number(operation: usize) -> u16
+    ensures { operation ≤ 30000 → result ≡ 2 * operation + 1 }
+{
     u16::try_from(operation.saturating_mul(2).saturating_add(1)).unwrap_or(0)
 }
 
 /// The value of a variable that gets none: 0 if it has it, or its first one.
-pub fn first_value(sub: Sub) -> i128 {
+pub fn first_value(sub: Sub) -> i128
+    ensures { sub.low ≤ℤ sub.high → (sub.low ≤ℤ result) × (result ≤ℤ sub.high) }
+{
     if sub.low <= 0 && 0 <= sub.high {
         0
     } else {
