@@ -1,0 +1,129 @@
+// SPDX-License-Identifier: MIT
+//! What is known of a text: types, the meanings of names, and the faults that were told.
+
+use crate::types::{Kind, Meaning, Symbol};
+use po_ada_tree::tree::Name;
+use po_ada_tree::{Faults, Names, Stop};
+use std::alloc::{AllocError, Global};
+use strsim::levenshtein;
+
+/// A text declares at most this many names.
+const MOST_NAMES: usize = 10_000;
+
+/// The types of a text, the names in scope, and the faults that were told.
+#[derive(Drop)]
+pub struct Known<'a> {
+    pub alloc: Global,
+    pub names: &'a Names,
+    pub faults: &'a mut Faults,
+    pub kinds: Vec<Kind<'a>>,
+    pub scope: Vec<Symbol>,
+    /// The literals of enumeration types, each with its type.
+    pub literals: Vec<(u32, usize)>,
+}
+
+impl<'a> Known<'a> {
+    /// Nothing is known yet.
+    pub fn new(alloc: Global, names: &'a Names, faults: &'a mut Faults) -> Known<'a> {
+        Known {
+            alloc,
+            names,
+            faults,
+            kinds: Vec::new(alloc),
+            scope: Vec::new(alloc),
+            literals: Vec::new(alloc),
+        }
+    }
+
+    /// Tells a fault.
+    pub fn refuse(&mut self, place: usize, message: &str) -> Stop {
+        match String::from_str(self.alloc, message) {
+            Ok(message) => self.refuse_by(place, message),
+            Err(_) => Stop::OutOfMemory,
+        }
+    }
+
+    /// Tells a fault, whose message was made.
+    pub fn refuse_by(&mut self, place: usize, message: String) -> Stop {
+        match self.faults.add(place, message) {
+            Ok(()) => Stop::Fault,
+            Err(_) => Stop::OutOfMemory,
+        }
+    }
+
+    /// Tells a fault with a name in its message.
+    pub fn refuse_name(&mut self, place: usize, before: &str, name: u32, after: &str) -> Stop {
+        match self.quoted(before, name, after) {
+            Ok(message) => self.refuse_by(place, message),
+            Err(_) => Stop::OutOfMemory,
+        }
+    }
+
+    fn quoted(&self, before: &str, name: u32, after: &str) -> Result<String, AllocError> {
+        let mut message = String::from_str(self.alloc, before)?;
+        message.push('\'')?;
+        message.push_str(self.names.written(name))?;
+        message.push('\'')?;
+        message.push_str(after)?;
+        Ok(message)
+    }
+
+    /// What a name stands for.
+    pub fn look_up(&self, name: u32) -> Option<Meaning> {
+        self.scope
+            .iter()
+            .rev()
+            .find(|symbol| symbol.name == name)
+            .map(|symbol| symbol.meaning)
+    }
+
+    /// The name that this one may be meant to be, at most two letters apart.
+    fn meant(&self, name: u32) -> Result<Option<u32>, AllocError> {
+        let text = self.names.written(name);
+        let mut least = if text.len() < 5 { 2 } else { 3 };
+        let mut found = None;
+        if text.len() < 3 || text.len() > 40 {
+            return Ok(None);
+        }
+        for symbol in self.scope.iter() {
+            let other = self.names.written(symbol.name);
+            if other.len() <= text.len().saturating_add(2) {
+                let distance = levenshtein(self.alloc, text, other)?;
+                if distance < least {
+                    least = distance;
+                    found = Some(symbol.name);
+                }
+            }
+        }
+        Ok(found)
+    }
+
+    /// The fault of a name that nothing has.
+    pub fn unknown(&mut self, place: usize, name: u32) -> Stop {
+        match self.meant(name) {
+            Ok(Some(other)) => self.refuse_meant(place, name, other),
+            Ok(None) => self.refuse_name(place, "nothing here has the name ", name, ""),
+            Err(_) => Stop::OutOfMemory,
+        }
+    }
+
+    fn refuse_meant(&mut self, place: usize, name: u32, other: u32) -> Stop {
+        let after = match self.quoted("; did you mean ", other, "?") {
+            Ok(after) => after,
+            Err(_) => return Stop::OutOfMemory,
+        };
+        self.refuse_name(place, "nothing here has the name ", name, after.as_str())
+    }
+
+    /// Gives a name its meaning.
+    pub fn define(&mut self, name: Name, meaning: Meaning) -> Result<(), Stop> {
+        if self.scope.len() >= MOST_NAMES {
+            return Err(self.refuse(name.place, "a text declares at most 10,000 names"));
+        }
+        self.scope.push(Symbol {
+            name: name.number,
+            meaning,
+        })?;
+        Ok(())
+    }
+}
