@@ -26,9 +26,9 @@ pub struct Subtype {
     pub name: String,
     pub form: Form,
     /// Its first value: a number, or a position.
-    pub low: i64,
+    pub low: i128,
     /// Its last value.
-    pub high: i64,
+    pub high: i128,
 }
 
 /// Discrete types and subtypes.
@@ -56,7 +56,7 @@ pub struct Parameter {
     /// The number of its subtype.
     pub subtype: u16,
     /// The value of its default expression (6.1), which a script can leave out.
-    pub default: Option<i64>,
+    pub default: Option<i128>,
 }
 
 /// A protected procedure or function (9.5.1), or the part of an entry that is like one.
@@ -100,7 +100,7 @@ pub struct Discriminant {
     /// The number of its subtype.
     pub subtype: u16,
     /// The value of its default expression (3.7).
-    pub default: Option<i64>,
+    pub default: Option<i128>,
 }
 
 /// What is known of a protected type or object before its discriminants have values.
