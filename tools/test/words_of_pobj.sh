@@ -140,8 +140,8 @@ picture_in_file() {
 make_packed() {
   local work=$scratch/build program
   cp -r LICENSE README.md bindings docs examples include "$work/"
-  printf '%s\n' pobj_run: pobj_check: pobj_stress: po_c: >"$work/crates.txt"
-  for program in pobj_run pobj_check pobj_stress; do
+  printf '%s\n' pobj_run: pobj_check: pobj_stress: pobj_text: po_c: >"$work/crates.txt"
+  for program in pobj_run pobj_check pobj_stress pobj_text; do
     mkdir -p "$work/crates/$program/src"
     echo >"$work/crates/$program/src/main.rt"
   done
