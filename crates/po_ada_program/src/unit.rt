@@ -1,0 +1,627 @@
+// SPDX-License-Identifier: MIT
+//! Reads a protected unit and its operations (9.4), and makes its program.
+
+use crate::lowering::{Declared, LEVELS, Lowering, Parameter, sequence};
+use crate::types::{Meaning, Sub, Variable};
+use po_ada_tree::Stop;
+use po_ada_tree::tree::{
+    Body, Content, Declaration, Item, Kind, Mode, Name, Parameters, Part, Profile, Protected,
+    ProtectedBody, Variables,
+};
+use po_program::{Area, Entry, Operation, Program, Stmt};
+
+/// A call carries at most this many parameters.
+pub const MOST_PARAMETERS: usize = 8;
+/// An object has at most this many entries.
+const MOST_ENTRIES: u16 = 4_096;
+/// Locals begin here: slots 0 to 7 are parameters, slot 8 is a family's index.
+pub const FIRST_LOCAL: u16 = 9;
+
+impl<'a> Lowering<'a> {
+    /// The meaning of a text's items, up to the body of the protected unit.
+    pub fn items(
+        &mut self,
+        items: &'a [Item],
+        wanted: Name,
+        values: &'a [i128],
+    ) -> Result<(), Stop> {
+        let mut is_made = false;
+        for item in items {
+            let done = match item {
+                Item::ProtectedBody(body) if body.name.number == wanted.number => {
+                    is_made = true;
+                    self.bodies(body)
+                }
+                other => self.item(other, wanted, values),
+            };
+            self.keep_on(done)?;
+            if is_made {
+                return Ok(());
+            }
+        }
+        Err(self.refuse_name(
+            wanted.place,
+            "the protected unit ",
+            wanted.number,
+            " has no body (9.4)",
+        ))
+    }
+
+    /// A fault doesn't end reading; want of memory does.
+    pub fn keep_on(&self, done: Result<(), Stop>) -> Result<(), Stop> {
+        match done {
+            Err(Stop::OutOfMemory) => Err(Stop::OutOfMemory),
+            _ => Ok(()),
+        }
+    }
+
+    /// The meaning of an item before the body of the protected unit.
+    pub fn item(&mut self, item: &'a Item, wanted: Name, values: &'a [i128]) -> Result<(), Stop> {
+        match item {
+            Item::Package(name) => self.define(*name, Meaning::Package),
+            Item::Declaration(Declaration::Variables(variables)) if !variables.constant =>
+                self.outer_variables(variables),
+            Item::Declaration(declaration) => self.declared(declaration, false),
+            Item::Operation(body) => self.outer_operation(body),
+            Item::Protected(unit) if unit.name.number == wanted.number => self.unit(unit, values),
+            Item::Protected(unit) => self.define(unit.name, Meaning::Unread),
+            Item::ProtectedBody(_) => Ok(()),
+            Item::Unread(name) => self.define(*name, Meaning::Unread),
+        }
+    }
+
+    /// Variables outside of the object: no operation reads or changes them here.
+    fn outer_variables(&mut self, variables: &'a Variables) -> Result<(), Stop> {
+        for name in variables.names.iter() {
+            self.define(*name, Meaning::Unread)?;
+        }
+        Ok(())
+    }
+
+    /// An operation outside of the protected unit.
+    fn outer_operation(&mut self, body: &'a Body) -> Result<(), Stop> {
+        let number = match self.look_up(body.profile.name.number) {
+            Some(Meaning::Operation(number)) => number,
+            _ => self.declare(&body.profile, false, true)?,
+        };
+        if matches!(body.content, Content::Declared) {
+            return Ok(());
+        }
+        if let Some(declared) = self.operations.get_mut(number) {
+            declared.body = Some(body);
+        }
+        Ok(())
+    }
+
+    /// The declaration of the protected unit (9.4).
+    fn unit(&mut self, unit: &'a Protected, values: &'a [i128]) -> Result<(), Stop> {
+        self.define(unit.name, Meaning::Package)?;
+        self.discriminants(unit, values)?;
+        self.parts(unit.public.as_slice(), true)?;
+        self.parts(unit.private.as_slice(), false)
+    }
+
+    /// The discriminants have values (3.7).
+    fn discriminants(&mut self, unit: &'a Protected, values: &'a [i128]) -> Result<(), Stop> {
+        let mut position = 0usize;
+        for variables in unit.discriminants.iter() {
+            let sub = self.subtype(&variables.subtype)?;
+            for name in variables.names.iter() {
+                let number = match (values.get(position), &variables.value) {
+                    (Some(number), _) => *number,
+                    (None, Some(default)) => self.fixed(default, LEVELS)?.0,
+                    (None, None) => return Err(self.refuse_name(
+                        name.place,
+                        "the discriminant ",
+                        name.number,
+                        " needs a value (3.7)",
+                    )),
+                };
+                if number < sub.low || number > sub.high {
+                    return Err(self.refuse_name(
+                        name.place,
+                        "the value of the discriminant ",
+                        name.number,
+                        " isn't in its range (3.7)",
+                    ));
+                }
+                self.define(*name, Meaning::Number(number, sub.kind))?;
+                position = position.saturating_add(1);
+            }
+        }
+        if position < values.len() {
+            return Err(self.refuse(
+                unit.name.place,
+                "there are more values than discriminants (3.7)",
+            ));
+        }
+        Ok(())
+    }
+
+    fn parts(&mut self, parts: &'a [Part], public: bool) -> Result<(), Stop> {
+        for part in parts {
+            let done = match part {
+                Part::Operation(profile) => self.declare_or_fault(profile, public),
+                Part::Declaration(declaration) => self.declared(declaration, false),
+            };
+            self.keep_on(done)?;
+        }
+        Ok(())
+    }
+
+    /// The declaration of an operation. After a fault, its name is known, so that it causes no other fault.
+    fn declare_or_fault(&mut self, profile: &'a Profile, public: bool) -> Result<(), Stop> {
+        match self.declare(profile, public, false) {
+            Ok(_) => Ok(()),
+            Err(Stop::OutOfMemory) => Err(Stop::OutOfMemory),
+            Err(Stop::Fault) => self.define(profile.name, Meaning::Faulty),
+        }
+    }
+
+    /// The declaration of an operation; returns its number.
+    fn declare(
+        &mut self,
+        profile: &'a Profile,
+        public: bool,
+        outside: bool,
+    ) -> Result<usize, Stop> {
+        if let Some(Meaning::Operation(_)) = self.look_up(profile.name.number) {
+            return Err(self.refuse(
+                profile.name.place,
+                "two operations of one name aren't in this subset: rename one (8.3)",
+            ));
+        }
+        self.aspects(profile)?;
+        let parameters = self.parameters(profile)?;
+        let mut returns = None;
+        if let Some(subtype) = &profile.returns {
+            let sub = self.subtype(subtype)?;
+            self.discrete(subtype.mark.place, sub)?;
+            returns = Some(sub);
+        }
+        let mut family = None;
+        if let Some(found) = &profile.family {
+            family = Some(self.static_range(&found.range, LEVELS)?);
+        }
+        let entry = self.entries;
+        if profile.kind == Kind::Entry {
+            self.count_entries(profile.name.place, family)?;
+        }
+        let number = self.operations.len();
+        if number >= 30_000 {
+            return Err(self.refuse(
+                profile.name.place,
+                "an object has at most 30,000 operations",
+            ));
+        }
+        self.operations.push(Declared {
+            profile,
+            public,
+            outside,
+            parameters,
+            returns,
+            family,
+            entry,
+            body: None,
+            used: false,
+        })?;
+        self.define(profile.name, Meaning::Operation(number))?;
+        Ok(number)
+    }
+
+    /// Aspects that mean something here are refused.
+    fn aspects(&mut self, profile: &'a Profile) -> Result<(), Stop> {
+        for aspect in profile.aspects.iter() {
+            for text in [
+                "pre",
+                "post",
+                "max_queue_length",
+                "pre'class",
+                "import",
+                "address",
+            ] {
+                if self.names.find(text) == Some(aspect.name.number) {
+                    return Err(self.refuse_name(
+                        aspect.name.place,
+                        "the aspect ",
+                        aspect.name.number,
+                        " isn't in this subset yet: write pragma Assert in the body, or 'max' in the script",
+                    ));
+                }
+            }
+        }
+        Ok(())
+    }
+
+    /// One entry, or those of a family.
+    fn count_entries(&mut self, place: usize, family: Option<Sub>) -> Result<(), Stop> {
+        let count = match family {
+            Some(sub) => crate::types::count(sub),
+            None => 1,
+        };
+        let after = self.entries.saturating_add(count);
+        if after > MOST_ENTRIES {
+            return Err(self.refuse(place, "an object has at most 4,096 entries"));
+        }
+        self.entries = after;
+        Ok(())
+    }
+
+    fn discrete(&mut self, place: usize, sub: Sub) -> Result<(), Stop> {
+        if self.is_discrete(sub.kind) {
+            return Ok(());
+        }
+        Err(self.refuse(
+            place,
+            "a parameter or a result is of a discrete type here: arrays and records aren't in this subset",
+        ))
+    }
+
+    /// The parameters of an operation (6.1).
+    fn parameters(&mut self, profile: &'a Profile) -> Result<Vec<Parameter<'a>>, Stop> {
+        let mut list = Vec::new(self.alloc);
+        for group in profile.parameters.iter() {
+            let variables = &group.variables;
+            let sub = self.subtype(&variables.subtype)?;
+            self.discrete(variables.subtype.mark.place, sub)?;
+            for name in variables.names.iter() {
+                list.push(Parameter {
+                    name: name.number,
+                    mode: group.mode,
+                    sub,
+                    default: variables.value.as_ref(),
+                })?;
+            }
+        }
+        if list.len() > MOST_PARAMETERS {
+            return Err(self.refuse(
+                profile.name.place,
+                "an operation has at most 8 parameters here",
+            ));
+        }
+        Ok(list)
+    }
+
+    /// The bodies of the protected unit belong to their declarations.
+    fn bodies(&mut self, unit: &'a ProtectedBody) -> Result<(), Stop> {
+        for body in unit.bodies.iter() {
+            let done = self.attach(body);
+            self.keep_on(done)?;
+        }
+        self.missing_bodies()?;
+        Ok(())
+    }
+
+    /// A body belongs to its declaration, or declares an operation of the body alone.
+    fn attach(&mut self, body: &'a Body) -> Result<(), Stop> {
+        let name = body.profile.name;
+        let number = match self.look_up(name.number) {
+            Some(Meaning::Operation(number)) if !self.is_outer(number) => number,
+            Some(Meaning::Faulty) => return Err(Stop::Fault),
+            _ if body.profile.kind == Kind::Entry => {
+                return Err(self.refuse_name(
+                    name.place,
+                    "the declaration has no entry ",
+                    name.number,
+                    " (9.5.2)",
+                ));
+            }
+            _ => self.declare(&body.profile, false, false)?,
+        };
+        if matches!(body.content, Content::Declared) {
+            return Ok(());
+        }
+        self.conforms(number, &body.profile)?;
+        let Some(declared) = self.operations.get_mut(number) else {
+            return Ok(());
+        };
+        if declared.body.is_some() {
+            return Err(self.refuse_name(
+                name.place,
+                "the operation ",
+                name.number,
+                " has a body already",
+            ));
+        }
+        declared.body = Some(body);
+        Ok(())
+    }
+
+    fn is_outer(&self, number: usize) -> bool {
+        match self.operations.get(number) {
+            Some(declared) => declared.outside,
+            None => false,
+        }
+    }
+
+    /// The head of a body is as its declaration (6.3.1).
+    fn conforms(&mut self, number: usize, profile: &'a Profile) -> Result<(), Stop> {
+        let parameters = self.parameters(profile)?;
+        let same = match self.operations.get(number) {
+            Some(declared) => {
+                declared.profile.kind == profile.kind
+                    && declared.family.is_some() == profile.family.is_some()
+                    && declared.parameters.len() == parameters.len()
+                    && declared.parameters.iter().zip(parameters.iter()).all(|(a, b)| a.name
+                        == b.name
+                        && a.mode == b.mode
+                        && a.sub == b.sub)
+            }
+            None => false,
+        };
+        if same {
+            return Ok(());
+        }
+        Err(self.refuse(
+            profile.name.place,
+            "the head of this body differs from its declaration (6.3.1)",
+        ))
+    }
+
+    fn missing_bodies(&mut self) -> Result<(), Stop> {
+        for number in 0..self.operations.len() {
+            let missing = match self.operations.get(number) {
+                Some(declared) if declared.body.is_none() && !declared.outside => Some(
+                    declared.profile.name,
+                ),
+                _ => None,
+            };
+            if let Some(name) = missing {
+                let stop = self.refuse_name(
+                    name.place,
+                    "the operation ",
+                    name.number,
+                    " has no body",
+                );
+                self.keep_on(Err(stop))?;
+            }
+        }
+        Ok(())
+    }
+
+    /// The frame of an operation is empty.
+    fn begin_frame(&mut self, number: usize) {
+        self.slots = FIRST_LOCAL;
+        self.most_slots = FIRST_LOCAL;
+        self.loops.truncate(0);
+        self.current = Some(number);
+        self.handled = None;
+    }
+
+    /// The index of a family, in slot 8.
+    fn family_index(&mut self, profile: &'a Profile, family: Option<Sub>) -> Result<(), Stop> {
+        let (Some(found), Some(sub)) = (&profile.family, family) else {
+            return Ok(());
+        };
+        let Some(name) = found.name else {
+            return Err(self.refuse(
+                profile.name.place,
+                "the index of a family has a name in its body: (for I in ..) (9.5.2)",
+            ));
+        };
+        let variable = Variable {
+            area: Area::Frame,
+            first: 8,
+            distance: None,
+            sub,
+            constant: true,
+        };
+        self.define(name, Meaning::Variable(variable))
+    }
+
+    /// The parameters of a body, in slots from 0 on.
+    fn body_parameters(&mut self, profile: &'a Profile) -> Result<(), Stop> {
+        let mut slot = 0u16;
+        for group in profile.parameters.iter() {
+            slot = self.parameter_group(group, slot)?;
+        }
+        Ok(())
+    }
+
+    fn parameter_group(&mut self, group: &'a Parameters, first: u16) -> Result<u16, Stop> {
+        let sub = self.subtype(&group.variables.subtype)?;
+        let mut slot = first;
+        for name in group.variables.names.iter() {
+            let variable = Variable {
+                area: Area::Frame,
+                first: slot,
+                distance: None,
+                sub,
+                constant: group.mode == Mode::In,
+            };
+            self.define(*name, Meaning::Variable(variable))?;
+            slot = slot.saturating_add(1);
+        }
+        Ok(slot)
+    }
+
+    /// What a body does, as statements.
+    fn content(&mut self, body: &'a Body, returns: Option<Sub>) -> Result<(), Stop> {
+        match &body.content {
+            Content::Declared => Ok(()),
+            Content::Value(value) => {
+                let Some(sub) = returns else {
+                    return Err(self.refuse(value.place, "only a function is an expression (6.8)"));
+                };
+                let result = self.value(value, LEVELS)?;
+                let code = self.fit(value.place, result, sub)?;
+                self.emit(Stmt::Assign(Area::Frame, 0, code))?;
+                self.emit(Stmt::Return)
+            }
+            Content::Statements(declarations, list) => {
+                self.locals(declarations.as_slice())?;
+                self.handled_sequence(list, LEVELS)?;
+                if returns.is_some() {
+                    return self.function_end();
+                }
+                Ok(())
+            }
+        }
+    }
+
+    /// The operation of a body in the program.
+    fn made_body(&mut self, number: usize, body: &'a Body) -> Result<Operation, Stop> {
+        let (family, returns) = match self.operations.get(number) {
+            Some(declared) => (declared.family, declared.returns),
+            None => (None, None),
+        };
+        let scope = self.scope.len();
+        self.begin_frame(number);
+        let before = self.begin_list();
+        let mut done = self.family_index(&body.profile, family);
+        if done.is_ok() {
+            done = self.body_parameters(&body.profile);
+        }
+        if done.is_ok() {
+            done = self.content(body, returns);
+        }
+        let made = self.end_sequence(before)?;
+        self.scope.truncate(scope);
+        self.keep_on(done)?;
+        Ok(Operation {
+            slots: self.most_slots,
+            body: made,
+        })
+    }
+
+    /// The operation of a barrier in the program: its value is in slot 0.
+    fn made_barrier(&mut self, number: usize, body: &'a Body) -> Result<Operation, Stop> {
+        let family = match self.operations.get(number) {
+            Some(declared) => declared.family,
+            None => None,
+        };
+        let scope = self.scope.len();
+        self.begin_frame(number);
+        let before = self.begin_list();
+        let done = self.barrier_code(body, family);
+        let made = self.end_sequence(before)?;
+        self.scope.truncate(scope);
+        self.keep_on(done)?;
+        Ok(Operation {
+            slots: self.most_slots,
+            body: made,
+        })
+    }
+
+    fn barrier_code(&mut self, body: &'a Body, family: Option<Sub>) -> Result<(), Stop> {
+        let Some(barrier) = &body.barrier else {
+            return Ok(());
+        };
+        self.family_index(&body.profile, family)?;
+        self.hide_parameters(&body.profile)?;
+        let test = self.condition(barrier, LEVELS)?;
+        self.emit(Stmt::Assign(Area::Frame, 0, test))
+    }
+
+    /// The barrier doesn't use the parameters.
+    fn hide_parameters(&mut self, profile: &'a Profile) -> Result<(), Stop> {
+        for group in profile.parameters.iter() {
+            for name in group.variables.names.iter() {
+                self.define(*name, Meaning::Hidden)?;
+            }
+        }
+        Ok(())
+    }
+
+    /// The statements that give the object's data their values.
+    fn setup(&mut self) -> Result<Operation, Stop> {
+        let list = self.end_list(Vec::new(self.alloc));
+        let slots = self.most_slots;
+        Ok(Operation {
+            slots,
+            body: sequence(self.alloc, list)?,
+        })
+    }
+
+    /// An operation that does nothing.
+    fn nothing(&self) -> Operation {
+        Operation {
+            slots: FIRST_LOCAL,
+            body: Stmt::Null,
+        }
+    }
+
+    /// The program: operation 0 gives the data their values; then come the body and the barrier of each operation.
+    pub fn program(&mut self) -> Result<Program, Stop> {
+        let mut operations = Vec::new(self.alloc);
+        operations.push(self.setup()?)?;
+        let mut bodies = Vec::new(self.alloc);
+        for number in 0..self.operations.len() {
+            bodies.push(self.made_operation(number, false)?)?;
+        }
+        for number in 0..self.operations.len() {
+            let outer = self.made_operation(number, true)?;
+            let inner = bodies.get_mut(number);
+            if let (Some(found), Some(made)) = (inner, outer) {
+                *found = Some(made);
+            }
+        }
+        for made in bodies {
+            let (body, barrier) = match made {
+                Some(pair) => pair,
+                None => (self.nothing(), self.nothing()),
+            };
+            operations.push(body)?;
+            operations.push(barrier)?;
+        }
+        self.assembled(operations)
+    }
+
+    /// The body and the barrier of an operation; none of one outside of the unit that isn't called.
+    fn made_operation(
+        &mut self,
+        number: usize,
+        outside: bool,
+    ) -> Result<Option<(Operation, Operation)>, Stop> {
+        let body = match self.operations.get(number) {
+            Some(declared) if declared.outside == outside && (declared.used || !outside) =>
+                declared.body,
+            _ => None,
+        };
+        match body {
+            Some(body) => Ok(Some((
+                self.made_body(number, body)?,
+                self.made_barrier(number, body)?,
+            ))),
+            None => Ok(None),
+        }
+    }
+
+    fn assembled(&mut self, operations: Vec<Operation>) -> Result<Program, Stop> {
+        let mut entries = Vec::new(self.alloc);
+        let mut procedures = Vec::new(self.alloc);
+        let mut functions = Vec::new(self.alloc);
+        for number in 0..self.operations.len() {
+            let Some(declared) = self.operations.get(number) else {
+                break;
+            };
+            let body = crate::values::body_number(number);
+            match declared.profile.kind {
+                Kind::Entry => {
+                    let (low, count) = match declared.family {
+                        Some(sub) => (sub.low, crate::types::count(sub)),
+                        None => (0, 1),
+                    };
+                    for offset in 0..count {
+                        entries.push(Entry {
+                            barrier: body.saturating_add(1),
+                            body,
+                            index: low.saturating_add(i128::from(offset)),
+                        })?;
+                    }
+                }
+                Kind::Procedure if declared.public => procedures.push(body)?,
+                Kind::Function if declared.public => functions.push(body)?,
+                _ => {}
+            }
+        }
+        Ok(Program {
+            cells: self.cells,
+            operations,
+            setup: 0,
+            entries,
+            procedures,
+            functions,
+        })
+    }
+}

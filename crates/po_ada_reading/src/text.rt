@@ -1,0 +1,132 @@
+// SPDX-License-Identifier: MIT
+//! Reads a text, and makes the program of one of its protected units.
+
+use po_ada_names::Heading;
+use po_ada_program::{Made, heading_of, object_of};
+use po_ada_text::parse;
+use po_ada_tree::tree::{Item, Name};
+use po_ada_tree::{Fault, Faults, Names, Stop, Text};
+use std::alloc::{AllocError, Global};
+
+/// A text whose syntax was read, and one of its protected units.
+#[derive(Drop)]
+pub struct AdaText {
+    alloc: Global,
+    bytes: Vec<u8>,
+    text: Text,
+    wanted: Name,
+    heading: Heading,
+}
+
+/// The protected unit of a text that is asked for; if none is, the only one.
+fn chosen(
+    alloc: Global,
+    text: &Text,
+    wanted: Option<&str>,
+    faults: &mut Faults,
+) -> Result<Name, Stop> {
+    let mut found: Option<Name> = None;
+    let mut count = 0usize;
+    for item in text.items.iter() {
+        if let Item::Protected(unit) = item {
+            if is_wanted(&text.names, unit.name, wanted) {
+                count = count.saturating_add(1);
+                found = Some(unit.name);
+            }
+        }
+    }
+    let message = match wanted {
+        None if count > 1 => "the text has several protected units: say which one",
+        None => "the text has no protected type or object",
+        Some(_) => "the text has no protected unit of the name that is asked for",
+    };
+    match found {
+        Some(name) if count == 1 => Ok(name),
+        _ => {
+            faults.add(0, String::from_str(alloc, message)?)?;
+            Err(Stop::Fault)
+        }
+    }
+}
+
+fn is_wanted(names: &Names, name: Name, wanted: Option<&str>) -> bool {
+    match wanted {
+        None => true,
+        Some(text) => {
+            let written = names.written(name.number).as_bytes();
+            written.len() == text.len()
+                && written
+                    .iter()
+                    .zip(text.as_bytes())
+                    .all(|(a, b)| a.eq_ignore_ascii_case(b))
+        }
+    }
+}
+
+/// A text and its unit, or a stop.
+fn read_text(
+    alloc: Global,
+    bytes: &[u8],
+    wanted: Option<&str>,
+    faults: &mut Faults,
+) -> Result<AdaText, Stop> {
+    let text = parse(alloc, bytes, faults)?;
+    let wanted = chosen(alloc, &text, wanted, faults)?;
+    let heading = heading_of(alloc, &text, bytes, wanted, faults)?;
+    Ok(AdaText {
+        alloc,
+        bytes: bytes.to_vec(alloc)?,
+        text,
+        wanted,
+        heading,
+    })
+}
+
+/// What was made if nothing is wrong with a text; else its faults.
+fn outcome<T: Drop>(
+    made: Result<T, Stop>,
+    faults: Faults,
+) -> Result<Result<T, Vec<Fault>>, AllocError> {
+    match made {
+        Ok(value) if faults.is_empty() => Ok(Ok(value)),
+        Err(Stop::OutOfMemory) => Err(AllocError),
+        _ => Ok(Err(faults.into_items())),
+    }
+}
+
+/// Reads a text. If it has several protected units, one of them is asked for by its name, in any case of letters. Returns the
+/// text with its unit, or what is wrong with it: at most 20 faults, in the order in which they were found.
+pub fn read(
+    alloc: Global,
+    bytes: &[u8],
+    wanted: Option<&str>,
+) -> Result<Result<AdaText, Vec<Fault>>, AllocError> {
+    let mut faults = Faults::new(alloc);
+    let made = read_text(alloc, bytes, wanted, &mut faults);
+    outcome(made, faults)
+}
+
+impl AdaText {
+    /// The unit's name and its discriminants.
+    pub fn heading(&self) -> &Heading {
+        &self.heading
+    }
+
+    /// The program of an object whose discriminants have these values, in order, and its names; or what is wrong with the text.
+    pub fn object(
+        &self,
+        alloc: Global,
+        values: &[i128],
+    ) -> Result<Result<Made, Vec<Fault>>, AllocError> {
+        let mut faults = Faults::new(alloc);
+        let made = object_of(
+            alloc,
+            &self.text,
+            self.bytes.as_slice(),
+            self.wanted,
+            values,
+            &mut faults,
+        );
+        outcome(made, faults)
+    }
+}

@@ -1,0 +1,275 @@
+// SPDX-License-Identifier: MIT
+//! Reads a text: the declarations before protected units, and the units (9.4).
+
+ghost use Rattle.std.specs.Prelude.{◌≡◌, ◌≤◌, vec_len, OnOk, Err};
+
+use crate::lexer::{Element, Lexed, cut};
+use crate::reader::Reader;
+use crate::sign::Sign;
+use crate::statements::go_on;
+use po_ada_tree::fault::{Faults, Stop};
+use po_ada_tree::names::Names;
+use po_ada_tree::reserved::Reserved;
+use po_ada_tree::tree::{Declaration, Item, Name, Text};
+use std::alloc::Global;
+
+/// A text has at most this many bytes.
+pub const MOST_BYTES: usize = 16_777_216;
+
+impl<'a> Reader<'a> {
+    /// Reads a text's items. After a fault, goes on at the next item.
+    fn items(&mut self) -> Result<Vec<Item>, Stop> {
+        let mut list = Vec::new(self.alloc);
+        for _ in 0..self.turns() {
+            if self.peek() == Element::End {
+                break;
+            }
+            match self.item() {
+                Ok(Some(item)) => list.push(item)?,
+                Ok(None) => {}
+                Err(stop) => {
+                    go_on(stop)?;
+                    self.skip_semicolon();
+                }
+            }
+        }
+        Ok(list)
+    }
+
+    /// Reads an item; none if it changes no meaning.
+    fn item(&mut self) -> Result<Option<Item>, Stop> {
+        match self.peek() {
+            Element::Reserved(Reserved::Protected) => Ok(Some(self.protected_item()?)),
+            Element::Reserved(Reserved::Package) => self.package(),
+            Element::Reserved(Reserved::Generic) => {
+                self.step();
+                Ok(None)
+            }
+            Element::Reserved(Reserved::Private) => {
+                self.step();
+                Ok(None)
+            }
+            Element::Reserved(Reserved::End) => {
+                self.skip_semicolon();
+                Ok(None)
+            }
+            Element::Reserved(Reserved::Begin) => {
+                self.skip_program();
+                Ok(None)
+            }
+            Element::Reserved(Reserved::Task) => {
+                self.skip_task()?;
+                Ok(None)
+            }
+            Element::Reserved(Reserved::TypeWord) => Ok(Some(Item::Declaration(
+                self.outer_type()?,
+            ))),
+            Element::Reserved(Reserved::Procedure) | Element::Reserved(Reserved::Function) =>
+                self.subprogram(),
+            _ => self.outer_declaration(),
+        }
+    }
+
+    /// Reads a declaration outside of protected units; none if it changes no meaning.
+    fn outer_declaration(&mut self) -> Result<Option<Item>, Stop> {
+        if !self.begins_declaration() {
+            let stop = self.expected("a declaration, or 'protected'");
+            self.step();
+            return Err(stop);
+        }
+        Ok(self.declaration()?.map(Item::Declaration))
+    }
+
+    /// Reads a type outside of protected units, which may be a generic formal one.
+    fn outer_type(&mut self) -> Result<Declaration, Stop> {
+        let is_formal = self.sees_formal_type();
+        self.type_declaration(is_formal)
+    }
+
+    /// Whether a generic formal type comes next: `type T is private`, `(<>)`, `range <>` or `mod <>`.
+    fn sees_formal_type(&self) -> bool {
+        match (self.ahead(3), self.ahead(4)) {
+            (Element::Reserved(Reserved::Private), _) => true,
+            (Element::Reserved(Reserved::Limited), Element::Reserved(Reserved::Private)) => true,
+            (_, Element::Sign(Sign::Anything)) => true,
+            _ => false,
+        }
+    }
+
+    fn protected_item(&mut self) -> Result<Item, Stop> {
+        self.step();
+        if self.takes(Reserved::Body) {
+            Ok(Item::ProtectedBody(self.protected_body()?))
+        } else {
+            Ok(Item::Protected(self.protected()?))
+        }
+    }
+
+    /// Reads the name of a unit, with the packages before it.
+    fn unit_name(&mut self) -> Result<Name, Stop> {
+        let mut name = self.name("a unit's name")?;
+        for _ in 0..self.turns() {
+            if !self.takes_sign(Sign::Dot) {
+                break;
+            }
+            name = self.name("a unit's name")?;
+        }
+        Ok(name)
+    }
+
+    /// Opens a package: its items stand for themselves.
+    fn package(&mut self) -> Result<Option<Item>, Stop> {
+        let place = self.place();
+        self.step();
+        self.takes(Reserved::Body);
+        let name = self.unit_name()?;
+        self.ignored_aspects()?;
+        self.needs(Reserved::Is)?;
+        if self.sees(Reserved::New) {
+            return Err(self.refuse(
+                place,
+                "an instance of a generic package isn't in this subset (12.3)",
+            ));
+        }
+        Ok(Some(Item::Package(name)))
+    }
+
+    /// Reads a subprogram, or opens a main program.
+    fn subprogram(&mut self) -> Result<Option<Item>, Stop> {
+        let is_main = self.sees(Reserved::Procedure)
+            && self.ahead(2) == Element::Reserved(Reserved::Is)
+            && self.holds_protected();
+        if is_main {
+            self.step();
+            let name = self.name("the program's name")?;
+            self.step();
+            return Ok(Some(Item::Package(name)));
+        }
+        let start = self.next;
+        let told = self.faults.len();
+        match self.body() {
+            Ok(body) if self.faults.len() == told => Ok(Some(Item::Operation(body))),
+            Ok(_) => self.unread(start, told),
+            Err(stop) => {
+                go_on(stop)?;
+                self.unread(start, told)
+            }
+        }
+    }
+
+    /// Passes over a subprogram outside of protected units that has what isn't in the subset. It may not be called.
+    fn unread(&mut self, start: usize, told: usize) -> Result<Option<Item>, Stop> {
+        self.faults.truncate(told);
+        self.next = start;
+        self.step();
+        let name = self.name("the operation's name")?;
+        self.skip_unit(name);
+        Ok(Some(Item::Unread(name)))
+    }
+
+    /// Goes on past `end NAME;`.
+    fn skip_unit(&mut self, name: Name) {
+        for _ in 0..self.turns() {
+            if self.peek() == Element::End {
+                break;
+            }
+            let ends = self.takes(Reserved::End);
+            if ends && self.peek() == Element::Name(name.number) {
+                self.skip_semicolon();
+                break;
+            }
+            if !ends {
+                self.step();
+            }
+        }
+    }
+
+    /// Passes over a task, which is no part of a protected unit (9.1).
+    fn skip_task(&mut self) -> Result<(), Stop> {
+        self.step();
+        if !self.takes(Reserved::Body) {
+            self.takes(Reserved::TypeWord);
+        }
+        let name = self.name("a task's name")?;
+        if self.takes_sign(Sign::LeftParenthesis) {
+            for _ in 0..self.turns() {
+                if self.takes_sign(Sign::RightParenthesis) || self.peek() == Element::End {
+                    break;
+                }
+                self.step();
+            }
+        }
+        if self.skip_to(Reserved::Is) {
+            self.skip_unit(name);
+        } else {
+            self.skip_semicolon();
+        }
+        Ok(())
+    }
+
+    /// Passes over the statements of a program or a package, up to the next protected unit or package.
+    fn skip_program(&mut self) {
+        for _ in 0..self.turns() {
+            if self.sees(Reserved::Protected)
+                || self.sees(Reserved::Package)
+                || self.peek() == Element::End
+            {
+                break;
+            }
+            self.step();
+        }
+    }
+
+    /// Whether a protected unit comes before the next `begin`.
+    fn holds_protected(&self) -> bool {
+        for distance in 0..self.turns() {
+            match self.ahead(distance) {
+                Element::Reserved(Reserved::Protected) => return true,
+                Element::Reserved(Reserved::Begin) | Element::End => return false,
+                _ => {}
+            }
+        }
+        false
+    }
+}
+
+/// Reads the items of a text that is short enough.
+fn read_items(alloc: Global, text: &[u8], faults: &mut Faults) -> Result<Text, Stop> {
+    let Lexed { elements, names } = cut(alloc, text, faults)?;
+    let mut reader = Reader {
+        alloc,
+        text_length: text.len(),
+        elements,
+        next: 0,
+        names,
+        faults,
+    };
+    let items = reader.items()?;
+    let Reader { names, .. } = reader;
+    Ok(Text { items, names })
+}
+
+/// Reads a text into its syntax tree. What is wrong with it gets into the list of faults, which has to be empty before:
+/// then the result is `Stop::Fault`.
+pub fn parse(alloc: Global, text: &[u8], faults: &mut Faults) -> Result<Text, Stop>
+    ensures read { OnOk result (vec_len faults.new.items ≡ 0) }
+    ensures told { result ≡ Err Stop.Fault → 1 ≤ vec_len faults.new.items }
+{
+    if text.len() > MOST_BYTES {
+        faults.add(
+            MOST_BYTES,
+            String::from_str(alloc, "a text has at most 16 MiB, 16,777,216 bytes")?,
+        )?;
+    }
+    if !faults.is_empty() {
+        return Err(Stop::Fault);
+    }
+    let read = read_items(alloc, text, faults);
+    if !faults.is_empty() {
+        return Err(Stop::Fault);
+    }
+    match read {
+        Ok(text) => Ok(text),
+        Err(_) => Err(Stop::OutOfMemory),
+    }
+}

@@ -1,0 +1,105 @@
+// SPDX-License-Identifier: MIT
+//! What is wrong with a text, and where.
+
+ghost use Rattle.std.specs.Prelude.{◌≡◌, ◌≤◌, ◌↔◌, IsTrue, vec_len, OnOk};
+
+use std::alloc::{AllocError, AllocFailed, Global};
+
+/// A run of a text tells at most this many faults.
+pub const MOST_FAULTS: usize = 20;
+
+/// Something that is wrong with a text.
+#[derive(Debug, Drop)]
+pub struct Fault {
+    /// How many bytes come before it.
+    pub place: usize,
+    pub message: String,
+}
+
+/// Why a part of a text was not read.
+#[derive(Clone, Copy, Debug, PartialEq, Eq)]
+pub enum Stop {
+    /// The list of faults says it.
+    Fault,
+    /// No memory.
+    OutOfMemory,
+}
+
+impl From<AllocError> for Stop {
+    fn from(_error: AllocError) -> Stop {
+        Stop::OutOfMemory
+    }
+}
+
+impl<T: Drop> From<AllocFailed<T>> for Stop {
+    fn from(_error: AllocFailed<T>) -> Stop {
+        Stop::OutOfMemory
+    }
+}
+
+/// The faults of a text that were found, in the order in which they were found.
+#[derive(Debug, Drop)]
+pub struct Faults {
+    pub items: Vec<Fault>,
+    ghost few: { vec_len items ≤ 20 },
+}
+
+impl Faults {
+    /// No faults.
+    pub fn new(alloc: Global) -> Faults
+        ensures { vec_len result.items ≡ 0 }
+    {
+        Faults {
+            items: Vec::new(alloc),
+        }
+    }
+
+    /// How many faults there are.
+    pub fn len(&self) -> usize
+        ensures { result ≡ vec_len self.now.items }
+    {
+        self.items.len()
+    }
+
+    /// Whether there is no fault.
+    pub fn is_empty(&self) -> bool
+        ensures { IsTrue result ↔ (vec_len self.now.items ≡ 0) }
+    {
+        self.items.is_empty()
+    }
+
+    /// The faults as a list.
+    pub fn into_items(self) -> Vec<Fault>
+        ensures { vec_len result ≡ vec_len self.items }
+    {
+        self.items
+    }
+
+    /// Forgets all faults but the first ones.
+    pub fn truncate(&mut self, length: usize) {
+        self.items.truncate(length);
+    }
+
+    /// Whether no more faults are told.
+    pub fn is_full(&self) -> bool
+        ensures { IsTrue result ↔ (20 ≤ vec_len self.now.items) }
+    {
+        self.items.len() >= MOST_FAULTS
+    }
+
+    /// Whether a fault at this place was told.
+    fn has_place(&self, place: usize) -> bool {
+        self.items.iter().any(|fault| fault.place == place)
+    }
+
+    /// Adds a fault, unless there are 20, or one at this place.
+    pub fn add(&mut self, place: usize, message: String) -> Result<(), AllocError>
+        ensures { OnOk result (1 ≤ vec_len self.new.items) }
+    {
+        if self.has_place(place) || self.is_full() {
+            return Ok(());
+        }
+        self.items.push(Fault { place, message })?;
+        Ok(())
+    }
+}
