@@ -3,9 +3,10 @@
 
 use po_ada_language::{FileChoice, ObjectText, Settings, Stop, Texts, no_object};
 use po_ada_names::{Heading, ObjectNames};
-use po_ada_program::{AdaText, Made, read};
+use po_ada_program::Made;
+use po_ada_reading::{AdaText, read};
 use po_ada_script::{TextObject, push_exception};
-use po_ada_text::{Fault, report};
+use po_ada_tree::{Fault, report};
 use po_ada_unit::{AdaUnit, SetupError};
 use std::alloc::{AllocError, Global};
 use std::fs;
