@@ -51,7 +51,7 @@ keep_text() {
 keep_input_of_words() {
   : >"$room/input"
   case "${#words[@]} ${words[*]}" in
-    "3 run --unit "*)
+    "3 run --unit "* | "4 check --unit "*" -")
       [ ! -t 0 ] || refuse_trial "the script is typed"
       keep_input
       keep_text "${words[2]}"

@@ -10,7 +10,7 @@ say() { printf 'pobj: %s\n' "$*" >&2; }
 all_rows() {
   cat <<'ROWS'
   run [--unit TEXT] [FILE]      Carries out a script, on one of eight units or on the protected object of an Ada text
-  check [FILE]                  Explains each fault of a script, and carries out nothing
+  check [--unit TEXT] [FILE]    Explains each fault of a script, and carries out nothing
   check --unit TEXT             Explains each fault of an Ada text
   picture [FILE] [-o PICTURE]   Draws what a script does as a time line, in SVG
   stress --unit NAME ..         Has threads share an object, and compares each answer with its history
@@ -167,12 +167,8 @@ take_script() {
       exit 2
       ;;
   esac
-  if [ "$command" = check ] && [ -n "$text" ] && [ -n "$file" ]; then
-    say "check --unit takes an Ada text alone"
-    exit 2
-  fi
   [ -z "$file" ] || need_file "$file"
-  if [ "$command" = run ] && [ -z "$text" ] && [ -n "$file" ]; then text=$(text_in "$file"); fi
+  if [ -z "$text" ] && [ -n "$file" ]; then text=$(text_in "$file"); fi
   [ -z "$text" ] || need_file "$text"
 }
 

@@ -52,7 +52,7 @@ fn push_byte(text: &mut String, byte: u8) -> Result<(), AllocError> {
 }
 
 /// Adds the word between quotes, cut short if it is long.
-fn push_word(text: &mut String, word: &[u8]) -> Result<(), AllocError> {
+pub fn push_word(text: &mut String, word: &[u8]) -> Result<(), AllocError> {
     text.push_str("'")?;
     for byte in word.iter().take(SHOWN) {
         push_byte(text, *byte)?;

@@ -92,6 +92,16 @@ impl<O: ScriptedObject + Drop, T: Texts<O> + Drop> Interpreter<O, T> {
         self.reply.as_bytes()
     }
 
+    /// Returns the same as text.
+    pub fn reply_text(&self) -> &str {
+        self.reply.as_str()
+    }
+
+    /// Returns whether a line made the object.
+    pub fn has_object(&self) -> bool {
+        self.object.is_some()
+    }
+
     /// Makes the object that the first command asks for.
     fn begin(&mut self, alloc: Global, verb: Verb, words: &[u8]) -> Result<(), Stop> {
         let begun = if verb == Verb::Begin {

@@ -1,6 +1,10 @@
 // SPDX-License-Identifier: MIT
 //! Runs a script, from its bytes to its answers.
 
+ghost use Rattle.std.specs.Prelude.{◌≡◌, ◌<◌, ◌∷◌, List, ℕ};
+ghost use Rattle.po_script.specs.Cutter.{total_of, waiting};
+ghost use Rattle.po_script.specs.declared.cutter.TheConstants.{SCRIPT_LIMIT};
+
 use po_ada_language::{Interpreter, LineFault, ScriptedObject, Stop, Texts};
 use po_language::FaultKind;
 use po_script::cutter::{Cutter, Piece, SCRIPT_LIMIT};
@@ -40,77 +44,93 @@ pub fn fault_at(number: u64, stop: Stop) -> RunFault {
     }
 }
 
-/// A script as far as it is carried out.
-#[derive(Drop)]
-struct Run<O, T> {
-    lines: Cutter,
-    interpreter: Interpreter<O, T>,
+/// What answers the lines of a script.
+pub trait Answers {
+    /// Answers the line with this number.
+    fn take(&mut self, alloc: Global, number: u64, line: &[u8]) -> Result<(), RunFault>;
+
+    /// Returns the lines that answer the latest line.
+    fn answer(&self) -> &[u8];
 }
 
-impl<O: ScriptedObject + Drop, T: Texts<O> + Drop> Run<O, T> {
-    ghost use Rattle.std.specs.Prelude.{◌≡◌, ◌<◌, ◌∷◌, List, ℕ};
-    ghost use Rattle.po_script.specs.Cutter.{total_of, waiting};
-    ghost use Rattle.po_script.specs.declared.cutter.TheConstants.{SCRIPT_LIMIT};
-
-    /// Returns this fault of the line being read.
-    fn fault(&self, alloc: Global, kind: FaultKind) -> RunFault {
-        RunFault::Line {
-            number: self.lines.number(),
-            fault: LineFault {
-                kind,
-                detail: String::new(alloc),
-            },
-        }
-    }
-
-    /// Carries out the line that was read, and writes its answer.
-    fn line<W: Sink>(&mut self, alloc: Global, writer: &mut W) -> Result<(), RunFault>
-        ensures { self.new.lines ≡ self.old.lines }
-    {
-        if let Err(stop) = self.interpreter.carry_out(alloc, self.lines.line()) {
-            return Err(fault_at(self.lines.number(), stop));
-        }
-        match write_all(writer, self.interpreter.reply()) {
+impl<O: ScriptedObject + Drop, T: Texts<O> + Drop> Answers for Interpreter<O, T> {
+    fn take(&mut self, alloc: Global, number: u64, line: &[u8]) -> Result<(), RunFault> {
+        match self.carry_out(alloc, line) {
             Ok(()) => Ok(()),
-            Err(_) => Err(RunFault::Write),
+            Err(stop) => Err(fault_at(number, stop)),
         }
     }
 
-    /// Carries out the line that the next byte, a newline, ends.
-    fn newline<W: Sink>(&mut self, alloc: Global, writer: &mut W) -> Result<(), RunFault>
-        requires room { total_of self.old.lines < SCRIPT_LIMIT }
-        requires next { (more : List ℕ) × (waiting self.old.lines ≡ 10 ∷ more) }
-    {
-        self.line(alloc, writer)?;
-        self.lines.newline();
-        Ok(())
+    fn answer(&self) -> &[u8] {
+        self.reply()
     }
+}
 
-    /// Reads the script from its beginning to its end, and carries it out. Each step but the last takes a byte, so there are at
-    /// most as many as a script has bytes, and one more.
-    fn read_on<R: Source, W: Sink>(
-        &mut self,
-        alloc: Global,
-        reader: &mut R,
-        writer: &mut W,
-    ) -> Result<(), RunFault> {
-        for _ in 0..=SCRIPT_LIMIT {
-            let Ok(piece) = self.lines.next(reader) else {
-                return Err(RunFault::Read);
-            };
-            match piece {
-                Piece::Letter => {
-                    if self.lines.is_too_long() {
-                        return Err(self.fault(alloc, FaultKind::LineTooLong));
-                    }
+/// Returns this fault of the line being read.
+fn fault(alloc: Global, lines: &Cutter, kind: FaultKind) -> RunFault {
+    RunFault::Line {
+        number: lines.number(),
+        fault: LineFault {
+            kind,
+            detail: String::new(alloc),
+        },
+    }
+}
+
+/// Answers the line that was read, and writes the answer.
+fn answer_line<A: Answers, W: Sink>(
+    alloc: Global,
+    lines: &Cutter,
+    answers: &mut A,
+    writer: &mut W,
+) -> Result<(), RunFault> {
+    answers.take(alloc, lines.number(), lines.line())?;
+    match write_all(writer, answers.answer()) {
+        Ok(()) => Ok(()),
+        Err(_) => Err(RunFault::Write),
+    }
+}
+
+/// Answers the line that the next byte, a newline, ends.
+fn newline<A: Answers, W: Sink>(
+    alloc: Global,
+    lines: &mut Cutter,
+    answers: &mut A,
+    writer: &mut W,
+) -> Result<(), RunFault>
+    requires room { total_of lines.old < SCRIPT_LIMIT }
+    requires next { (more : List ℕ) × (waiting lines.old ≡ 10 ∷ more) }
+{
+    answer_line(alloc, lines, answers, writer)?;
+    lines.newline();
+    Ok(())
+}
+
+/// Reads a script from its beginning to its end, and writes what answers its lines. Each step but the last takes a byte, so
+/// there are at most as many as a script has bytes, and one more.
+pub fn answer_lines<A: Answers, R: Source, W: Sink>(
+    alloc: Global,
+    answers: &mut A,
+    reader: &mut R,
+    writer: &mut W,
+) -> Result<(), RunFault> {
+    let mut lines = Cutter::new(alloc)?;
+    for _ in 0..=SCRIPT_LIMIT {
+        let Ok(piece) = lines.next(reader) else {
+            return Err(RunFault::Read);
+        };
+        match piece {
+            Piece::Letter => {
+                if lines.is_too_long() {
+                    return Err(fault(alloc, &lines, FaultKind::LineTooLong));
                 }
-                Piece::Newline => self.newline(alloc, writer)?,
-                Piece::End => return self.line(alloc, writer),
-                Piece::Past => return Err(self.fault(alloc, FaultKind::ScriptTooLong)),
             }
+            Piece::Newline => newline(alloc, &mut lines, answers, writer)?,
+            Piece::End => return answer_line(alloc, &lines, answers, writer),
+            Piece::Past => return Err(fault(alloc, &lines, FaultKind::ScriptTooLong)),
         }
-        Err(self.fault(alloc, FaultKind::ScriptTooLong))
     }
+    Err(fault(alloc, &lines, FaultKind::ScriptTooLong))
 }
 
 /// Runs the script that the reader gives on the object that one of the texts says, and writes the answers.
@@ -120,12 +140,8 @@ pub fn run_script<O: ScriptedObject + Drop, T: Texts<O> + Drop, R: Source, W: Si
     reader: &mut R,
     writer: &mut W,
 ) -> Result<(), RunFault> {
-    let lines = Cutter::new(alloc)?;
-    let mut run: Run<O, T> = Run {
-        lines,
-        interpreter: Interpreter::new(alloc, texts),
-    };
-    let ran = run.read_on(alloc, reader, writer);
-    drop(run);
+    let mut interpreter: Interpreter<O, T> = Interpreter::new(alloc, texts);
+    let ran = answer_lines(alloc, &mut interpreter, reader, writer);
+    drop(interpreter);
     ran
 }

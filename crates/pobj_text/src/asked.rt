@@ -16,7 +16,9 @@ pub(crate) enum Asked {
     /// Carries out the script on standard input, on the object of this file or of one that the script names.
     Run(Option<String>),
     /// Reads the text of this file.
-    Check(String),
+    CheckText(String),
+    /// Checks the script on standard input, on the object of this file.
+    CheckScript(String),
 }
 
 /// Makes the argument that names a file with an Ada text.
@@ -27,12 +29,19 @@ fn unit<'a>(alloc: Global) -> Arg<'a> {
         .help("The Ada text of a protected type or object")
 }
 
+/// Makes the argument that asks for a check of a script.
+fn script<'a>(alloc: Global) -> Arg<'a> {
+    Arg::new(alloc, "SCRIPT").help("A hyphen: the script on standard input is checked too")
+}
+
 /// Makes the command line.
 fn command<'a>(alloc: Global) -> Result<Command<'a>, AllocError> {
     let run = run_command(alloc)
         .override_usage("pobj run --unit FILE < SCRIPT")
         .arg(unit(alloc))?;
-    let check = check_command(alloc).arg(unit(alloc).required(true))?;
+    let check = check_command(alloc)
+        .arg(unit(alloc).required(true))?
+        .arg(script(alloc))?;
     pobj(alloc).subcommand(run)?.subcommand(check)
 }
 
@@ -49,6 +58,15 @@ fn owned(alloc: Global, name: Option<&str>) -> Result<Option<String>, AllocError
     }
 }
 
+/// Returns what a check of this file is, if a script is checked too or not.
+fn check_of(file: String, is_script: bool) -> Asked {
+    if is_script {
+        Asked::CheckScript(file)
+    } else {
+        Asked::CheckText(file)
+    }
+}
+
 /// Returns what the words ask for. Fails if they ask for help, or are refused.
 pub(crate) fn parse<R: Env + AllocGlobal>(rt: &R) -> Result<Asked, CommandError> {
     let alloc = rt.alloc();
@@ -59,8 +77,9 @@ pub(crate) fn parse<R: Env + AllocGlobal>(rt: &R) -> Result<Asked, CommandError>
     }
     let checked = matches.subcommand_matches(CHECK);
     let named = checked.and_then(|matches| matches.get_str("unit"));
+    let script = checked.and_then(|matches| matches.get_str("SCRIPT"));
     match owned(alloc, named)? {
-        Some(file) => Ok(Asked::Check(file)),
+        Some(file) => Ok(check_of(file, script.is_some())),
         None => Err(CommandError::from(elsewhere(alloc)?)),
     }
 }

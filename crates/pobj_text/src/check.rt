@@ -1,14 +1,16 @@
 // SPDX-License-Identifier: MIT
-//! Reads an Ada text, and tells its faults.
+//! Reads an Ada text, and tells its faults, or those of a script on its object.
 
-use crate::files::{open, text_of};
+use crate::files::{Opened, TextFiles, open, text_of};
 use crate::status::print_fault;
+use po_ada_check::{Verdict, check_script};
 use po_ada_language::{Stop, value_before};
 use po_ada_names::{Discriminant, Heading, Types};
-use po_ada_script::fault_at;
-use po_command_line::GOOD;
+use po_ada_script::{RunFault, fault_at};
+use po_command_line::{FINDINGS, GOOD};
+use po_streams::OverStd;
 use std::alloc::{AllocFailed, Global};
-use std::io::Eprint;
+use std::io::{self, BufWriter, Eprint, Input, Print, Write};
 use std::rt::Files;
 
 /// Returns a value that the discriminant can have: its default, if it has one.
@@ -41,9 +43,46 @@ fn read_whole<R: Files + AllocGlobal>(rt: &R, name: &str) -> Result<(), Stop> {
 }
 
 /// Reads the text of the file whole, and prints its faults. Returns the status.
-pub(crate) fn check<R: Eprint + Files + AllocGlobal>(rt: &R, name: &str) -> u8 {
+pub(crate) fn check_text<R: Eprint + Files + AllocGlobal>(rt: &R, name: &str) -> u8 {
     match read_whole(rt, name) {
         Ok(()) => GOOD,
         Err(stop) => print_fault(rt, &fault_at(0, stop)),
+    }
+}
+
+/// Checks the script on standard input on the object of this file, and writes what is found.
+fn checked<R: Input + Print + Files + AllocGlobal>(
+    rt: &R,
+    given: Opened,
+) -> Result<Verdict, RunFault> {
+    let Ok(output) = BufWriter::new(rt.alloc(), io::writer(rt)) else {
+        return Err(RunFault::OutOfMemory);
+    };
+    let texts = TextFiles {
+        rt,
+        given: Some(given),
+    };
+    let mut reader = OverStd::new(rt.reader());
+    let mut writer = OverStd::new(output);
+    let verdict = check_script(rt.alloc(), texts, &mut reader, &mut writer);
+    match writer.into_inner().flush() {
+        Ok(()) => verdict,
+        Err(_) => Err(RunFault::Write),
+    }
+}
+
+/// Checks the script on standard input on the object of the file of this name. Returns the status.
+pub(crate) fn check_script_of<R: Input + Print + Eprint + Files + AllocGlobal>(
+    rt: &R,
+    name: &str,
+) -> u8 {
+    let given = match open(rt, name) {
+        Ok(given) => given,
+        Err(stop) => return print_fault(rt, &fault_at(0, stop)),
+    };
+    match checked(rt, given) {
+        Ok(Verdict::Clean) => GOOD,
+        Ok(Verdict::Faulty) => FINDINGS,
+        Err(fault) => print_fault(rt, &fault),
     }
 }

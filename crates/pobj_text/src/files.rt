@@ -1,6 +1,7 @@
 // SPDX-License-Identifier: MIT
 //! The files with the Ada texts of a script.
 
+use po_ada_check::CheckedObject;
 use po_ada_language::{FileChoice, ObjectText, Settings, Stop, Texts, no_object};
 use po_ada_names::{Heading, ObjectNames};
 use po_ada_program::Made;
@@ -167,14 +168,22 @@ impl ObjectText<TextObject<AdaUnit>> for FileText {
     }
 }
 
-impl<'a, R: Files + AllocGlobal> Texts<TextObject<AdaUnit>> for TextFiles<'a, R> {
-    type Text = FileText;
-
-    fn has_given(&self) -> bool {
-        self.given.is_some()
+impl ObjectText<CheckedObject> for FileText {
+    fn heading(&self) -> &Heading {
+        self.text.heading()
     }
 
-    fn is_file_name(&self, word: &[u8]) -> bool {
+    fn object(&self, alloc: Global, settings: Settings) -> Result<CheckedObject, Stop> {
+        let made = self.program(alloc, settings.discriminants.as_slice())?;
+        let (unit, names) = unit_of(alloc, made)?;
+        drop(unit);
+        Ok(CheckedObject::new(names))
+    }
+}
+
+impl<'a, R: Files + AllocGlobal> TextFiles<'a, R> {
+    /// Returns whether the word is the name of the given file, without its ending.
+    fn has_name(&self, word: &[u8]) -> bool {
         let Some(file) = &self.given else {
             return false;
         };
@@ -184,7 +193,8 @@ impl<'a, R: Files + AllocGlobal> Texts<TextObject<AdaUnit>> for TextFiles<'a, R>
         }
     }
 
-    fn read(&mut self, alloc: Global, choice: FileChoice<'_>) -> Result<FileText, Stop> {
+    /// Reads the text of the file that was chosen.
+    fn chosen(&self, alloc: Global, choice: FileChoice<'_>) -> Result<FileText, Stop> {
         match choice {
             FileChoice::Given(word) => match &self.given {
                 Some(file) => given_text(alloc, file, word),
@@ -195,5 +205,37 @@ impl<'a, R: Files + AllocGlobal> Texts<TextObject<AdaUnit>> for TextFiles<'a, R>
                 Err(_) => Err(no_object(alloc, NOT_TEXT)),
             },
         }
+    }
+}
+
+impl<'a, R: Files + AllocGlobal> Texts<TextObject<AdaUnit>> for TextFiles<'a, R> {
+    type Text = FileText;
+
+    fn has_given(&self) -> bool {
+        self.given.is_some()
+    }
+
+    fn is_file_name(&self, word: &[u8]) -> bool {
+        self.has_name(word)
+    }
+
+    fn read(&mut self, alloc: Global, choice: FileChoice<'_>) -> Result<FileText, Stop> {
+        self.chosen(alloc, choice)
+    }
+}
+
+impl<'a, R: Files + AllocGlobal> Texts<CheckedObject> for TextFiles<'a, R> {
+    type Text = FileText;
+
+    fn has_given(&self) -> bool {
+        self.given.is_some()
+    }
+
+    fn is_file_name(&self, word: &[u8]) -> bool {
+        self.has_name(word)
+    }
+
+    fn read(&mut self, alloc: Global, choice: FileChoice<'_>) -> Result<FileText, Stop> {
+        self.chosen(alloc, choice)
     }
 }

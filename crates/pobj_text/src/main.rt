@@ -23,7 +23,8 @@ fn start<R: Env + Input + Print + Eprint + Files + AllocGlobal>(
 ) -> Result<u8, CommandError> {
     match asked::parse(rt)? {
         Asked::Run(file) => Ok(run::run(rt, file, is_typed)),
-        Asked::Check(file) => Ok(check::check(rt, file.as_str())),
+        Asked::CheckText(file) => Ok(check::check_text(rt, file.as_str())),
+        Asked::CheckScript(file) => Ok(check::check_script_of(rt, file.as_str())),
     }
 }
 
