@@ -32,7 +32,7 @@ fn entry_refusal(names: &ObjectNames, reference: EntryRef) -> Option<Refusal> {
     }
 }
 
-/// Returns the refusal of an operation with this number, if there are so many and not one more.
+/// Returns the refusal of an operation with this number, if there are only this many.
 fn operation_refusal(number: u16, count: usize) -> Option<Refusal> {
     if usize::from(number) < count {
         None
