@@ -88,7 +88,7 @@ hand_on() {
     say "write failed"
     exit 4
   fi
-  if [ "${words[*]}" = run ] && [ -t 2 ]; then explain_fault "$(errors_of_program)" "$room/input" "${script:-FILE}"; fi
+  if [ "${words[0]}" = run ] && [ -t 2 ]; then explain_fault "$(errors_of_program)" "$room/input" "${script:-FILE}"; fi
   exit "$1"
 }
 

@@ -181,12 +181,12 @@ text_in() {
 }
 
 # Shows the faulty line of a script, and what explains it: explain_fault ERRORS SCRIPT NAME. ERRORS is what the program wrote on
-# standard error, and NAME is what the user calls the script.
+# standard error, NAME is what the user calls the script, and `text` the Ada text of its object, if it has one.
 explain_fault() {
   number=$(printf '%s\n' "$1" | awk '/^pobj: line [0-9]+: / { print $3 + 0; exit }')
   [ -n "$number" ] || return 0
   say "line $number is: $(head -n "$number" "$2" | tail -n 1 | shown)"
-  say "'$0 check $3' explains each fault"
+  say "'$0 check ${text:+--unit $text }$3' explains each fault"
 }
 
 # Carries out the script by a built program, and ends: run_file PROGRAM SCRIPT WORDS.. On a terminal a faulty line is shown too, if
@@ -199,7 +199,7 @@ run_file() {
   exec 3>&1
   errors=$("$program" "$@" <"$script" 2>&1 >&3 3>&-) || status=$?
   [ -z "$errors" ] || printf '%s\n' "$errors" >&2
-  [ $# -gt 1 ] || explain_fault "$errors" "$script" "$script"
+  [ "$1" != run ] || explain_fault "$errors" "$script" "$script"
   exit "$status"
 }
 
