@@ -31,7 +31,7 @@ impl ScriptedObject for CheckedObject {
     ) -> Result<(), Stop> {
         reply.clear();
         let operation = operation_of::<AdaUnit>(alloc, &self.names, verb, words)?;
-        push_warning(alloc, reply, &self.names, &operation, verb, words)?;
+        push_warning(reply, &self.names, &operation, verb, words)?;
         Ok(())
     }
 }

@@ -1,8 +1,6 @@
 // SPDX-License-Identifier: MIT
 //! Which operations are sure to be refused, whatever was carried out before them.
 
-ghost use Rattle.std.specs.Prelude.{◌≡◌, ◌↔◌, IsTrue, Some, None};
-
 use po_ada_language::Operation;
 use po_ada_names::{Entry, ObjectNames};
 use po_core::Refusal;

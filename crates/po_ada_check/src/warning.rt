@@ -8,7 +8,7 @@ use po_core::Refusal;
 use po_language::parse::Verb;
 use po_language::words::cut_word;
 use po_unit::EntryRef;
-use std::alloc::{AllocError, Global};
+use std::alloc::AllocError;
 use std::fmt::Write;
 
 /// Returns the first word, or nothing if there is none.
@@ -36,58 +36,64 @@ fn entry_name(word: &[u8]) -> &[u8] {
     word.get(..length).unwrap_or(word)
 }
 
-/// Returns the names of the entries that can be called from outside (9.4).
-fn public_entries(alloc: Global, entries: &[Entry]) -> Result<Vec<&str>, AllocError> {
-    let mut known = Vec::new(alloc);
-    for entry in entries {
+/// Adds a name to a list of what the unit has of this kind, whose plural is `many`. The first name comes after the list's head.
+fn push_name(
+    text: &mut String,
+    is_first: bool,
+    unit: &str,
+    many: &str,
+    name: &str,
+) -> Result<(), AllocError> {
+    if is_first {
+        write!(text, "; the {many} of {unit}: ")?;
+    } else {
+        text.push_str(", ")?;
+    }
+    text.push_str(name)
+}
+
+/// Adds that the unit has nothing of this kind, if the list is empty.
+fn push_none(text: &mut String, is_empty: bool, unit: &str, many: &str) -> Result<(), AllocError> {
+    if is_empty {
+        write!(text, "; {unit} has no {many}")
+    } else {
+        Ok(())
+    }
+}
+
+/// Adds which entries can be called from outside (9.4).
+fn push_entries(text: &mut String, names: &ObjectNames) -> Result<(), AllocError> {
+    let unit = names.unit.as_str();
+    let mut is_first = true;
+    for entry in names.entries.iter() {
         if entry.public {
-            known.push(entry.operation.name.as_str())?;
+            let name = entry.operation.name.as_str();
+            push_name(text, is_first, unit, "entries", name)?;
+            is_first = false;
         }
     }
-    Ok(known)
+    push_none(text, is_first, unit, "entries")
 }
 
-/// Returns the names of the operations.
-fn names_of(alloc: Global, operations: &[Named]) -> Result<Vec<&str>, AllocError> {
-    let mut known = Vec::new(alloc);
-    for operation in operations {
-        known.push(operation.name.as_str())?;
-    }
-    Ok(known)
-}
-
-/// Adds these names, with a comma between them.
-fn push_names(text: &mut String, names: &[&str]) -> Result<(), AllocError> {
-    for (position, name) in names.iter().enumerate() {
-        if position > 0 {
-            text.push_str(", ")?;
-        }
-        text.push_str(name)?;
-    }
-    Ok(())
-}
-
-/// Adds what the unit has of this kind, whose plural is `many`.
-fn push_known(text: &mut String, unit: &str, many: &str, known: &[&str]) -> Result<(), AllocError> {
-    if known.is_empty() {
-        return write!(text, "; {unit} has no {many}");
-    }
-    write!(text, "; the {many} of {unit}: ")?;
-    push_names(text, known)
-}
-
-/// Adds that the word names no operation of this kind, whose plural is `many`, and which there are.
-fn push_unknown(
+/// Adds which operations of this kind there are.
+fn push_operations(
     text: &mut String,
     unit: &str,
-    one: &str,
     many: &str,
-    known: &[&str],
-    word: &[u8],
+    operations: &[Named],
 ) -> Result<(), AllocError> {
+    let mut is_first = true;
+    for operation in operations {
+        push_name(text, is_first, unit, many, operation.name.as_str())?;
+        is_first = false;
+    }
+    push_none(text, is_first, unit, many)
+}
+
+/// Adds that the word names no operation of this kind.
+fn push_unknown(text: &mut String, one: &str, word: &[u8]) -> Result<(), AllocError> {
     write!(text, "no such {one} ")?;
-    push_word(text, word)?;
-    push_known(text, unit, many, known)
+    push_word(text, word)
 }
 
 /// Returns the form in which a script writes the index of the family.
@@ -117,37 +123,32 @@ fn push_index(text: &mut String, names: &ObjectNames, entry: &Entry) -> Result<(
     }
 }
 
+/// Adds that only a requeue can name the entry.
+fn push_private(text: &mut String, names: &ObjectNames, entry: &Entry) -> Result<(), AllocError> {
+    text.push_str(entry.operation.name.as_str())?;
+    text.push_str(" is private: only a requeue can name it")?;
+    push_entries(text, names)
+}
+
 /// Adds why each call of the entry is refused.
 fn push_call(
-    alloc: Global,
     text: &mut String,
     names: &ObjectNames,
     reference: EntryRef,
     word: &[u8],
 ) -> Result<(), AllocError> {
-    let unit = names.unit.as_str();
-    let known = public_entries(alloc, names.entries.as_slice())?;
     match names.entries.get(usize::from(reference.declaration)) {
-        None => push_unknown(
-            text,
-            unit,
-            "entry",
-            "entries",
-            known.as_slice(),
-            entry_name(word),
-        ),
-        Some(entry) if entry.public => push_index(text, names, entry),
-        Some(entry) => {
-            let name = entry.operation.name.as_str();
-            write!(text, "{name} is private: only a requeue can name it")?;
-            push_known(text, unit, "entries", known.as_slice())
+        None => {
+            push_unknown(text, "entry", entry_name(word))?;
+            push_entries(text, names)
         }
+        Some(entry) if entry.public => push_index(text, names, entry),
+        Some(entry) => push_private(text, names, entry),
     }
 }
 
 /// Adds why the operation is refused.
 fn push_reason<V>(
-    alloc: Global,
     text: &mut String,
     names: &ObjectNames,
     operation: &Operation<V>,
@@ -155,28 +156,26 @@ fn push_reason<V>(
 ) -> Result<(), AllocError> {
     let unit = names.unit.as_str();
     match operation {
-        Operation::Call { entry, .. } => push_call(alloc, text, names, *entry, word),
+        Operation::Call { entry, .. } => push_call(text, names, *entry, word),
         Operation::Procedure { .. } => {
-            let known = names_of(alloc, names.procedures.as_slice())?;
-            push_unknown(
-                text,
-                unit,
-                "procedure",
-                "procedures",
-                known.as_slice(),
-                word,
-            )
+            push_unknown(text, "procedure", word)?;
+            push_operations(text, unit, "procedures", names.procedures.as_slice())
         }
         _ => {
-            let known = names_of(alloc, names.functions.as_slice())?;
-            push_unknown(text, unit, "function", "functions", known.as_slice(), word)
+            push_unknown(text, "function", word)?;
+            push_operations(text, unit, "functions", names.functions.as_slice())
         }
     }
 }
 
+/// Adds the number of the refusal.
+fn push_refusal(text: &mut String, refusal: Refusal) -> Result<(), AllocError> {
+    let number = refusal.number();
+    write!(text, "warning: refused {number}, ")
+}
+
 /// Adds a warning, if the operation is sure to be refused: the refusal, and the reason.
 pub(crate) fn push_warning<V>(
-    alloc: Global,
     text: &mut String,
     names: &ObjectNames,
     operation: &Operation<V>,
@@ -187,11 +186,5 @@ pub(crate) fn push_warning<V>(
         return Ok(());
     };
     push_refusal(text, refusal)?;
-    push_reason(alloc, text, names, operation, name_word(verb, words))
-}
-
-/// Adds the number of the refusal.
-fn push_refusal(text: &mut String, refusal: Refusal) -> Result<(), AllocError> {
-    let number = refusal.number();
-    write!(text, "warning: refused {number}, ")
+    push_reason(text, names, operation, name_word(verb, words))
 }
