@@ -15,7 +15,7 @@ mod operation_line;
 pub mod parse;
 pub mod run_error;
 pub mod span;
-mod unit_line;
+pub mod unit_line;
 pub mod unit_list;
 pub mod words;
 

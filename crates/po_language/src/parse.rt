@@ -54,14 +54,14 @@ enum Known {
 }
 
 /// Returns whether the first word of a line makes it a comment.
-fn is_comment(word: &[u8]) -> bool
+pub fn is_comment(word: &[u8]) -> bool
     ensures { result ≡ is_comment word.now }
 {
     word.first() == Some(&b'#')
 }
 
 /// Returns what the first word of a line asks for, if it is known.
-fn verb_of(word: &[u8]) -> Option<Verb>
+pub fn verb_of(word: &[u8]) -> Option<Verb>
     ensures { result ≡ verb_of word.now }
 {
     if word == b"unit".as_slice() {

@@ -50,7 +50,7 @@ fn unit_of<L: UnitList>(arguments: &[u8]) -> Result<(UnitChoice, &[u8]), WordErr
 }
 
 /// Returns the service order of this name.
-fn order_of(word: &[u8]) -> Option<Order>
+pub fn order_of(word: &[u8]) -> Option<Order>
     ensures { result ≡ order_of word.now }
 {
     if word == b"textual".as_slice() {

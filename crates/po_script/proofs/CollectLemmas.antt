@@ -28,20 +28,20 @@ found p (x ∷ xs) (suc i) d h e = elim (cases_Bool (p x)) [
 ]
 
 -- each of the calls that ended last is found among all ended ones
-pub found_ended : (xs : List (Ended ℕ)) (before i : ℕ) (d : Ended ℕ)
+pub found_ended : {V : Type 0} (xs : List (Ended V)) (before i : ℕ) (d : Ended V)
     → i < length (drop before xs) → IsSome (find (has_ended (get_or (drop before xs) i d).number) xs)
-found_ended xs before i d h =
+found_ended {V} xs before i d h =
     let low : before + i < length xs = omega (arith, h, length-drop before xs) in
     let n = (get_or xs (before + i) d).number in
     rw (get_or-drop before xs i d) (found (has_ended n) xs (before + i) d low (eq-eqb n n refl))
 
 -- The first `many` calls of xs are collected.
-abbrev pub AreCollectedTo : List (Option ℕ) → List (Ended ℕ) → ℕ → Type 0
-AreCollectedTo core xs many =
-    (k : ℕ) (d : Ended ℕ) → k < many → k < length xs → IsCollected core (slice_index_or xs k d).number
+abbrev pub AreCollectedTo : {V : Type 0} → List (Option ℕ) → List (Ended V) → ℕ → Type 0
+AreCollectedTo {V} core xs many =
+    (k : ℕ) (d : Ended V) → k < many → k < length xs → IsCollected core (slice_index_or xs k d).number
 
 -- one more call is collected
-pub collected_more : (old new : List (Option ℕ)) (xs : List (Ended ℕ)) (index : ℕ) (e : Ended ℕ)
+pub collected_more : {V : Type 0} (old new : List (Option ℕ)) (xs : List (Ended V)) (index : ℕ) (e : Ended V)
     → AreCollectedTo old xs index
     → ((n : ℕ) → IsCollected old n → IsCollected new n)
     → IsCollected new (slice_index_or xs index e).number

@@ -13,15 +13,16 @@
 #![tactic(auto)]
 
 pub mod chunk;
+pub mod collection;
 pub mod cutter;
 pub mod facts;
 mod interpreter;
-mod lines;
+pub mod lines;
 mod object;
 mod operate;
 pub mod run;
 pub mod session;
-mod tickets;
+pub mod tickets;
 pub mod units;
 
 pub use crate::facts::UnitFacts;

@@ -11,14 +11,14 @@ use std::alloc::AllocError;
 use std::fmt::Write;
 
 /// Adds the line of a call that was accepted.
-pub(crate) fn push_ticket(reply: &mut String, number: u64) -> Result<(), AllocError>
+pub fn push_ticket(reply: &mut String, number: u64) -> Result<(), AllocError>
     ensures { OnOk result (string_bytes reply.new ≡ string_bytes reply.old ++ ticket_line number) }
 {
     write!(reply, "#{number}\n")
 }
 
 /// Adds the line of a command that was refused.
-pub(crate) fn push_refused(reply: &mut String, refusal: Refusal) -> Result<(), AllocError>
+pub fn push_refused(reply: &mut String, refusal: Refusal) -> Result<(), AllocError>
     ensures { OnOk result (string_bytes reply.new ≡ string_bytes reply.old ++ refused_line refusal) }
 {
     let number = refusal.number();
@@ -47,7 +47,7 @@ pub(crate) fn push_value(reply: &mut String, replied: Result<u64, u32>) -> Resul
 
 /// Adds the line of an attempt to cancel a call. A cancelled call has none here: it is listed with
 /// the ended calls.
-pub(crate) fn push_attempt(reply: &mut String, aborted: Attempt) -> Result<(), AllocError>
+pub fn push_attempt(reply: &mut String, aborted: Attempt) -> Result<(), AllocError>
     ensures { OnOk result (string_bytes reply.new ≡ string_bytes reply.old ++ attempt_line aborted) }
 {
     match aborted {
@@ -57,21 +57,21 @@ pub(crate) fn push_attempt(reply: &mut String, aborted: Attempt) -> Result<(), A
 }
 
 /// Adds the line of the clock.
-pub(crate) fn push_clock(reply: &mut String, clock: u64) -> Result<(), AllocError>
+pub fn push_clock(reply: &mut String, clock: u64) -> Result<(), AllocError>
     ensures { OnOk result (string_bytes reply.new ≡ string_bytes reply.old ++ clock_line clock) }
 {
     write!(reply, "clock {clock}\n")
 }
 
 /// Adds the line of the number that the next call gets.
-pub(crate) fn push_next(reply: &mut String, next: u64) -> Result<(), AllocError>
+pub fn push_next(reply: &mut String, next: u64) -> Result<(), AllocError>
     ensures { OnOk result (string_bytes reply.new ≡ string_bytes reply.old ++ next_line next) }
 {
     write!(reply, "next {next}\n")
 }
 
 /// Adds the line of a finalization.
-pub(crate) fn push_final(reply: &mut String) -> Result<(), AllocError>
+pub fn push_final(reply: &mut String) -> Result<(), AllocError>
     ensures { OnOk result (string_bytes reply.new ≡ string_bytes reply.old ++ final_line) }
 {
     write!(reply, "final\n")

@@ -8,8 +8,9 @@ ghost use Rattle.po_unit.specs.declared.decl.EntryRef.{EntryRef as Reference};
 ghost use Rattle.po_classic_units.specs.Names.{texts_of};
 ghost use Rattle.po_script.specs.Operations.{after_operation, reply_lines, operation_lines, entry_line, entry_lines, show_lines, is_memory, IsEither};
 ghost use Rattle.po_script.specs.Lines.{refused_line, ended_lines};
-ghost use Rattle.po_script.specs.Tickets.{Knows, IsCollected, HasEnded, AreCollected};
+ghost use Rattle.po_script.specs.Tickets.{Knows, AreCollected};
 
+use crate::collection::collect;
 use crate::lines::{
     push_attempt, push_clock, push_count, push_ended, push_final, push_next, push_refused,
     push_reply, push_ticket, push_value,
@@ -30,33 +31,6 @@ fn refuse(reply: &mut String, refusal: Refusal) -> Result<(), AllocError>
         return Err(AllocError);
     }
     push_refused(reply, refusal)
-}
-
-/// Collects the call with this number, which has ended, unless it is already collected.
-fn collect_one<U: Unit<Value = u64>>(core: &mut Core<U>, tickets: &mut Tickets, number: u64)
-    requires knows { Knows core.old.tickets tickets.old }
-    requires ended { HasEnded core.old.object number }
-    ensures object { core.new.object ≡ core.old.object }
-    ensures knows { Knows core.new.tickets tickets.new }
-    ensures collected { IsCollected core.new.tickets number }
-    ensures others { (n : ℕ) → IsCollected core.old.tickets n → IsCollected core.new.tickets n }
-{
-    if let Some(ticket) = tickets.take(number) {
-        core.collect(ticket);
-    }
-}
-
-/// Collects the calls that the latest command ended.
-fn collect<U: Unit<Value = u64>>(core: &mut Core<U>, tickets: &mut Tickets)
-    requires { Knows core.old.tickets tickets.old }
-    ensures object { core.new.object ≡ core.old.object }
-    ensures knows { Knows core.new.tickets tickets.new }
-    ensures collected { AreCollected core.new }
-{
-    for index in 0..core.ended_now().len() {
-        let number = core.ended_now()[index].number;
-        collect_one(core, tickets, number);
-    }
 }
 
 /// Adds the lines of the calls that a command ended, if the command's own line was added. Collects those calls in any case.

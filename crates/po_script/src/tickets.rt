@@ -12,13 +12,13 @@ use std::collections::HashMap;
 
 /// The tickets of the accepted calls that aren't collected: the key of each, by the call's number.
 #[derive(Drop)]
-pub(crate) struct Tickets {
+pub struct Tickets {
     keys: HashMap<u64, usize>,
 }
 
 impl Tickets {
     /// Returns an empty table.
-    pub(crate) fn new(alloc: Global) -> Tickets
+    pub fn new(alloc: Global) -> Tickets
         ensures { (n : ℕ) → key_of result n ≡ None }
     {
         Tickets {
@@ -27,7 +27,7 @@ impl Tickets {
     }
 
     /// Makes room for one more ticket.
-    pub(crate) fn reserve(&mut self) -> Result<(), AllocError>
+    pub fn reserve(&mut self) -> Result<(), AllocError>
         ensures same { (n : ℕ) → key_of self.new n ≡ key_of self.old n }
         ensures room { OnOk result (HasRoom self.new) }
     {
@@ -35,7 +35,7 @@ impl Tickets {
     }
 
     /// Keeps a ticket, for which there is room.
-    pub(crate) fn keep(&mut self, ticket: Ticket)
+    pub fn keep(&mut self, ticket: Ticket)
         requires { HasRoom self.old }
         ensures kept { key_of self.new ticket.number ≡ Some ticket.key }
         ensures others { (n : ℕ) → n ≢ ticket.number → key_of self.new n ≡ key_of self.old n }
@@ -46,7 +46,7 @@ impl Tickets {
     }
 
     /// Takes out the ticket of the call with this number, if it is kept.
-    pub(crate) fn take(&mut self, number: u64) -> Option<Ticket>
+    pub fn take(&mut self, number: u64) -> Option<Ticket>
         ensures ticket { result ≡ option_map (ticket_of number) (key_of self.old number) }
         ensures taken { key_of self.new number ≡ None }
         ensures others { (n : ℕ) → n ≢ number → key_of self.new n ≡ key_of self.old n }

@@ -1,7 +1,7 @@
 use Rattle.std.proofs.Common.{◌<◌, ◌≤◌, ◌∙◌, ap, sym, length, arith}
 use Rattle.po_core.specs.View.{ended_now}
 use Rattle.po_script.proofs.CollectLemmas.{found_ended, collected_more}
-use Rattle.po_script.proofs.operate.collect.Goals as goal
+use Rattle.po_script.proofs.collection.collect.Goals as goal
 
 pub collect_one-requires-clause-ended : goal.collect_one-requires-clause-ended
 collect_one-requires-clause-ended g c =

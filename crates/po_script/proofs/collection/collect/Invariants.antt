@@ -2,7 +2,7 @@ use Rattle.std.proofs.Common.{◌≡◌}
 use Rattle.po_core.specs.View.{ended_now}
 use Rattle.po_script.specs.Tickets.{Knows}
 use Rattle.po_script.proofs.CollectLemmas.{AreCollectedTo}
-use Rattle.po_script.proofs.operate.collect.Given as goal
+use Rattle.po_script.proofs.collection.collect.Given as goal
 
 abbrev pub invariant-loop-index : goal.invariant-loop-index
 invariant-loop-index g l =
