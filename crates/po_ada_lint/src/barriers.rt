@@ -3,8 +3,8 @@
 
 use crate::counts::{Test, own_test};
 use crate::entities::{Operation, Sort};
-use crate::hints::Hints;
 use crate::reaches::{Reach, Reaches};
+use crate::telling::HintList;
 use crate::uses::{Facts, How, LoopFact, Part, Use};
 use po_ada_tree::tree::Expression;
 use std::alloc::AllocError;
@@ -16,7 +16,7 @@ const NONE_WAITS: &str =
 const SOME_WAITS: &str =
     "hint: a call that waits counts itself, so this is always true for it; leave it out, or test the object's data (9.5.3, 9.9)";
 
-impl<'a> Hints<'a> {
+impl<'a> HintList<'a> {
     /// Tells what stands out of the barriers.
     pub fn tell_barriers(&mut self, facts: &Facts<'a>, all: &Reaches) -> Result<(), AllocError> {
         for (operation, reach) in facts.operations.iter().zip(all.barriers.iter()) {

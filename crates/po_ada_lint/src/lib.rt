@@ -3,7 +3,7 @@
 //!
 //! `hints` goes over the tree of a text once, gathers what its operations read, change, call and raise, and tells what stands out.
 //!
-//! Begin with `hints.rt`.
+//! Begin with `telling.rt`.
 #![tactic(auto)]
 
 mod barriers;
@@ -12,13 +12,13 @@ mod declarations;
 mod entities;
 mod expressions;
 mod gathering;
-mod hints;
 mod paths;
 mod reaches;
 mod statements;
 mod tallies;
+mod telling;
 mod unused;
 mod uses;
 mod walker;
 
-pub use crate::hints::hints;
+pub use crate::telling::hints;

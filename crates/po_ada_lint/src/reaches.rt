@@ -158,7 +158,7 @@ impl Reaches {
 }
 
 /// What the barriers and bodies come to.
-pub fn reaches(
+pub fn reach_all(
     alloc: Global,
     facts: &Facts<'_>,
     tallies: &Vec<Tally>,

@@ -61,7 +61,7 @@ fn is_own(facts: &Facts<'_>, found: &Use) -> bool {
 }
 
 /// A tally for each thing that the text declares.
-pub fn tallies(alloc: Global, facts: &Facts<'_>) -> Result<Vec<Tally>, AllocError> {
+pub fn tally_all(alloc: Global, facts: &Facts<'_>) -> Result<Vec<Tally>, AllocError> {
     let mut list = Vec::new(alloc);
     for _ in facts.entities.iter() {
         list.push(UNUSED)?;

@@ -2,8 +2,8 @@
 //! Hints on what nothing uses, and on variables without a value.
 
 use crate::entities::{Entity, Operation, Origin, Sort};
-use crate::hints::Hints;
 use crate::tallies::Tally;
+use crate::telling::HintList;
 use crate::uses::{Facts, How, Use};
 use po_ada_tree::tree::Kind;
 use std::alloc::AllocError;
@@ -13,7 +13,7 @@ fn is_early(entity: &Entity, tally: &Tally, first: &Use) -> bool {
     entity.is_bare && first.how == How::Read && (first.loops == entity.loops || !tally.is_changed)
 }
 
-impl<'a> Hints<'a> {
+impl<'a> HintList<'a> {
     /// Tells what nothing uses.
     pub fn tell_unused(
         &mut self,

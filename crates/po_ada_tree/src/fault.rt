@@ -1,7 +1,7 @@
 // SPDX-License-Identifier: MIT
 //! What is wrong with a text, and where.
 
-ghost use Rattle.std.specs.Prelude.{◌≡◌, ◌≤◌, ◌↔◌, IsTrue, vec_len, OnOk};
+ghost use Rattle.std.specs.Prelude.{◌≡◌, ◌+◌, ◌≤◌, ◌↔◌, IsTrue, take, vec_len, OnOk};
 
 use std::alloc::{AllocError, AllocFailed, Global};
 
@@ -70,13 +70,15 @@ impl Faults {
 
     /// The faults as a list.
     pub fn into_items(self) -> Vec<Fault>
-        ensures { vec_len result ≡ vec_len self.items }
+        ensures { result.items ≡ self.items.items }
     {
         self.items
     }
 
     /// Forgets all faults but the first ones.
-    pub fn truncate(&mut self, length: usize) {
+    pub fn truncate(&mut self, length: usize)
+        ensures { self.new.items.items ≡ take length self.old.items.items }
+    {
         self.items.truncate(length);
     }
 
@@ -88,13 +90,22 @@ impl Faults {
     }
 
     /// Whether a fault at this place was told.
-    fn has_place(&self, place: usize) -> bool {
-        self.items.iter().any(|fault| fault.place == place)
+    fn has_place(&self, place: usize) -> bool
+        ensures { IsTrue result → 1 ≤ vec_len self.now.items }
+    {
+        for fault in &self.items {
+            if fault.place == place {
+                return true;
+            }
+        }
+        false
     }
 
     /// Adds a fault, unless there are 20, or one at this place.
     pub fn add(&mut self, place: usize, message: String) -> Result<(), AllocError>
-        ensures { OnOk result (1 ≤ vec_len self.new.items) }
+        ensures told { OnOk result (1 ≤ vec_len self.new.items) }
+        ensures kept { take (vec_len self.old.items) self.new.items.items ≡ self.old.items.items }
+        ensures one { vec_len self.new.items ≤ vec_len self.old.items + 1 }
     {
         if self.has_place(place) || self.is_full() {
             return Ok(());

@@ -1,6 +1,8 @@
 // SPDX-License-Identifier: MIT
 //! How a fault is shown: its file, line and column, and the line with a mark under the place.
 
+ghost use Rattle.std.specs.Prelude.{◌≡◌, ◌+◌, ◌≤◌, ◌==◌, count_by, take};
+
 use crate::fault::Fault;
 use std::alloc::{AllocError, Global};
 
@@ -15,24 +17,48 @@ pub struct Position<'a> {
     pub text: &'a [u8],
 }
 
-/// The position of the byte at this place.
-pub fn position_of(text: &[u8], place: usize) -> Position<'_> {
-    let before = text.get(..place).unwrap_or(text);
-    let line = before.iter().filter(|byte| **byte == b'\n').count();
-    let column = before
+/// The bytes before this place.
+fn bytes_before(text: &[u8], place: usize) -> &[u8]
+    ensures { result.now ≡ take place text.now }
+{
+    text.get(..place).unwrap_or(text)
+}
+
+/// The number of the line that comes after these bytes, from 1.
+fn line_after(before: &[u8]) -> usize
+    ensures { result ≡ count_by (λ byte. byte == 10) before.now + 1 }
+{
+    before.iter().filter(|byte| **byte == b'\n').count() + 1
+}
+
+/// The number of the column that comes after these bytes, from 1.
+fn column_after(before: &[u8]) -> usize
+    ensures { 1 ≤ result }
+{
+    before
         .iter()
         .rev()
         .take_while(|byte| **byte != b'\n')
-        .count();
-    let start = before.len().saturating_sub(column);
+        .count()
+        + 1
+}
+
+/// The position of the byte at this place.
+pub fn position_of(text: &[u8], place: usize) -> Position<'_>
+    ensures line { result.line ≡ count_by (λ byte. byte == 10) (take place text.now) + 1 }
+    ensures column { 1 ≤ result.column }
+{
+    let before = bytes_before(text, place);
+    let column = column_after(before);
+    let start = (before.len() + 1).saturating_sub(column);
     let rest = text.get(start..).unwrap_or(&[]);
     let length = rest
         .iter()
         .take_while(|byte| **byte != b'\n' && **byte != b'\r')
         .count();
     Position {
-        line: line.saturating_add(1),
-        column: column.saturating_add(1),
+        line: line_after(before),
+        column,
         text: rest.get(..length).unwrap_or(rest),
     }
 }

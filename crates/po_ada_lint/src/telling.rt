@@ -6,8 +6,8 @@ ghost use Rattle.std.specs.List.Sorted.{IsNonDecreasingBy};
 ghost use Rattle.po_ada_tree.specs.declared.fault.Fault.{Fault};
 
 use crate::gathering::gather;
-use crate::reaches::reaches;
-use crate::tallies::tallies;
+use crate::reaches::reach_all;
+use crate::tallies::tally_all;
 use crate::uses::Facts;
 use po_ada_tree::tree::Name;
 use po_ada_tree::{Fault, Names, Text};
@@ -18,13 +18,13 @@ const MOST_HINTS: usize = 20;
 
 /// The hints that were found.
 #[derive(Drop)]
-pub struct Hints<'a> {
+pub struct HintList<'a> {
     pub alloc: Global,
     pub names: &'a Names,
     items: Vec<Fault>,
 }
 
-impl<'a> Hints<'a> {
+impl<'a> HintList<'a> {
     /// Adds a hint.
     pub fn add(&mut self, place: usize, message: String) -> Result<(), AllocError> {
         self.items.push(Fault { place, message })?;
@@ -48,9 +48,9 @@ impl<'a> Hints<'a> {
 /// All hints, in the order in which they are found.
 fn all_hints(alloc: Global, text: &Text, wanted: Name) -> Result<Vec<Fault>, AllocError> {
     let facts = gather(alloc, text, wanted)?;
-    let tallies = tallies(alloc, &facts)?;
-    let reaches = reaches(alloc, &facts, &tallies)?;
-    let mut hints = Hints {
+    let tallies = tally_all(alloc, &facts)?;
+    let reaches = reach_all(alloc, &facts, &tallies)?;
+    let mut hints = HintList {
         alloc,
         names: &text.names,
         items: Vec::new(alloc),
@@ -58,7 +58,7 @@ fn all_hints(alloc: Global, text: &Text, wanted: Name) -> Result<Vec<Fault>, All
     hints.tell_barriers(&facts, &reaches)?;
     hints.tell_unused(&facts, &tallies)?;
     hints.tell_ends(&facts, &reaches)?;
-    let Hints { items, .. } = hints;
+    let HintList { items, .. } = hints;
     Ok(items)
 }
 
