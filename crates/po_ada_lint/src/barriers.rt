@@ -11,10 +11,10 @@ use std::alloc::AllocError;
 
 /// What is told of an entry that waits for nobody to wait.
 const NONE_WAITS: &str =
-    "hint: a call isn't counted while it comes, and is once it waits: the first one finds this true, and for one that waits it stays false; test the object's data (9.5.3, 9.9)";
+    "hint: a call that comes isn't counted yet, and one that waits counts itself: this is true of a first call, and false of each call that waits; test the object's data instead (9.5.3, 9.9)";
 /// What is told of an entry that waits for itself.
 const SOME_WAITS: &str =
-    "hint: a call that waits counts itself, so this is always true for it; leave it out, or test the object's data (9.5.3, 9.9)";
+    "hint: a call that waits counts itself, so this is true of each call that waits; leave it out, or test the object's data instead (9.5.3, 9.9)";
 
 impl<'a> HintList<'a> {
     /// Tells what stands out of the barriers.

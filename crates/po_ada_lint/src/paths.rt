@@ -1,6 +1,8 @@
 // SPDX-License-Identifier: MIT
 //! The ways through statements: whether a place can be reached, and which loops are around it.
 
+ghost use Rattle.std.specs.Prelude.{◌≡◌, OnOk, true, false};
+
 use crate::uses::LoopFact;
 use po_ada_tree::tree::Name;
 use std::alloc::{AllocError, Global};
@@ -52,7 +54,9 @@ impl Paths {
     }
 
     /// Ways part here.
-    pub fn fork(&mut self) -> Result<(), AllocError> {
+    pub fn fork(&mut self) -> Result<(), AllocError>
+        ensures { OnOk result (self.new.is_reached ≡ self.old.is_reached) }
+    {
         self.forks.push(Fork {
             starts: self.is_reached,
             ends: false,
@@ -76,7 +80,9 @@ impl Paths {
     }
 
     /// The way ends here.
-    pub fn end(&mut self) {
+    pub fn end(&mut self)
+        ensures { self.new.is_reached ≡ false }
+    {
         self.is_reached = false;
     }
 
@@ -118,7 +124,10 @@ impl Paths {
     }
 
     /// An exit statement leaves so many loops, if its condition holds.
-    pub fn exit(&mut self, loops: usize, is_conditional: bool) {
+    pub fn exit(&mut self, loops: usize, is_conditional: bool)
+        ensures ends { is_conditional ≡ false → self.new.is_reached ≡ false }
+        ensures goes_on { is_conditional ≡ true → self.new.is_reached ≡ self.old.is_reached }
+    {
         let outermost = self.open.len().saturating_sub(loops);
         let reached = self.is_reached;
         if let Some(open) = self.open.get(outermost) {

@@ -1,6 +1,8 @@
 // SPDX-License-Identifier: MIT
 //! What the body of an operation, or a barrier, comes to by itself and by the operations that it calls.
 
+ghost use Rattle.std.specs.Prelude.{◌≡◌, true, false};
+
 use crate::entities::Sort;
 use crate::tallies::Tally;
 use crate::uses::{Facts, How, Part, Use};
@@ -47,7 +49,10 @@ pub struct Reaches {
 
 impl Reach {
     /// What both come to.
-    fn with(self, other: Reach) -> Reach {
+    fn with(self, other: Reach) -> Reach
+        ensures left { self.varies ≡ true → result.varies ≡ true }
+        ensures right { other.varies ≡ true → result.varies ≡ true }
+    {
         Reach {
             data: self.data.or(other.data),
             outer: self.outer.or(other.outer),
@@ -90,6 +95,17 @@ fn reach_of(facts: &Facts<'_>, tallies: &Vec<Tally>, found: &Use) -> Reach {
     }
 }
 
+/// Adds to one of these, and says whether that is more.
+fn widen(list: &mut Vec<Reach>, number: usize, more: Reach) -> bool {
+    let Some(reach) = list.get_mut(number) else {
+        return false;
+    };
+    let before = *reach;
+    let after = before.with(more);
+    *reach = after;
+    after != before
+}
+
 impl Reaches {
     /// Nothing is known of so many operations.
     fn new(alloc: Global, count: usize) -> Result<Reaches, AllocError> {
@@ -104,18 +120,10 @@ impl Reaches {
 
     /// Adds to what a part comes to, and says whether that is more.
     fn add(&mut self, part: Part, more: Reach) -> bool {
-        let slot = match part {
-            Part::Elsewhere => None,
-            Part::Barrier(number) => self.barriers.get_mut(number),
-            Part::Body(number) => self.bodies.get_mut(number),
-        };
-        match slot {
-            Some(reach) => {
-                let before = *reach;
-                *reach = before.with(more);
-                *reach != before
-            }
-            None => false,
+        match part {
+            Part::Elsewhere => false,
+            Part::Barrier(number) => widen(&mut self.barriers, number, more),
+            Part::Body(number) => widen(&mut self.bodies, number, more),
         }
     }
 

@@ -1,6 +1,8 @@
 // SPDX-License-Identifier: MIT
 //! What is done, in all, with each thing that a text declares.
 
+ghost use Rattle.std.specs.Prelude.{◌≡◌, true, false};
+
 use crate::uses::{Facts, How, Part, Use};
 use std::alloc::{AllocError, Global};
 
@@ -29,7 +31,12 @@ const UNUSED: Tally = Tally {
 
 impl Tally {
     /// Adds a use, which may be from its own body.
-    fn add(&mut self, found: Use, is_own: bool) {
+    fn add(&mut self, found: Use, is_own: bool)
+        ensures read { found.how ≡ How.Read → self.new.is_read ≡ true }
+        ensures changed { found.how ≡ How.Changed → self.new.is_changed ≡ true }
+        ensures own { found.how ≡ How.Called → is_own ≡ true → self.new.is_called ≡ self.old.is_called }
+        ensures stays_read { self.old.is_read ≡ true → self.new.is_read ≡ true }
+    {
         match found.how {
             How::Read => self.is_read = true,
             How::Changed => self.is_changed = true,

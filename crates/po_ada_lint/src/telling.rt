@@ -73,8 +73,7 @@ fn first_hints(list: Vec<Fault>) -> Result<Vec<Fault>, AllocError>
     Ok(list)
 }
 
-/// The hints on the protected unit of this name: at most 20, in the order of their places. The text has to be one in which no
-/// fault was found; of other texts the hints may be wrong.
+/// The hints on the protected unit of this name: at most 20, in the order of their places.
 pub fn hints(alloc: Global, text: &Text, wanted: Name) -> Result<Vec<Fault>, AllocError>
     ensures few { IfOk result (λ told. vec_len told ≤ 20) }
     ensures sorted { IfOk result (λ told. IsNonDecreasingBy (λ (hint : Fault). hint.place) told.items) }

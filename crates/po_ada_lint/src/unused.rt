@@ -1,6 +1,8 @@
 // SPDX-License-Identifier: MIT
 //! Hints on what nothing uses, and on variables without a value.
 
+ghost use Rattle.std.specs.Prelude.{◌≡◌, ◌×◌, IsTrue, true};
+
 use crate::entities::{Entity, Operation, Origin, Sort};
 use crate::tallies::Tally;
 use crate::telling::HintList;
@@ -9,7 +11,10 @@ use po_ada_tree::tree::Kind;
 use std::alloc::AllocError;
 
 /// Whether a variable is read here before it has a value: nothing before gives it one, and no loop leads back to here.
-fn is_early(entity: &Entity, tally: &Tally, first: &Use) -> bool {
+fn is_early(entity: &Entity, tally: &Tally, first: &Use) -> bool
+    ensures bare { IsTrue result → entity.now.is_bare ≡ true }
+    ensures read { IsTrue result → first.now.how ≡ How.Read }
+{
     entity.is_bare && first.how == How::Read && (first.loops == entity.loops || !tally.is_changed)
 }
 

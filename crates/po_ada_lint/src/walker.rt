@@ -117,15 +117,20 @@ impl<'a> Walker<'a> {
         let number = self.facts.entities.len();
         self.facts.entities.push(entity)?;
         let name = entity.name.number;
-        for _ in self.meanings.len()..(name as usize).saturating_add(1) {
-            self.meanings.push(None)?;
-        }
-        self.hidden.push(Hidden {
-            name,
-            meaning: self.look_up(name),
-        })?;
+        let meaning = self.look_up(name);
+        self.hidden.push(Hidden { name, meaning })?;
+        self.make_room(name)?;
         self.set_meaning(name, Some(number));
         Ok(number)
+    }
+
+    /// Makes room for the meaning of this name.
+    fn make_room(&mut self, name: u32) -> Result<(), AllocError> {
+        let known = self.meanings.len();
+        for _ in known..(name as usize).saturating_add(1) {
+            self.meanings.push(None)?;
+        }
+        Ok(())
     }
 
     /// Declares a name of this sort.
