@@ -1,7 +1,7 @@
 // SPDX-License-Identifier: MIT
 //! What the body of an operation, or a barrier, comes to by itself and by the operations that it calls.
 
-ghost use Rattle.std.specs.Prelude.{◌≡◌, true, false};
+ghost use Rattle.std.specs.Prelude.{◌≡◌, true};
 
 use crate::entities::Sort;
 use crate::tallies::Tally;

@@ -1,7 +1,7 @@
 // SPDX-License-Identifier: MIT
 //! What is done, in all, with each thing that a text declares.
 
-ghost use Rattle.std.specs.Prelude.{◌≡◌, true, false};
+ghost use Rattle.std.specs.Prelude.{◌≡◌, true};
 
 use crate::uses::{Facts, How, Part, Use};
 use std::alloc::{AllocError, Global};

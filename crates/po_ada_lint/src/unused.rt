@@ -1,7 +1,7 @@
 // SPDX-License-Identifier: MIT
 //! Hints on what nothing uses, and on variables without a value.
 
-ghost use Rattle.std.specs.Prelude.{◌≡◌, ◌×◌, IsTrue, true};
+ghost use Rattle.std.specs.Prelude.{◌≡◌, IsTrue, true};
 
 use crate::entities::{Entity, Operation, Origin, Sort};
 use crate::tallies::Tally;
