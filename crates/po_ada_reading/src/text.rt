@@ -1,6 +1,7 @@
 // SPDX-License-Identifier: MIT
 //! Reads a text, and makes the program of one of its protected units.
 
+use po_ada_lint::hints;
 use po_ada_names::Heading;
 use po_ada_program::{Made, heading_of, object_of};
 use po_ada_text::parse;
@@ -110,6 +111,11 @@ impl AdaText {
     /// The unit's name and its discriminants.
     pub fn heading(&self) -> &Heading {
         &self.heading
+    }
+
+    /// What the language allows in the unit and is hardly meant: at most 20 hints, in the order of their places.
+    pub fn hints(&self, alloc: Global) -> Result<Vec<Fault>, AllocError> {
+        hints(alloc, &self.text, self.wanted)
     }
 
     /// The program of an object whose discriminants have these values, in order, and its names; or what is wrong with the text.

@@ -33,19 +33,22 @@ fn values_of(alloc: Global, heading: &Heading) -> Result<Vec<i128>, AllocFailed<
     Ok(values)
 }
 
-/// Reads the text of the file whole. Fails if it has a fault.
-fn read_whole<R: Files + AllocGlobal>(rt: &R, name: &str) -> Result<(), Stop> {
+/// Reads the text of the file whole, and returns the lines of its hints. Fails if it has a fault.
+fn read_whole<R: Files + AllocGlobal>(rt: &R, name: &str) -> Result<String, Stop> {
     let alloc = rt.alloc();
     let text = text_of(alloc, open(rt, name)?)?;
     let values = values_of(alloc, text.known())?;
     text.program(alloc, values.as_slice())?;
-    Ok(())
+    Ok(text.hint_lines(alloc)?)
 }
 
-/// Reads the text of the file whole, and prints its faults. Returns the status.
+/// Reads the text of the file whole, and prints its faults, or the hints on it. Returns the status.
 pub(crate) fn check_text<R: Eprint + Files + AllocGlobal>(rt: &R, name: &str) -> u8 {
     match read_whole(rt, name) {
-        Ok(()) => GOOD,
+        Ok(hints) => {
+            let _ = eprint!(rt; "{hints}");
+            GOOD
+        }
         Err(stop) => print_fault(rt, &fault_at(0, stop)),
     }
 }

@@ -63,7 +63,7 @@ fn copy_of(alloc: Global, file: &Opened) -> Result<Opened, AllocError> {
     })
 }
 
-/// Returns the lines that tell the faults.
+/// Returns the lines that tell these faults or hints.
 fn lines_of(alloc: Global, file: &Opened, faults: &[Fault]) -> Result<String, AllocError> {
     let mut lines = String::new(alloc);
     for fault in faults {
@@ -148,6 +148,12 @@ impl FileText {
             Ok(made) => Ok(made),
             Err(faults) => Err(faulty(alloc, &self.file, faults.as_slice())),
         }
+    }
+
+    /// Returns the lines of the hints on the text.
+    pub(crate) fn hint_lines(&self, alloc: Global) -> Result<String, AllocError> {
+        let hints = self.text.hints(alloc)?;
+        lines_of(alloc, &self.file, hints.as_slice())
     }
 
     /// Returns what is known of the object before its discriminants have values.
