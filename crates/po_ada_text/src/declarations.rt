@@ -20,6 +20,24 @@ const MEANINGFUL: [&str; 5] = [
     "type_invariant",
 ];
 
+/// Why a type can't begin with this word; nothing if there is no more to say than what may stand there.
+fn no_type(word: Reserved) -> Option<&'static str> {
+    match word {
+        Reserved::Null => Some("a null record isn't in this subset: it has no component (3.8)"),
+        Reserved::Delta | Reserved::Digits => Some(
+            "real types aren't in this subset: take an integer type, as milliseconds (3.5.6)",
+        ),
+        Reserved::Access | Reserved::Not => Some("access types aren't in this subset (3.10)"),
+        Reserved::Private => Some(
+            "private types aren't in this subset: write the full declaration here (7.3)",
+        ),
+        Reserved::Tagged | Reserved::Abstract | Reserved::Interface => Some(
+            "tagged types aren't in this subset: take a record (3.9)",
+        ),
+        _ => None,
+    }
+}
+
 impl<'a> Reader<'a> {
     /// Reads the name of a type or subtype, with the packages before it.
     pub fn subtype_mark(&mut self) -> Result<Expression, Stop> {
@@ -223,7 +241,6 @@ impl<'a> Reader<'a> {
 
     /// Reads what a type is.
     fn type_form(&mut self) -> Result<TypeForm, Stop> {
-        let place = self.place();
         match self.peek() {
             Element::Reserved(Reserved::Range) => self.range_type(),
             Element::Reserved(Reserved::Mod) => {
@@ -234,36 +251,19 @@ impl<'a> Reader<'a> {
             Element::Reserved(Reserved::Array) => self.array_type(),
             Element::Reserved(Reserved::Record) => self.record_type(),
             Element::Reserved(Reserved::New) => self.derived_type(),
-            Element::Reserved(Reserved::Null) => Err(self.refuse(
-                place,
-                "a null record isn't in this subset: it has no component (3.8)",
-            )),
-            Element::Reserved(Reserved::Delta) | Element::Reserved(Reserved::Digits) => {
-                Err(self.refuse(
-                    place,
-                    "real types aren't in this subset: take an integer type, as milliseconds (3.5.6)",
-                ))
-            }
-            Element::Reserved(Reserved::Access) | Element::Reserved(Reserved::Not) => {
-                Err(self.refuse(place, "access types aren't in this subset (3.10)"))
-            }
-            Element::Reserved(Reserved::Private) => {
-                Err(self.refuse(
-                    place,
-                    "private types aren't in this subset: write the full declaration here (7.3)",
-                ))
-            }
-            Element::Reserved(Reserved::Tagged)
-            | Element::Reserved(Reserved::Abstract)
-            | Element::Reserved(Reserved::Interface) => {
-                Err(self.refuse(
-                    place,
-                    "tagged types aren't in this subset: take a record (3.9)",
-                ))
-            }
-            _ => Err(self.expected(
+            Element::Reserved(word) => Err(self.no_type_form(no_type(word))),
+            _ => Err(self.no_type_form(None)),
+        }
+    }
+
+    /// The fault of what no type of the subset begins with.
+    fn no_type_form(&mut self, message: Option<&str>) -> Stop {
+        let place = self.place();
+        match message {
+            Some(message) => self.refuse(place, message),
+            None => self.expected(
                 "'range', 'mod', '(', 'array', 'record' or 'new': other types aren't in this subset",
-            )),
+            ),
         }
     }
 

@@ -11,7 +11,7 @@ use po_ada_tree::fault::{Faults, Stop};
 use po_ada_tree::names::Names;
 use po_ada_tree::reserved::Reserved;
 use po_ada_tree::tree::{Declaration, Item, Name, Text};
-use std::alloc::Global;
+use std::alloc::{AllocError, Global};
 
 /// A text has at most this many bytes.
 pub const MOST_BYTES: usize = 16_777_216;
@@ -249,17 +249,20 @@ fn read_items(alloc: Global, text: &[u8], faults: &mut Faults) -> Result<Text, S
     Ok(Text { items, names })
 }
 
+/// Tells that the text is too long.
+fn tell_too_long(alloc: Global, faults: &mut Faults) -> Result<(), AllocError> {
+    let message = String::from_str(alloc, "a text has at most 16 MiB, 16,777,216 bytes")?;
+    faults.add(MOST_BYTES, message)
+}
+
 /// Reads a text into its syntax tree. What is wrong with it gets into the list of faults, which has to be empty before:
 /// then the result is `Stop::Fault`.
 pub fn parse(alloc: Global, text: &[u8], faults: &mut Faults) -> Result<Text, Stop>
     ensures read { OnOk result (vec_len faults.new.items ≡ 0) }
     ensures told { result ≡ Err Stop.Fault → 1 ≤ vec_len faults.new.items }
 {
-    if text.len() > MOST_BYTES {
-        faults.add(
-            MOST_BYTES,
-            String::from_str(alloc, "a text has at most 16 MiB, 16,777,216 bytes")?,
-        )?;
+    if text.len() > MOST_BYTES && tell_too_long(alloc, faults).is_err() {
+        return Err(Stop::OutOfMemory);
     }
     if !faults.is_empty() {
         return Err(Stop::Fault);
