@@ -395,6 +395,13 @@ impl<'a> Making<'a> {
         self.lowering.emit(Stmt::Exit(around))
     }
 
+    /// Ends a function with a result.
+    pub fn give_result(&mut self, code: Expr) -> Result<(), Stop> {
+        let slot = self.result_slot;
+        self.lowering.emit(Stmt::Assign(Area::Frame, slot, code))?;
+        self.leave()
+    }
+
     /// Raises Assertion_Error unless the condition holds (11.4.2).
     pub fn assertion(&mut self, condition: &'a Expression, exception: u32) -> Result<(), Stop> {
         let test = self.lowering.condition(condition)?;
@@ -415,8 +422,7 @@ impl<'a> Making<'a> {
             (Some(value), Some(sub)) => {
                 let result = self.lowering.value(value, LEVELS)?;
                 let code = self.lowering.fit(value.place, result, sub)?;
-                self.lowering.emit(Stmt::Assign(Area::Frame, 0, code))?;
-                self.leave()
+                self.give_result(code)
             }
             (None, Some(_)) => Err(
                 self.lowering
@@ -465,8 +471,7 @@ impl<'a> Making<'a> {
         self.lowering.known.scope.truncate(scope);
         let value = self.lowering.read(place, result)?;
         let code = self.lowering.fit(place, value, sub)?;
-        self.lowering.emit(Stmt::Assign(Area::Frame, 0, code))?;
-        self.leave()
+        self.give_result(code)
     }
 
     /// A raise statement (11.3).

@@ -1,6 +1,8 @@
 // SPDX-License-Identifier: MIT
 //! A protected unit whose program is made: its data, entries and exceptions, and the operation whose body is read.
 
+ghost use Rattle.std.specs.Prelude.{◌+◌, ◌≤◌, IfOk};
+
 use po_ada_tree::{Faults, Names, Stop};
 use po_ada_values::Lowering;
 use std::alloc::Global;
@@ -25,6 +27,8 @@ pub struct Making<'a> {
     pub handled: Option<u16>,
     /// Whether a postcondition comes after the body.
     pub has_postcondition: bool,
+    /// The slot that gets the result of a function: 0, or another before a postcondition, which may use the parameters.
+    pub result_slot: u16,
 }
 
 impl<'a> Making<'a> {
@@ -44,11 +48,14 @@ impl<'a> Making<'a> {
             current: None,
             handled: None,
             has_postcondition: false,
+            result_slot: 0,
         }
     }
 
     /// The first of this many cells of the object's data, which were not used.
-    pub fn take_cells(&mut self, place: usize, count: u16) -> Result<u16, Stop> {
+    pub fn take_cells(&mut self, place: usize, count: u16) -> Result<u16, Stop>
+        ensures { IfOk result (λ first. first + count ≤ 16384) }
+    {
         let first = self.cells;
         let after = first.saturating_add(count);
         if after > MOST_CELLS {

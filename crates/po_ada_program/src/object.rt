@@ -1,6 +1,8 @@
 // SPDX-License-Identifier: MIT
 //! Makes the program of one of a text's protected units, and its names.
 
+ghost use Rattle.std.specs.Prelude.{◌≡◌, vec_len, OnOk};
+
 use crate::declared_names::{heading_names, object_names};
 use crate::making::Making;
 use po_ada_names::{Heading, ObjectNames};
@@ -16,9 +18,8 @@ pub struct Made {
     pub names: ObjectNames,
 }
 
-/// The program of an object of the wanted unit, whose discriminants have these values, in order, and its names. `bytes` is the
-/// text as it was read. What is wrong with it gets into the list of faults.
-pub fn object_of(
+/// The program of an object and its names, whatever faults were told.
+fn made_object(
     alloc: Global,
     text: &Text,
     bytes: &[u8],
@@ -32,6 +33,25 @@ pub fn object_of(
     let program = making.program()?;
     let names = object_names(&making, wanted)?;
     Ok(Made { program, names })
+}
+
+/// The program of an object of the wanted unit, whose discriminants have these values, in order, and its names. `bytes` is the
+/// text as it was read. What is wrong with it gets into the list of faults, and then there is no program.
+pub fn object_of(
+    alloc: Global,
+    text: &Text,
+    bytes: &[u8],
+    wanted: Name,
+    values: &[i128],
+    faults: &mut Faults,
+) -> Result<Made, Stop>
+    ensures { OnOk result (vec_len faults.new.items ≡ 0) }
+{
+    let made = made_object(alloc, text, bytes, wanted, values, faults)?;
+    if faults.is_empty() {
+        return Ok(made);
+    }
+    Err(Stop::Fault)
 }
 
 /// What is known of the unit before its discriminants have values.

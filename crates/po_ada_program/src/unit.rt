@@ -8,7 +8,7 @@ use po_ada_tree::tree::{
     Profile, Protected, ProtectedBody, Variables,
 };
 use po_ada_types::{Meaning, Sub, Variable};
-use po_ada_values::{Declared, LEVELS, Parameter, body_number, sequence};
+use po_ada_values::{Declared, LEVELS, Parameter, body_number, sequence, slot_cell};
 use po_program::{ASSERTION_ERROR, Area, Entry, Operation, Program, Stmt};
 use std::mem;
 
@@ -490,8 +490,7 @@ impl<'a> Making<'a> {
                 };
                 let result = self.lowering.value(value, LEVELS)?;
                 let code = self.lowering.fit(value.place, result, sub)?;
-                self.lowering.emit(Stmt::Assign(Area::Frame, 0, code))?;
-                self.leave()
+                self.give_result(code)
             }
             Content::Statements(declarations, list) => {
                 self.locals(declarations.as_slice())?;
@@ -540,13 +539,8 @@ impl<'a> Making<'a> {
         returns: Option<Sub>,
     ) -> Result<(), Stop> {
         let scope = self.lowering.known.scope.len();
-        let before = self.lowering.begin_list();
-        self.has_postcondition = true;
-        let made = self.content(body, returns);
-        self.has_postcondition = false;
-        self.lowering.emit(Stmt::Exit(0))?;
-        let inner = self.lowering.end_sequence(before)?;
-        made?;
+        let slot = self.lowering.take_slots(condition.place, 1)?;
+        let inner = self.left_content(slot, body, returns)?;
         self.lowering.known.scope.truncate(scope);
         let check = self.postcondition(condition);
         let olds = mem::replace(&mut self.lowering.olds, Vec::new(self.lowering.known.alloc));
@@ -554,7 +548,31 @@ impl<'a> Making<'a> {
         self.lowering.emit_all(olds)?;
         let inner = self.lowering.boxed_statement(inner)?;
         self.lowering.emit(Stmt::Loop(inner))?;
-        self.lowering.emit(check)
+        self.lowering.emit(check)?;
+        if returns.is_none() {
+            return Ok(());
+        }
+        self.lowering
+            .emit(Stmt::Assign(Area::Frame, 0, slot_cell(slot)))
+    }
+
+    /// What a body does, as one turn of a loop that it leaves at its end; the result of a function is in the slot then.
+    fn left_content(
+        &mut self,
+        slot: u16,
+        body: &'a Body,
+        returns: Option<Sub>,
+    ) -> Result<Stmt, Stop> {
+        let before = self.lowering.begin_list();
+        self.has_postcondition = true;
+        self.result_slot = slot;
+        let made = self.content(body, returns);
+        self.has_postcondition = false;
+        self.result_slot = 0;
+        self.lowering.emit(Stmt::Exit(0))?;
+        let inner = self.lowering.end_sequence(before)?;
+        made?;
+        Ok(inner)
     }
 
     /// The check of a postcondition, whose values for 'Old are kept in slots that the body doesn't use.

@@ -1,6 +1,8 @@
 // SPDX-License-Identifier: MIT
 //! Reads a text, and makes the program of one of its protected units.
 
+ghost use Rattle.std.specs.Prelude.{◌≡◌, vec_len, IfOk, OnOk};
+
 use po_ada_lint::hints;
 use po_ada_names::Heading;
 use po_ada_program::{Made, heading_of, object_of};
@@ -87,7 +89,9 @@ fn read_text(
 fn outcome<T: Drop>(
     made: Result<T, Stop>,
     faults: Faults,
-) -> Result<Result<T, Vec<Fault>>, AllocError> {
+) -> Result<Result<T, Vec<Fault>>, AllocError>
+    ensures { IfOk result (λ told. OnOk told (vec_len faults.items ≡ 0)) }
+{
     match made {
         Ok(value) if faults.is_empty() => Ok(Ok(value)),
         Err(Stop::OutOfMemory) => Err(AllocError),

@@ -63,9 +63,15 @@ impl<'a> Lowering<'a> {
 
     /// A variable of a discrete type gets a value.
     fn put(&mut self, part: Part, value: Expr) -> Result<(), Stop> {
-        match part.distance {
-            None => self.emit(Stmt::Assign(part.area, part.first, value)),
-            Some(distance) => self.emit(Stmt::AssignAt(part.area, part.first, distance, value)),
+        let Part {
+            area,
+            first,
+            distance,
+            ..
+        } = part;
+        match distance {
+            None => self.emit(Stmt::Assign(area, first, value)),
+            Some(distance) => self.emit(Stmt::AssignAt(area, first, distance, value)),
         }
     }
 

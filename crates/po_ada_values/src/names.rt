@@ -56,11 +56,18 @@ impl<'a> Lowering<'a> {
                 ),
             );
         }
-        let code = match part.distance {
-            None => Expr::Cell(part.area, part.first),
-            Some(distance) => Expr::CellAt(part.area, part.first, self.boxed(distance)?),
+        let Part {
+            area,
+            first,
+            distance,
+            sub,
+            ..
+        } = part;
+        let code = match distance {
+            None => Expr::Cell(area, first),
+            Some(distance) => Expr::CellAt(area, first, self.boxed(distance)?),
         };
-        Ok(computed(part.sub.kind, code))
+        Ok(computed(sub.kind, code))
     }
 
     /// What a name of the text stands for by itself.
