@@ -87,6 +87,18 @@ fn make<U: TextUnit>(
     }
 }
 
+/// Returns the object with these names and this core, which has no call.
+fn begun<U: TextUnit>(alloc: Global, core: Core<U>, names: ObjectNames) -> TextObject<U>
+    requires tickets { core.tickets ≡ [] }
+    requires collected { AreCollected core }
+{
+    TextObject {
+        core,
+        tickets: Tickets::new(alloc),
+        names,
+    }
+}
+
 impl<U: TextUnit> TextObject<U> {
     ghost use Rattle.po_script.specs.Operations.{IsEither};
     ghost use Rattle.po_ada_script.specs.Operations.{after_operation};
@@ -99,11 +111,8 @@ impl<U: TextUnit> TextObject<U> {
         order: Order,
         max_queue: Option<u64>,
     ) -> Result<TextObject<U>, Stop> {
-        Ok(TextObject {
-            core: make(alloc, unit, names.entries.as_slice(), order, max_queue)?,
-            tickets: Tickets::new(alloc),
-            names,
-        })
+        let core = make(alloc, unit, names.entries.as_slice(), order, max_queue)?;
+        Ok(begun(alloc, core, names))
     }
 
     /// Carries out the operation, and puts the lines that answer it into the empty reply.
