@@ -87,18 +87,6 @@ fn make<U: TextUnit>(
     }
 }
 
-/// Returns the object with these names and this core, which has no call.
-fn begun<U: TextUnit>(alloc: Global, core: Core<U>, names: ObjectNames) -> TextObject<U>
-    requires tickets { core.tickets ≡ [] }
-    requires collected { AreCollected core }
-{
-    TextObject {
-        core,
-        tickets: Tickets::new(alloc),
-        names,
-    }
-}
-
 impl<U: TextUnit> TextObject<U> {
     ghost use Rattle.po_script.specs.Operations.{IsEither};
     ghost use Rattle.po_ada_script.specs.Operations.{after_operation};
@@ -111,8 +99,11 @@ impl<U: TextUnit> TextObject<U> {
         order: Order,
         max_queue: Option<u64>,
     ) -> Result<TextObject<U>, Stop> {
-        let core = make(alloc, unit, names.entries.as_slice(), order, max_queue)?;
-        Ok(begun(alloc, core, names))
+        Ok(TextObject {
+            core: make(alloc, unit, names.entries.as_slice(), order, max_queue)?,
+            tickets: Tickets::new(alloc),
+            names,
+        })
     }
 
     /// Carries out the operation, and puts the lines that answer it into the empty reply.
