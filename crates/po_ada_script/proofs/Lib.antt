@@ -1,1 +1,2 @@
+pub mod NoCalls
 pub mod Refused

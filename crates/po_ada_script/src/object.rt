@@ -92,6 +92,7 @@ impl<U: TextUnit> TextObject<U> {
     ghost use Rattle.po_ada_script.specs.Operations.{after_operation};
 
     /// Makes the object of this unit, whose calls are numbered from 1.
+    #[tactic(auto, using(crate::proofs::NoCalls::knows_none))]
     pub fn new(
         alloc: Global,
         unit: U,
