@@ -78,7 +78,7 @@ fn test_of(operation: &Operation<'_>, expression: &Expression) -> Option<Test> {
     }
 }
 
-/// The first test of the entry's own `'Count` that has to hold for its barrier to be true, and where it is.
+/// The first test of the entry's own `'Count` that has to hold for its barrier to be true, and its place.
 pub fn own_test(
     alloc: Global,
     operation: &Operation<'_>,

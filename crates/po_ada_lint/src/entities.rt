@@ -40,7 +40,7 @@ pub struct Entity {
     pub array: Option<usize>,
 }
 
-/// Where an operation is declared.
+/// The place of an operation's declaration.
 #[derive(Clone, Copy, Debug, PartialEq, Eq)]
 pub enum Origin {
     /// Outside of the protected unit.

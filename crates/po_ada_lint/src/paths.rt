@@ -123,7 +123,7 @@ impl Paths {
         }
     }
 
-    /// An exit statement leaves so many loops, if its condition holds.
+    /// An exit statement leaves this many loops, if its condition holds.
     pub fn exit(&mut self, loops: usize, is_conditional: bool)
         ensures ends { is_conditional ≡ false → self.new.is_reached ≡ false }
         ensures goes_on { is_conditional ≡ true → self.new.is_reached ≡ self.old.is_reached }
@@ -138,7 +138,7 @@ impl Paths {
         self.is_reached = reached && is_conditional;
     }
 
-    /// The innermost loops, so many of them, are left by a statement in them.
+    /// A statement leaves this many of the innermost loops around it.
     pub fn mark_left(&self, loops: usize, facts: &mut Vec<LoopFact>) {
         for open in self.open.iter().rev().take(loops) {
             if let Some(fact) = facts.get_mut(open.number) {

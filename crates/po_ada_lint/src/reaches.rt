@@ -107,7 +107,7 @@ fn widen(list: &mut Vec<Reach>, number: usize, more: Reach) -> bool {
 }
 
 impl Reaches {
-    /// Nothing is known of so many operations.
+    /// Nothing is known of this many operations.
     fn new(alloc: Global, count: usize) -> Result<Reaches, AllocError> {
         let mut barriers = Vec::new(alloc);
         let mut bodies = Vec::new(alloc);

@@ -22,13 +22,15 @@ pub enum Task<'a> {
     /// A loop begins: its name, its place, and whether it has neither `while` nor `for`.
     OpenLoop(Option<Name>, usize, bool),
     CloseLoop,
-    /// Ways part, a way ends where the others do, and they go on as one.
+    /// The way of execution parts into several.
     Fork,
+    /// One of these ways has come to its end.
     Merge,
+    /// All of them have: they go on as one.
     Close,
     /// Nothing after this is executed.
     End,
-    /// Names that were declared after so many others lose their meaning.
+    /// Names that were declared after this many others lose their meaning.
     Leave(usize),
 }
 

@@ -186,7 +186,7 @@ impl<'a> Reader<'a> {
         }
     }
 
-    /// A name with what comes after it. The place is where the list begins.
+    /// A name with what comes after it. The place is that of the list's beginning.
     pub fn with_suffix(
         &mut self,
         name: Expression,

@@ -79,7 +79,7 @@ pub struct Expression {
 pub enum Form {
     Number(u64),
     Character(u8),
-    /// A string: where it begins and ends between its quotes.
+    /// A string: the places of its beginning and its end between the quotes.
     Text(usize, usize),
     Null,
     /// `<>`

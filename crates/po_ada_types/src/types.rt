@@ -61,7 +61,7 @@ pub struct Kind<'a> {
     pub structure: Structure<'a>,
 }
 
-/// A variable: where its first cell is.
+/// A variable, by its first cell.
 #[derive(Clone, Copy, Debug)]
 pub struct Variable {
     pub area: Area,

@@ -79,7 +79,7 @@ impl<'a> Lowering<'a> {
         Ok(list)
     }
 
-    /// Refuses a choice that is one value, where a range has to stand (3.6.1).
+    /// Refuses a choice that is one value: a range has to stand there (3.6.1).
     pub fn admit_range(&mut self, choice: &'a Choice) -> Result<(), Stop> {
         match choice {
             Choice::Value(value)

@@ -198,7 +198,7 @@ impl<'a> Lowering<'a> {
         }
     }
 
-    /// A value of a subtype, with a check where one is needed (4.6).
+    /// A value of a subtype, with a check if one is needed (4.6).
     pub fn fit(&mut self, place: usize, value: Value, sub: Sub) -> Result<Expr, Stop> {
         if value.raises {
             return Ok(value.code);

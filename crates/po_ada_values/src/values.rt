@@ -77,7 +77,7 @@ pub struct Lowered {
     pub value: Value,
 }
 
-/// A value and where it stands in the text.
+/// A value and its place in the text.
 #[derive(Debug, Drop)]
 pub struct Placed {
     pub place: usize,
@@ -85,7 +85,7 @@ pub struct Placed {
 }
 
 impl<'a> Operand<'a> {
-    /// Where it stands in the text.
+    /// Its place in the text.
     pub fn place(self) -> usize {
         match self {
             Operand::Written(expression) => expression.place,
@@ -165,7 +165,7 @@ pub fn is_name(choice: &Choice, name: u32) -> bool {
     }
 }
 
-/// Where a choice stands.
+/// The place of a choice.
 pub fn choice_place(choice: &Choice) -> usize {
     match choice {
         Choice::Value(value) => value.place,
