@@ -65,18 +65,19 @@ impl<'a> HintList<'a> {
         if !tally.is_read && !tally.is_mentioned {
             return self.about(entity, "nothing reads", "read it, or leave it out (3.3.1)");
         }
-        match tally.first {
-            Some(first) if is_early(entity, tally, &first) => self.tell_early(entity, &first),
+        match &tally.first {
+            Some(first) if is_early(entity, tally, first) => self.tell_early(entity, first.place),
             _ => Ok(()),
         }
     }
 
-    fn tell_early(&mut self, entity: &Entity, first: &Use) -> Result<(), AllocError> {
+    /// Tells that a variable is read at this place before it has a value.
+    fn tell_early(&mut self, entity: &Entity, place: usize) -> Result<(), AllocError> {
         let name = self.names.written(entity.name.number);
         let message = format!(in self.alloc;
             "hint: '{name}' is read here before it has a value; declare it with one, or assign first (3.3.1, 13.9.1)"
         )?;
-        self.add(first.place, message)
+        self.add(place, message)
     }
 
     /// Tells of a private operation.
