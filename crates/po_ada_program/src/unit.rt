@@ -543,7 +543,8 @@ impl<'a> Making<'a> {
         let inner = self.left_content(slot, body, returns)?;
         self.lowering.known.scope.truncate(scope);
         let check = self.postcondition(condition);
-        let olds = mem::replace(&mut self.lowering.olds, Vec::new(self.lowering.known.alloc));
+        let alloc = self.lowering.known.alloc;
+        let olds = mem::replace(&mut self.lowering.olds, Vec::new(alloc));
         let check = check?;
         self.lowering.emit_all(olds)?;
         let inner = self.lowering.boxed_statement(inner)?;
@@ -653,11 +654,12 @@ impl<'a> Making<'a> {
 
     /// The statements that give the object's data their values.
     fn setup(&mut self) -> Result<Operation, Stop> {
-        let list = self.lowering.end_list(Vec::new(self.lowering.known.alloc));
+        let alloc = self.lowering.known.alloc;
+        let list = self.lowering.end_list(Vec::new(alloc));
         let slots = self.lowering.most_slots;
         Ok(Operation {
             slots,
-            body: sequence(self.lowering.known.alloc, list)?,
+            body: sequence(alloc, list)?,
         })
     }
 
