@@ -57,15 +57,15 @@ fn finish(state: &mut State<ClientUnit>, call: Call<u64>, end: End<u64>)
       serving = None;
       tickets = state.new.tickets;
       most = state.new.most;
+      before = length state.old.state.ended + 1;
     } }
     ensures placed { IsThereOnce state.old → IsThereOnce state.new }
     ensures tickets { HasTickets state.old → HasTickets state.new }
     ensures room { KeepsRoom state.old state.new }
+    ensures kept_room { uncollected state.old.tickets < state.old.most → state.new.most ≡ state.old.most }
     ensures tickets_kept { KeepsTickets state.old state.new }
 {
-    let ticket = state.ticket_in_service(call);
-    state.end_call(call, end);
-    state.collect(ticket);
+    state.end_collected(call, end);
 }
 
 /// Cancels a queued call, and gives up its ticket.
@@ -85,6 +85,7 @@ fn withdraw(state: &mut State<ClientUnit>, ticket: Ticket)
     ensures placed { IsThereOnce state.old → IsThereOnce state.new }
     ensures tickets { HasTickets state.old → HasTickets state.new }
     ensures room { KeepsRoom state.old state.new }
+    ensures kept_room { uncollected state.old.tickets < state.old.most → state.new.most ≡ state.old.most }
     ensures tickets_kept { KeepsTickets state.old state.new }
 {
     state.cancel(ticket);
