@@ -323,6 +323,7 @@ impl DrivenCalls {
         ensures serving { self.new.object.serving ≡ result }
         ensures happened { self.new.happened ≡ self.old.happened ++ Selected e ∷ [] }
         ensures room_kept { KeepsRoom self.old.object self.new.object }
+        ensures kept_room { uncollected self.old.object.tickets < self.old.object.most → self.new.object.most ≡ self.old.object.most }
         ensures tickets_kept { KeepsTickets self.old.object self.new.object }
     {
         let call = self.state.take_on(e);
@@ -339,6 +340,7 @@ impl DrivenCalls {
         ensures serving { self.new.object.serving ≡ None }
         ensures happened { self.new.happened ≡ self.old.happened ++ Ended end ∷ [] }
         ensures room_kept { KeepsRoom self.old.object self.new.object }
+        ensures kept_room { uncollected self.old.object.tickets < self.old.object.most → self.new.object.most ≡ self.old.object.most }
         ensures tickets_kept { KeepsTickets self.old.object self.new.object }
     {
         finish(&mut self.state, call, end);
@@ -354,6 +356,7 @@ impl DrivenCalls {
         ensures serving { self.new.object.serving ≡ None }
         ensures happened { self.new.happened ≡ self.old.happened ++ RequeuedElsewhere ∷ [] }
         ensures room_kept { KeepsRoom self.old.object self.new.object }
+        ensures kept_room { uncollected self.old.object.tickets < self.old.object.most → self.new.object.most ≡ self.old.object.most }
         ensures tickets_kept { KeepsTickets self.old.object self.new.object }
     {
         finish(&mut self.state, call, End::Completed(call.value));
@@ -397,6 +400,7 @@ impl DrivenCalls {
         ensures live { IfSome result (λ ticket. is_live self.new.object.tickets ticket ≡ true) }
         ensures full { IfNone result (is_full longest (count_by (is_on target) self.old.object.state.waiting) ≡ true) }
         ensures room_kept { KeepsRoom self.old.object self.new.object }
+        ensures kept_room { uncollected self.old.object.tickets < self.old.object.most → self.new.object.most ≡ self.old.object.most }
         ensures tickets_kept { KeepsTickets self.old.object self.new.object }
     {
         let queueing = Queueing {
@@ -439,6 +443,7 @@ impl DrivenCalls {
         ensures live { IfSome result (λ ticket. is_live self.new.object.tickets ticket ≡ true) }
         ensures full { IfNone result (is_full longest (count_by (is_on requeue.target) self.old.object.state.waiting) ≡ true) }
         ensures room_kept { KeepsRoom self.old.object self.new.object }
+        ensures kept_room { uncollected self.old.object.tickets < self.old.object.most → self.new.object.most ≡ self.old.object.most }
         ensures tickets_kept { KeepsTickets self.old.object self.new.object }
     {
         let moved = if requeue.due {
@@ -458,6 +463,7 @@ impl DrivenCalls {
         ensures none { IfNone result (self.new ≡ self.old) }
         ensures happened { self.new.happened ≡ self.old.happened ++ cancellation_of result }
         ensures room_kept { KeepsRoom self.old.object self.new.object }
+        ensures kept_room { uncollected self.old.object.tickets < self.old.object.most → self.new.object.most ≡ self.old.object.most }
         ensures tickets_kept { KeepsTickets self.old.object self.new.object }
     {
         let ticket = self.state.first_due()?;
@@ -477,6 +483,7 @@ impl DrivenCalls {
         ensures happened { IfSome result (λ _. self.new.happened ≡ self.old.happened ++ Broken ∷ []) }
         ensures same { IfNone result (self.new.happened ≡ self.old.happened) }
         ensures room_kept { KeepsRoom self.old.object self.new.object }
+        ensures kept_room { uncollected self.old.object.tickets < self.old.object.most → self.new.object.most ≡ self.old.object.most }
         ensures tickets_kept { KeepsTickets self.old.object self.new.object }
     {
         let call = self.state.take_oldest()?;
@@ -495,6 +502,7 @@ impl DrivenCalls {
         ensures serving { self.new.object.serving ≡ None }
         ensures happened { self.new.happened ≡ self.old.happened ++ Cancelled ticket.number ∷ [] }
         ensures room_kept { KeepsRoom self.old.object self.new.object }
+        ensures kept_room { uncollected self.old.object.tickets < self.old.object.most → self.new.object.most ≡ self.old.object.most }
         ensures tickets_kept { KeepsTickets self.old.object self.new.object }
     {
         withdraw(&mut self.state, ticket);
@@ -513,6 +521,7 @@ impl DrivenCalls {
         ensures happened { self.new.happened ≡ self.old.happened ++ Marked ticket.number ∷ [] }
         ensures rests { (closed : List ℕ) → IsAtRest self.old.object closed → IsAtRest self.new.object closed }
         ensures room_kept { KeepsRoom self.old.object self.new.object }
+        ensures kept_room { uncollected self.old.object.tickets < self.old.object.most → self.new.object.most ≡ self.old.object.most }
         ensures tickets_kept { KeepsTickets self.old.object self.new.object }
     {
         self.state.attempt_cancel(ticket);
