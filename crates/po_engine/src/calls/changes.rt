@@ -151,13 +151,7 @@ impl<V: Copy> Calls<V> {
         self.before = self.ended.copy();
         self.ended_now.clear();
         self.serving = None;
-        let len = self.table.len();
-        self.most = room_left(
-            self.most,
-            len,
-            self.table.capacity(),
-            self.queues.reserved(),
-        );
+        self.most = room_left(self.most, &self.table, &self.queues);
         ticket
     }
 
@@ -287,13 +281,7 @@ impl<V: Copy> Calls<V> {
         ensures left { IfNone result (self.new ≡ self.old) }
     {
         let end = self.table.collect(ticket)?;
-        let len = self.table.len();
-        self.most = room_left(
-            self.most,
-            len,
-            self.table.capacity(),
-            self.queues.reserved(),
-        );
+        self.most = room_left(self.most, &self.table, &self.queues);
         Some(end)
     }
 }

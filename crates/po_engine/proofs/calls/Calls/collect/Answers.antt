@@ -23,8 +23,8 @@ invariant_of-self-2 g c =
     let s = c.self.inside in let e = c.in_ok-end.ensures in
     let r = c.room_left-self-inside.ensures in
     let given : IsLeft s.most (slab_len c.collect.new.self.calls) c.collect.new.self.calls.capacity s.queues.reserved c.room_left-self-inside.result = record {
-      all = λ le. r.all (omega (arith, le, c.capacity.ensures, c.reserved.ensures));
-      none = λ lt. r.left (omega (arith, lt, c.capacity.ensures, c.reserved.ensures)) ∙ c.len-len.ensures;
+      all = r.all;
+      none = r.none;
     } in
     (collected s.table c.collect.new.self s.queues s.keys.items s.ended.items s.before.items s.ended_now s.first s.next s.serving s.most c.room_left-self-inside.result s.is_fixed c.args.ticket c.in_ok-end.end e.exact e.updates e.len e.capacity e.last given c.self.invariant).keeps
 
@@ -53,4 +53,4 @@ returns-clause-kept_room g c = λ room.
     let has_room = rw (← c.self.view_is) at room in
     let few : slab_len s.table.calls < s.most = omega (arith, uncollected_kept s.table.calls.slots, has_room) in
     let all = all_reserved s.is_fixed s.table.calls s.queues.reserved s.most few i.reserved in
-    rw (← c.self.view_is) (c.room_left-self-inside.ensures.all (omega (arith, all, c.in_ok-end.ensures.capacity, c.capacity.ensures, c.reserved.ensures)))
+    rw (← c.self.view_is) (c.room_left-self-inside.ensures.all (omega (arith, all, c.in_ok-end.ensures.capacity)))

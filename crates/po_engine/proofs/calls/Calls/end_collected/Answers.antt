@@ -32,8 +32,8 @@ invariant_of-self g c =
     let r = c.room_left-self-inside.ensures in
     let left = c.room_left-self-inside.result in
     let given : IsLeft s.most (slab_len table.calls) table.calls.capacity s.queues.reserved left = record {
-      all = λ le. r.all (omega (arith, le, c.capacity.ensures, c.reserved.ensures));
-      none = λ lt. r.left (omega (arith, lt, c.capacity.ensures, c.reserved.ensures)) ∙ c.len-len.ensures;
+      all = r.all;
+      none = r.none;
     } in
     let between = left_between s.most (slab_len table.calls) table.calls.capacity s.queues.reserved left (omega (arith, i.few, t.len)) given in
     record {
@@ -79,4 +79,4 @@ returns-clause-kept_room g c = λ room.
     let has_room = rw (← c.self.view_is) at room in
     let few : slab_len s.table.calls < s.most = omega (arith, uncollected_kept s.table.calls.slots, has_room) in
     let all = all_reserved s.is_fixed s.table.calls s.queues.reserved s.most few i.reserved in
-    rw (← c.self.view_is) (c.room_left-self-inside.ensures.all (omega (arith, all, c.take_out.ensures.capacity, c.capacity.ensures, c.reserved.ensures)))
+    rw (← c.self.view_is) (c.room_left-self-inside.ensures.all (omega (arith, all, c.take_out.ensures.capacity)))
