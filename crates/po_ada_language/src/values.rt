@@ -129,7 +129,7 @@ pub(crate) fn wanted_value(
 
 /// Returns the value that a parameter of mode `out` has before the call: 0, or the subtype's first value if 0 isn't in it.
 pub fn value_before(subtype: &Subtype) -> i128
-    ensures { subtype.now.low ≤ℤ subtype.now.high → subtype.now.low ≤ℤ result }
+    ensures { subtype.now.low ≤ℤ subtype.now.high → (subtype.now.low ≤ℤ result) × (result ≤ℤ subtype.now.high) }
 {
     if subtype.low <= 0 && 0 <= subtype.high {
         0
