@@ -21,7 +21,13 @@ version() { head -n 1 "$here/../VERSION"; }
 [ "${1-}" != help ] || [ $# -eq 1 ] || set -- "$2" --help
 answer_words "$@"
 case $1 in
-  run | check) take_script "$@" ;;
+  run | check)
+    take_script "$@"
+    if [ -n "$text" ]; then
+      say "the archive has no program for Ada texts"
+      exit 2
+    fi
+    ;;
 esac
 case $1 in
   ada)
@@ -38,7 +44,7 @@ case $1 in
     draw "$here/pobj_run" "$@"
     ;;
   run)
-    [ -z "$file" ] || run_file "$here/pobj_run" "$file"
+    [ -z "$file" ] || run_file "$here/pobj_run" "$file" run
     exec "$here/pobj_run" "$@"
     ;;
   *) exec "$here/pobj_$1" "$@" ;;
