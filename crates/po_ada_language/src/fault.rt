@@ -101,7 +101,7 @@ pub fn bad_unit(alloc: Global, expected: &str, word: Option<&[u8]>) -> Stop {
 }
 
 /// Returns the fault of this kind alone.
-pub(crate) fn fault_of(alloc: Global, kind: FaultKind) -> Stop {
+pub fn fault_of(alloc: Global, kind: FaultKind) -> Stop {
     Stop::Fault(LineFault {
         kind,
         detail: String::new(alloc),

@@ -22,21 +22,7 @@ pub struct Interpreter<O, T> {
 /// Makes the object that the words after `unit` ask for.
 fn begin_unit<O, T: Texts<O>>(alloc: Global, texts: &mut T, words: &[u8]) -> Result<O, Stop> {
     let (choice, rest) = choice_of(alloc, words)?;
-    if let FileChoice::Given(_) = choice
-        && !texts.has_given()
-    {
-        return Err(fault_of(alloc, FaultKind::BadUnit));
-    }
     texts.object(alloc, choice, rest)
-}
-
-/// Makes the object of the given file, whose discriminants have their defaults.
-fn begin_given<O, T: Texts<O>>(alloc: Global, texts: &mut T) -> Result<O, Stop> {
-    if texts.has_given() {
-        texts.object(alloc, FileChoice::Given(None), &[])
-    } else {
-        Err(fault_of(alloc, FaultKind::NoUnit))
-    }
 }
 
 impl<O: ScriptedObject + Drop, T: Texts<O> + Drop> Interpreter<O, T> {
@@ -69,12 +55,12 @@ impl<O: ScriptedObject + Drop, T: Texts<O> + Drop> Interpreter<O, T> {
         self.object.is_some()
     }
 
-    /// Makes the object that the first command asks for.
+    /// Makes the object that the first command asks for: the given file's, with default discriminants, if it isn't `unit`.
     fn begin(&mut self, alloc: Global, verb: Verb, words: &[u8]) -> Result<(), Stop> {
         let begun = if verb == Verb::Begin {
             begin_unit(alloc, &mut self.texts, words)?
         } else {
-            begin_given(alloc, &mut self.texts)?
+            self.texts.object(alloc, FileChoice::Given(None), &[])?
         };
         drop(self.object.replace(begun));
         Ok(())

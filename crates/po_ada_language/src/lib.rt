@@ -19,7 +19,7 @@ pub mod unit_line;
 pub mod values;
 
 pub use crate::arguments::push_cells;
-pub use crate::fault::{LineFault, Stop, bad_unit, no_object, push_word};
+pub use crate::fault::{LineFault, Stop, bad_unit, fault_of, no_object, push_word};
 pub use crate::interpreter::Interpreter;
 pub use crate::operation::Operation;
 pub use crate::operation_line::operation_of;

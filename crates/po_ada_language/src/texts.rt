@@ -40,9 +40,6 @@ pub struct Settings {
 
 /// What makes the object of a script from an Ada text.
 pub trait Texts<O> {
-    /// Returns whether the command line names a file.
-    fn has_given(&self) -> bool;
-
     /// Makes the object of the chosen text, with the discriminants and the settings that the words state.
     fn object(&mut self, alloc: Global, choice: FileChoice<'_>, words: &[u8]) -> Result<O, Stop>;
 }

@@ -3,12 +3,15 @@
 
 use crate::file::TextFile;
 use po_ada_check::CheckedObject;
-use po_ada_language::{FileChoice, Settings, Stop, Texts, bad_unit, no_object, settings_of};
+use po_ada_language::{
+    FileChoice, Settings, Stop, Texts, bad_unit, fault_of, no_object, settings_of,
+};
 use po_ada_names::{Heading, ObjectNames};
 use po_ada_program::Made;
 use po_ada_reading::AdaText;
 use po_ada_script::{TextObject, push_exception};
 use po_ada_unit::{AdaUnit, SetupError};
+use po_language::FaultKind;
 use std::alloc::{AllocError, Global};
 use std::sync::Arc;
 
@@ -16,7 +19,8 @@ use std::sync::Arc;
 const NOT_TEXT: &str = "the name of the file isn't UTF-8";
 
 /// The fault of a name for the file of the command line, if there is none.
-const NO_FILE: &str = "the command line names no file: --unit FILE does";
+const NO_FILE: &str =
+    "expected 'file' and the name of a file, since the command line names none by --unit";
 
 /// The files whose Ada texts a script can have.
 #[derive(Debug, Drop)]
@@ -95,7 +99,8 @@ impl TextFiles {
         match (choice, &self.given) {
             (FileChoice::Named(name), _) => self.named(alloc, name),
             (FileChoice::Given(_), Some(file)) => Ok(file),
-            (FileChoice::Given(_), None) => Err(no_object(alloc, NO_FILE)),
+            (FileChoice::Given(Some(_)), None) => Err(no_object(alloc, NO_FILE)),
+            (FileChoice::Given(None), None) => Err(fault_of(alloc, FaultKind::NoUnit)),
         }
     }
 
@@ -119,10 +124,6 @@ impl TextFiles {
 }
 
 impl Texts<TextObject<AdaUnit>> for TextFiles {
-    fn has_given(&self) -> bool {
-        self.given.is_some()
-    }
-
     fn object(
         &mut self,
         alloc: Global,
@@ -135,10 +136,6 @@ impl Texts<TextObject<AdaUnit>> for TextFiles {
 }
 
 impl Texts<CheckedObject> for TextFiles {
-    fn has_given(&self) -> bool {
-        self.given.is_some()
-    }
-
     fn object(
         &mut self,
         alloc: Global,
