@@ -63,28 +63,54 @@ impl<'a> Making<'a> {
             Item::Package(name) => self.lowering.known.define(*name, Meaning::Package),
             Item::Declaration(Declaration::Variables(variables)) if !variables.constant =>
                 self.outer_variables(variables),
-            Item::Declaration(declaration) => self.declared(declaration, false),
+            Item::Declaration(declaration) => self.outer_declared(declaration),
             Item::Operation(body) => self.outer_operation(body),
             Item::Protected(unit) if unit.name.number == wanted.number => self.unit(unit, values),
-            Item::Protected(unit) => self.lowering.known.define(unit.name, Meaning::Unread),
+            Item::Protected(unit) => self.lowering.known.define(unit.name, Meaning::Unread(None)),
             Item::ProtectedBody(_) => Ok(()),
-            Item::Unread(name) => self.lowering.known.define(*name, Meaning::Unread),
+            Item::Unread(unread) => self.lowering.known.define_unread(unread),
+        }
+    }
+
+    /// A declaration outside of the protected unit. If it is faulty, the unit may not use its names.
+    fn outer_declared(&mut self, declaration: &'a Declaration) -> Result<(), Stop> {
+        let told = self.lowering.known.faults.len();
+        self.declared(declaration, false)?;
+        match declaration {
+            Declaration::Type(name, _) | Declaration::Subtype(name, _) => self
+                .lowering
+                .known
+                .excuse(told, &[*name]),
+            Declaration::Variables(variables) => self
+                .lowering
+                .known
+                .excuse(told, variables.names.as_slice()),
+            Declaration::Numbers(names, _) | Declaration::Exceptions(names) => self
+                .lowering
+                .known
+                .excuse(told, names.as_slice()),
+            Declaration::Pragma(_) => Ok(()),
         }
     }
 
     /// Variables outside of the object: no operation reads or changes them here.
     fn outer_variables(&mut self, variables: &'a Variables) -> Result<(), Stop> {
         for name in variables.names.iter() {
-            self.lowering.known.define(*name, Meaning::Unread)?;
+            self.lowering.known.define(*name, Meaning::Unread(None))?;
         }
         Ok(())
     }
 
-    /// An operation outside of the protected unit.
+    /// An operation outside of the protected unit. If its profile is faulty, the unit may not call it.
     fn outer_operation(&mut self, body: &'a Body) -> Result<(), Stop> {
+        let told = self.lowering.known.faults.len();
         let number = match self.lowering.known.look_up(body.profile.name.number) {
             Some(Meaning::Operation(number)) => number,
-            _ => self.declare(&body.profile, false, true)?,
+            _ => match self.declare(&body.profile, false, true) {
+                Ok(number) => number,
+                Err(Stop::OutOfMemory) => return Err(Stop::OutOfMemory),
+                Err(Stop::Fault) => return self.lowering.known.excuse(told, &[body.profile.name]),
+            },
         };
         if matches!(body.content, Content::Declared) {
             return Ok(());

@@ -26,11 +26,22 @@ fn values_of(alloc: Global, heading: &Heading) -> Result<Vec<i128>, AllocFailed<
     Ok(values)
 }
 
-/// Reads the file's text whole, and returns the lines of its hints. Fails if it has a fault.
-pub fn hints_on(alloc: Global, file: &TextFile) -> Result<String, Stop> {
-    let text = file.text(alloc)?;
+/// Reads one of the file's protected units whole, and adds the lines of its hints. Fails if it has a fault.
+fn push_hints(alloc: Global, file: &TextFile, unit: &str, lines: &mut String) -> Result<(), Stop> {
+    let text = file.text(alloc, Some(unit))?;
     let values = values_of(alloc, text.heading())?;
     file.program(alloc, &text, values.as_slice())?;
     let hints = text.hints(alloc)?;
-    Ok(file.lines_of(alloc, hints.as_slice())?)
+    let told = file.lines_of(alloc, hints.as_slice())?;
+    lines.push_str(told.as_str())?;
+    Ok(())
+}
+
+/// Reads all protected units of a file whole, and returns the lines of the hints on them. Fails if one has a fault.
+pub fn hints_on(alloc: Global, file: &TextFile) -> Result<String, Stop> {
+    let mut lines = String::new(alloc);
+    for unit in file.units(alloc)?.iter() {
+        push_hints(alloc, file, unit.as_str(), &mut lines)?;
+    }
+    Ok(lines)
 }

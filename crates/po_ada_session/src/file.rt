@@ -3,7 +3,7 @@
 
 use po_ada_language::Stop;
 use po_ada_program::Made;
-use po_ada_reading::{AdaText, read};
+use po_ada_reading::{AdaText, read, unit_names};
 use po_ada_tree::{Fault, report};
 use std::alloc::{AllocError, Global};
 
@@ -54,9 +54,17 @@ impl TextFile {
         }
     }
 
-    /// Reads the text, which has one protected unit.
-    pub(crate) fn text(&self, alloc: Global) -> Result<AdaText, Stop> {
-        match read(alloc, self.bytes.as_slice(), None)? {
+    /// Returns the names of the text's protected units, at least one.
+    pub(crate) fn units(&self, alloc: Global) -> Result<Vec<String>, Stop> {
+        match unit_names(alloc, self.bytes.as_slice())? {
+            Ok(names) => Ok(names),
+            Err(faults) => Err(self.faulty(alloc, faults.as_slice())),
+        }
+    }
+
+    /// Reads the text, with its protected unit of this name; if none is asked for, with its only one.
+    pub(crate) fn text(&self, alloc: Global, unit: Option<&str>) -> Result<AdaText, Stop> {
+        match read(alloc, self.bytes.as_slice(), unit)? {
             Ok(text) => Ok(text),
             Err(faults) => Err(self.faulty(alloc, faults.as_slice())),
         }

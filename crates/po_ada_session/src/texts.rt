@@ -44,7 +44,7 @@ fn text_called(alloc: Global, file: &TextFile, word: &[u8]) -> Result<AdaText, S
     if let Some(text) = file.text_of_unit(alloc, word)? {
         return Ok(text);
     }
-    let text = file.text(alloc)?;
+    let text = file.text(alloc, None)?;
     if is_unit_name(text.heading(), word) || file.is_called(word) {
         Ok(text)
     } else {
@@ -114,7 +114,7 @@ impl TextFiles {
         let file = self.chosen(alloc, choice)?;
         let text = match choice {
             FileChoice::Given(Some(word)) => text_called(alloc, file, word)?,
-            FileChoice::Given(None) | FileChoice::Named(_) => file.text(alloc)?,
+            FileChoice::Given(None) | FileChoice::Named(_) => file.text(alloc, None)?,
         };
         let settings = settings_of(alloc, text.heading(), words)?;
         let made = file.program(alloc, &text, settings.discriminants.as_slice())?;

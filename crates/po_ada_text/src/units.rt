@@ -156,7 +156,7 @@ impl<'a> Reader<'a> {
             self.semicolon()?;
             return Ok(Content::Statements(Vec::new(self.alloc), self.null_sequence(place)?));
         }
-        if self.sees_sign(Sign::LeftParenthesis) {
+        if self.sees_sign(Sign::LeftParenthesis) || self.sees_sign(Sign::LeftBracket) {
             let value = self.expression(MOST_LEVELS)?;
             self.ignored_aspects()?;
             self.semicolon()?;

@@ -79,8 +79,9 @@ impl<'a> Lowering<'a> {
             Some(Meaning::Exception(exception)) => Ok(Denoted::Exception(exception)),
             Some(Meaning::Operation(operation)) => Ok(Denoted::Operation(operation)),
             Some(Meaning::Package) => Ok(Denoted::Package),
-            Some(Meaning::Unread) => Err(
-                self.known.refuse_name(
+            Some(Meaning::Unread(reason)) => Err(
+                self.known.refuse_unread(
+                    reason,
                     place,
                     "",
                     name,
