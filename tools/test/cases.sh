@@ -183,7 +183,7 @@ scripts() {
   [ "$1" != pobj_run ] || lay_out_pictures "$1"
   if [ "$1" = pobj_text ]; then
     lay_out_texts "$1"
-    for file in examples/ada/*.adb; do
+    for file in examples/ada/*.adb cases/*.adb; do
       data+=(--data "$file=$top/$file")
     done
   fi

@@ -10,6 +10,7 @@
 pub mod exceptions;
 pub mod object;
 pub mod operate;
+mod preconditions;
 mod replies;
 pub mod run;
 

@@ -33,12 +33,26 @@ fn write_counts(rt: &impl Print, name: &str, made: &Made) -> io::Result<()> {
     let (entries, procedures, functions) = (
         program.entries.len(),
         program.procedures.len(),
-        program.functions.len(),
+        made.names.functions.len(),
     );
     let cells = program.cells;
     println!(rt;
         "{name}: entries {entries}, procedures {procedures}, functions {functions}, cells {cells}"
     )
+}
+
+/// Writes which functions of the program are preconditions, each with its entry's name, and how long a queue can be.
+fn write_conditions(rt: &impl Print, name: &str, made: &Made) -> io::Result<()> {
+    for entry in made.names.entries.iter() {
+        if let Some(function) = entry.precondition {
+            let called = entry.operation.name.as_str();
+            println!(rt; "{name}: function {function} is the precondition of {called}")?;
+        }
+    }
+    if let Some(most) = made.names.max_queue {
+        println!(rt; "{name}: at most {most} calls in a queue")?;
+    }
+    Ok(())
 }
 
 /// Makes an object whose discriminants have their defaults, or 2.
@@ -53,7 +67,10 @@ fn write_object(
         values.push(discriminant.default.unwrap_or(2))?;
     }
     match ada.object(rt.alloc(), values.as_slice())? {
-        Ok(made) => write_counts(rt, name, &made)?,
+        Ok(made) => {
+            write_counts(rt, name, &made)?;
+            write_conditions(rt, name, &made)?;
+        }
         Err(faults) => write_faults(rt, name, text, faults.as_slice())?,
     }
     Ok(())
