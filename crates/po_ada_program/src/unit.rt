@@ -57,8 +57,18 @@ impl<'a> Making<'a> {
         }
     }
 
-    /// The meaning of an item before the body of the protected unit.
+    /// The meaning of an item before the body of the protected unit. What stands after the unit hides none of its names (8.3).
     pub fn item(&mut self, item: &'a Item, wanted: Name, values: &'a [i128]) -> Result<(), Stop> {
+        let (inner, from) = (self.outside, self.lowering.known.scope.len());
+        let done = self.any_item(item, wanted, values);
+        if inner > 0 {
+            self.outside = self.lowering.known.lower(inner, from)?;
+        }
+        done
+    }
+
+    /// The meaning of an item.
+    fn any_item(&mut self, item: &'a Item, wanted: Name, values: &'a [i128]) -> Result<(), Stop> {
         match item {
             Item::Package(name) => self.lowering.known.define(*name, Meaning::Package),
             Item::Declaration(Declaration::Variables(variables)) if !variables.constant =>
@@ -101,24 +111,39 @@ impl<'a> Making<'a> {
         Ok(())
     }
 
-    /// An operation outside of the protected unit. If its profile is faulty, the unit may not call it.
+    /// An operation outside of the protected unit. If it is faulty, the unit may not call it.
     fn outer_operation(&mut self, body: &'a Body) -> Result<(), Stop> {
         let told = self.lowering.known.faults.len();
+        let done = self.note_outer(body);
+        self.keep_on(done)?;
+        self.lowering.known.excuse(told, &[body.profile.name])
+    }
+
+    /// Declares an operation outside of the protected unit, unless that was done, and notes its body.
+    fn note_outer(&mut self, body: &'a Body) -> Result<(), Stop> {
         let number = match self.lowering.known.look_up(body.profile.name.number) {
-            Some(Meaning::Operation(number)) => number,
-            _ => match self.declare(&body.profile, false, true) {
-                Ok(number) => number,
-                Err(Stop::OutOfMemory) => return Err(Stop::OutOfMemory),
-                Err(Stop::Fault) => return self.lowering.known.excuse(told, &[body.profile.name]),
-            },
+            Some(Meaning::Operation(number)) if self.lowering.is_outside(number) => number,
+            _ => self.declare(&body.profile, false, true)?,
         };
         if matches!(body.content, Content::Declared) {
             return Ok(());
         }
-        if let Some(declared) = self.lowering.operations.get_mut(number) {
-            declared.body = Some(body);
+        let Some(declared) = self.lowering.operations.get_mut(number) else {
+            return Ok(());
+        };
+        if declared.body.is_some() {
+            return Err(self.two_of_one_name(body.profile.name));
         }
+        declared.body = Some(body);
         Ok(())
+    }
+
+    /// Refuses a second operation of a name.
+    fn two_of_one_name(&mut self, name: Name) -> Stop {
+        self.lowering.known.refuse(
+            name.place,
+            "two operations of one name aren't in this subset: rename one (8.3)",
+        )
     }
 
     /// The declaration of the protected unit (9.4).
@@ -206,12 +231,7 @@ impl<'a> Making<'a> {
         outside: bool,
     ) -> Result<usize, Stop> {
         if let Some(Meaning::Operation(_)) = self.lowering.known.look_up(profile.name.number) {
-            return Err(
-                self.lowering.known.refuse(
-                    profile.name.place,
-                    "two operations of one name aren't in this subset: rename one (8.3)",
-                ),
-            );
+            return Err(self.two_of_one_name(profile.name));
         }
         self.admit_aspects(profile)?;
         let parameters = self.parameters(profile)?;

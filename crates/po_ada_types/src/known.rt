@@ -5,6 +5,7 @@ use crate::types::{Kind, Meaning, Symbol};
 use po_ada_tree::tree::{Name, Unread};
 use po_ada_tree::{Fault, Faults, Names, Stop};
 use std::alloc::{AllocError, Global};
+use std::mem;
 use strsim::levenshtein;
 
 /// A text declares at most this many names.
@@ -69,6 +70,22 @@ impl<'a> Known<'a> {
         message.push('\'')?;
         message.push_str(after)?;
         Ok(message)
+    }
+
+    /// Puts the names that came last, from this place of the scope on, before those from `inner` on, so that they hide none of these
+    /// (8.3). Returns where these begin then.
+    pub fn lower(&mut self, inner: usize, from: usize) -> Result<usize, AllocError> {
+        let lowered = self.scope.len().saturating_sub(from);
+        if lowered == 0 {
+            return Ok(inner);
+        }
+        let mut scope = Vec::new(self.alloc);
+        let symbols = self.scope.as_slice();
+        scope.extend_from_slice(symbols.get(..inner).unwrap_or(&[]))?;
+        scope.extend_from_slice(symbols.get(from..).unwrap_or(&[]))?;
+        scope.extend_from_slice(symbols.get(inner..from).unwrap_or(&[]))?;
+        drop(mem::replace(&mut self.scope, scope));
+        Ok(inner.saturating_add(lowered))
     }
 
     /// If a fault was told after this many, forgets what was told since. These names may not be used, then.
@@ -148,7 +165,12 @@ impl<'a> Known<'a> {
     pub fn unknown(&mut self, place: usize, name: u32) -> Stop {
         match self.meant(name) {
             Ok(Some(other)) => self.refuse_meant(place, name, other),
-            Ok(None) => self.refuse_name(place, "nothing here has the name ", name, ""),
+            Ok(None) => self.refuse_name(
+                place,
+                "nothing here has the name ",
+                name,
+                "; other files aren't read",
+            ),
             Err(_) => Stop::OutOfMemory,
         }
     }

@@ -85,7 +85,7 @@ impl<'a> Lowering<'a> {
                     place,
                     "",
                     name,
-                    " has what isn't in this subset: write it without, as a function of numbers",
+                    " isn't in this subset: an operation uses its own object alone, beside constants and functions",
                 ),
             ),
             Some(Meaning::Hidden) => Err(
