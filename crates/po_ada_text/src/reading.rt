@@ -201,12 +201,23 @@ impl<'a> Reader<'a> {
         Ok(Item::Unread(Unread { name, fault }))
     }
 
+    /// Whether a main program comes next, with a protected unit before its statements.
+    fn sees_program(&self) -> bool {
+        let is_short = matches!(
+            self.ahead(3),
+            Element::Reserved(Reserved::New)
+                | Element::Reserved(Reserved::Null)
+                | Element::Reserved(Reserved::Separate)
+        );
+        self.sees(Reserved::Procedure)
+            && self.ahead(2) == Element::Reserved(Reserved::Is)
+            && !is_short
+            && self.holds_protected()
+    }
+
     /// Reads a subprogram, or opens a main program.
     fn subprogram(&mut self) -> Result<Option<Item>, Stop> {
-        let is_main = self.sees(Reserved::Procedure)
-            && self.ahead(2) == Element::Reserved(Reserved::Is)
-            && self.holds_protected();
-        if is_main {
+        if self.sees_program() {
             self.step();
             let name = self.name("the program's name")?;
             self.step();
