@@ -258,7 +258,7 @@ impl<'a> Reader<'a> {
     }
 
     /// How many parentheses and records are open after the next element, if so many are before it. Reads that element.
-    fn open_after(&mut self, open: usize) -> usize {
+    pub fn open_after(&mut self, open: usize) -> usize {
         let element = self.peek();
         self.step();
         match element {
@@ -280,12 +280,16 @@ impl<'a> Reader<'a> {
         }
     }
 
-    /// Whether what comes next is no part of a declaration that has begun, however faulty that is.
-    fn sees_other(&self) -> bool {
+    /// Whether a protected unit or a package comes next, or the end of the text: no subprogram goes on past it.
+    pub fn sees_unit(&self) -> bool {
         self.sees(Reserved::Protected)
             || self.sees(Reserved::Package)
-            || self.sees(Reserved::Begin)
             || self.peek() == Element::End
+    }
+
+    /// Whether what comes next is no part of a declaration that has begun, however faulty that is.
+    fn sees_other(&self) -> bool {
+        self.sees_unit() || self.sees(Reserved::Begin)
     }
 
     /// Goes on past the semicolon that ends a declaration. Those in parentheses and records don't.

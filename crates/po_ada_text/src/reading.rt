@@ -261,10 +261,10 @@ impl<'a> Reader<'a> {
         }
     }
 
-    /// Goes on past `end NAME;`.
+    /// Goes on past `end NAME;`, or to the next protected unit or package.
     fn skip_unit(&mut self, name: Name) {
         for _ in 0..self.turns() {
-            if self.peek() == Element::End {
+            if self.sees_unit() {
                 break;
             }
             let ends = self.takes(Reserved::End);
@@ -273,7 +273,7 @@ impl<'a> Reader<'a> {
                 break;
             }
             if !ends {
-                self.step();
+                self.open_after(0);
             }
         }
     }
@@ -304,13 +304,10 @@ impl<'a> Reader<'a> {
     /// Passes over the statements of a program or a package, up to the next protected unit or package.
     fn skip_program(&mut self) {
         for _ in 0..self.turns() {
-            if self.sees(Reserved::Protected)
-                || self.sees(Reserved::Package)
-                || self.peek() == Element::End
-            {
+            if self.sees_unit() {
                 break;
             }
-            self.step();
+            self.open_after(0);
         }
     }
 
