@@ -16,6 +16,14 @@ use std::alloc::{AllocError, Global};
 /// A text has at most this many bytes.
 pub const MOST_BYTES: usize = 16_777_216;
 
+/// A copy of the fault before which this many were told, if there is one.
+fn fault_at(alloc: Global, faults: &Faults, told: usize) -> Result<Option<Fault>, AllocError> {
+    match faults.items.get(told) {
+        Some(fault) => Ok(Some(fault.copy(alloc)?)),
+        None => Ok(None),
+    }
+}
+
 impl<'a> Reader<'a> {
     /// Reads a text's items. After a fault, goes on at the next item.
     fn items(&mut self) -> Result<Vec<Item>, Stop> {
@@ -82,10 +90,7 @@ impl<'a> Reader<'a> {
 
     /// An item of this name that isn't read, since a fault was told after this many.
     fn unread_item(&self, name: Name, told: usize) -> Result<Item, AllocError> {
-        let fault = match self.faults.items.get(told) {
-            Some(fault) => Some(fault.copy(self.alloc)?),
-            None => None,
-        };
+        let fault = fault_at(self.alloc, self.faults, told)?;
         Ok(Item::Unread(Unread { name, fault }))
     }
 

@@ -25,6 +25,28 @@ pub struct Known<'a> {
     pub reasons: Vec<Fault>,
 }
 
+/// A scope in which the names from `from` on stand before those from `inner` on.
+fn turned(
+    alloc: Global,
+    scope: &[Symbol],
+    inner: usize,
+    from: usize,
+) -> Result<Vec<Symbol>, AllocError> {
+    let mut turned = Vec::new(alloc);
+    turned.extend_from_slice(scope.get(..inner).unwrap_or(&[]))?;
+    turned.extend_from_slice(scope.get(from..).unwrap_or(&[]))?;
+    turned.extend_from_slice(scope.get(inner..from).unwrap_or(&[]))?;
+    Ok(turned)
+}
+
+/// A copy of the fault before which this many were told, if there is one.
+fn fault_at(alloc: Global, faults: &Faults, told: usize) -> Result<Option<Fault>, AllocError> {
+    match faults.items.get(told) {
+        Some(fault) => Ok(Some(fault.copy(alloc)?)),
+        None => Ok(None),
+    }
+}
+
 impl<'a> Known<'a> {
     /// Nothing is known yet.
     pub fn new(alloc: Global, names: &'a Names, faults: &'a mut Faults) -> Known<'a> {
@@ -76,24 +98,18 @@ impl<'a> Known<'a> {
     /// (8.3). Returns where these begin then.
     pub fn lower(&mut self, inner: usize, from: usize) -> Result<usize, AllocError> {
         let lowered = self.scope.len().saturating_sub(from);
-        if lowered == 0 {
-            return Ok(inner);
+        if lowered > 0 {
+            let scope = turned(self.alloc, self.scope.as_slice(), inner, from)?;
+            drop(mem::replace(&mut self.scope, scope));
         }
-        let mut scope = Vec::new(self.alloc);
-        let symbols = self.scope.as_slice();
-        scope.extend_from_slice(symbols.get(..inner).unwrap_or(&[]))?;
-        scope.extend_from_slice(symbols.get(from..).unwrap_or(&[]))?;
-        scope.extend_from_slice(symbols.get(inner..from).unwrap_or(&[]))?;
-        drop(mem::replace(&mut self.scope, scope));
         Ok(inner.saturating_add(lowered))
     }
 
     /// If a fault was told after this many, forgets what was told since. These names may not be used, then.
     pub fn excuse(&mut self, told: usize, names: &[Name]) -> Result<(), Stop> {
-        let Some(fault) = self.faults.items.get(told) else {
+        let Some(fault) = fault_at(self.alloc, self.faults, told)? else {
             return Ok(());
         };
-        let fault = fault.copy(self.alloc)?;
         self.faults.truncate(told);
         let reason = self.reasons.len();
         self.reasons.push(fault)?;
