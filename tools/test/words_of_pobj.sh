@@ -207,6 +207,7 @@ packs_there() {
     "run check picture stress ada trace help " "the packed commands"
   same "$("$to/bin/pobj" tarce 2>&1)" "pobj: no command 'tarce'; did you mean 'trace'?" "the packed answer to a mistyped word"
   same "$("$to/bin/pobj" run "$to/VERSION")" "pobj_run run"$'\n'"$(cat VERSION)" "the packed program's input"
+  same "$("$to/bin/pobj" run --unit "$to/VERSION" "$to/VERSION")" "pobj_text run --unit $to/VERSION"$'\n'"$(cat VERSION)" "the packed program for Ada texts"
   same "$("$to/bin/pobj" run "$to/none" 2>&1)" "pobj: $to/none can't be opened: No such file or directory" "a file that isn't there"
   if git check-ignore -q "$name.tar.gz"; then pass; else fail "git doesn't ignore $name.tar.gz"; fi
 }

@@ -13,6 +13,7 @@ mod declared_names;
 mod declaring;
 mod making;
 mod object;
+mod outside;
 mod preconditions;
 mod queue_limits;
 mod unit;

@@ -57,42 +57,37 @@ impl<'a> Making<'a> {
         }
     }
 
-    /// The meaning of an item before the body of the protected unit.
+    /// The meaning of an item before the body of the protected unit. What stands after the unit hides none of its names (8.3).
     pub fn item(&mut self, item: &'a Item, wanted: Name, values: &'a [i128]) -> Result<(), Stop> {
+        let (inner, from) = (self.outside, self.lowering.known.scope.len());
+        let done = self.any_item(item, wanted, values);
+        if inner > 0 {
+            self.outside = self.lowering.known.lower(inner, from)?;
+        }
+        done
+    }
+
+    /// The meaning of an item.
+    fn any_item(&mut self, item: &'a Item, wanted: Name, values: &'a [i128]) -> Result<(), Stop> {
         match item {
             Item::Package(name) => self.lowering.known.define(*name, Meaning::Package),
             Item::Declaration(Declaration::Variables(variables)) if !variables.constant =>
                 self.outer_variables(variables),
-            Item::Declaration(declaration) => self.declared(declaration, false),
+            Item::Declaration(declaration) => self.outer_declared(declaration),
             Item::Operation(body) => self.outer_operation(body),
             Item::Protected(unit) if unit.name.number == wanted.number => self.unit(unit, values),
-            Item::Protected(unit) => self.lowering.known.define(unit.name, Meaning::Unread),
+            Item::Protected(unit) => self.lowering.known.define(unit.name, Meaning::Unread(None)),
             Item::ProtectedBody(_) => Ok(()),
-            Item::Unread(name) => self.lowering.known.define(*name, Meaning::Unread),
+            Item::Unread(unread) => self.lowering.known.define_unread(unread),
         }
     }
 
-    /// Variables outside of the object: no operation reads or changes them here.
-    fn outer_variables(&mut self, variables: &'a Variables) -> Result<(), Stop> {
-        for name in variables.names.iter() {
-            self.lowering.known.define(*name, Meaning::Unread)?;
-        }
-        Ok(())
-    }
-
-    /// An operation outside of the protected unit.
-    fn outer_operation(&mut self, body: &'a Body) -> Result<(), Stop> {
-        let number = match self.lowering.known.look_up(body.profile.name.number) {
-            Some(Meaning::Operation(number)) => number,
-            _ => self.declare(&body.profile, false, true)?,
-        };
-        if matches!(body.content, Content::Declared) {
-            return Ok(());
-        }
-        if let Some(declared) = self.lowering.operations.get_mut(number) {
-            declared.body = Some(body);
-        }
-        Ok(())
+    /// Refuses a second operation of a name.
+    pub fn two_of_one_name(&mut self, name: Name) -> Stop {
+        self.lowering.known.refuse(
+            name.place,
+            "two operations of one name aren't in this subset: rename one (8.3)",
+        )
     }
 
     /// The declaration of the protected unit (9.4).
@@ -173,19 +168,14 @@ impl<'a> Making<'a> {
     }
 
     /// The declaration of an operation; returns its number.
-    fn declare(
+    pub fn declare(
         &mut self,
         profile: &'a Profile,
         public: bool,
         outside: bool,
     ) -> Result<usize, Stop> {
         if let Some(Meaning::Operation(_)) = self.lowering.known.look_up(profile.name.number) {
-            return Err(
-                self.lowering.known.refuse(
-                    profile.name.place,
-                    "two operations of one name aren't in this subset: rename one (8.3)",
-                ),
-            );
+            return Err(self.two_of_one_name(profile.name));
         }
         self.admit_aspects(profile)?;
         let parameters = self.parameters(profile)?;

@@ -16,6 +16,8 @@ pub enum Element {
     Name(u32),
     Reserved(Reserved),
     Number(u64),
+    /// A real literal, whose value isn't kept (2.4.1).
+    Real,
     /// A character literal: its byte.
     Character(u8),
     /// A string literal: how many bytes come before what stands between its quotes, and before the closing quote.
@@ -237,7 +239,21 @@ impl<'a> Lexer<'a> {
         self.scaled(number, base)
     }
 
-    /// An integer literal (2.4).
+    /// What comes after the point of a real literal (2.4.1).
+    fn real(&mut self, place: usize) -> Result<(), Stop> {
+        self.skip(1);
+        self.numeral(10);
+        if self.byte(0) == b'e' || self.byte(0) == b'E' {
+            self.skip(1);
+            if self.byte(0) == b'+' || self.byte(0) == b'-' {
+                self.skip(1);
+            }
+            self.numeral(10);
+        }
+        self.push(place, Element::Real)
+    }
+
+    /// A numeric literal (2.4).
     fn number(&mut self) -> Result<(), Stop> {
         let place = self.next;
         let mut number = self.numeral(10);
@@ -247,13 +263,9 @@ impl<'a> Lexer<'a> {
             number = self.scaled(number, 10);
         }
         if self.byte(0) == b'.' && self.byte(1).is_ascii_digit() {
-            self.tell(
-                place,
-                "real numbers aren't in this subset: take an integer type, as milliseconds",
-            )?;
-            self.skip(1);
-            self.numeral(10);
-        } else if is_letter(self.byte(0)) {
+            return self.real(place);
+        }
+        if is_letter(self.byte(0)) {
             self.tell(
                 place,
                 "a number is followed by a letter: write a space between them, and 16#FF# for a number of base 16 (2.4)",

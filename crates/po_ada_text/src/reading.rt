@@ -7,10 +7,10 @@ use crate::lexer::{Element, Lexed, cut};
 use crate::reader::Reader;
 use crate::sign::Sign;
 use crate::statements::go_on;
-use po_ada_tree::fault::{Faults, Stop};
+use po_ada_tree::fault::{Fault, Faults, Stop};
 use po_ada_tree::names::Names;
 use po_ada_tree::reserved::Reserved;
-use po_ada_tree::tree::{Declaration, Item, Name, Text};
+use po_ada_tree::tree::{Declaration, Item, Name, Text, Unread};
 use std::alloc::{AllocError, Global};
 
 /// A text has at most this many bytes.
@@ -24,16 +24,69 @@ impl<'a> Reader<'a> {
             if self.peek() == Element::End {
                 break;
             }
+            let (start, told) = (self.next, self.faults.len());
             match self.item() {
                 Ok(Some(item)) => list.push(item)?,
                 Ok(None) => {}
                 Err(stop) => {
                     go_on(stop)?;
-                    self.skip_semicolon();
+                    self.leave(start, told, &mut list)?;
                 }
             }
         }
         Ok(list)
+    }
+
+    /// Goes on after a faulty item, which began with this element and before which this many faults were told.
+    fn leave(&mut self, start: usize, told: usize, list: &mut Vec<Item>) -> Result<(), Stop> {
+        let faulty = self.next;
+        self.next = start;
+        if self.begins_outer() {
+            self.pass_over(told, list)
+        } else {
+            self.next = faulty;
+            self.skip_semicolon();
+            Ok(())
+        }
+    }
+
+    /// Whether a type, a subtype or an object comes next, which the protected units of the text may do without.
+    fn begins_outer(&self) -> bool {
+        match (self.peek(), self.ahead(1)) {
+            (Element::Reserved(Reserved::TypeWord), _) => true,
+            (Element::Reserved(Reserved::Subtype), _) => true,
+            (Element::Name(_), Element::Sign(Sign::Colon)) => true,
+            (Element::Name(_), Element::Sign(Sign::Comma)) => true,
+            _ => false,
+        }
+    }
+
+    /// Passes over a declaration outside of protected units that has what isn't in the subset: forgets the faults after this many.
+    fn pass_over(&mut self, told: usize, list: &mut Vec<Item>) -> Result<(), Stop> {
+        if self.sees(Reserved::TypeWord) || self.sees(Reserved::Subtype) {
+            self.step();
+        }
+        let name = self.name("a name")?;
+        list.push(self.unread_item(name, told)?)?;
+        for _ in 0..self.turns() {
+            if !self.takes_sign(Sign::Comma) {
+                break;
+            }
+            let name = self.name("a name")?;
+            list.push(self.unread_item(name, told)?)?;
+        }
+        self.faults.truncate(told);
+        self.skip_declaration();
+        Ok(())
+    }
+
+    /// An item of this name that isn't read, since a fault was told after this many.
+    fn unread_item(&self, name: Name, told: usize) -> Result<Item, AllocError> {
+        let fault = match self.faults.items.get(told) {
+            Some(fault) => Some(fault.copy(self.alloc)?),
+            None => None,
+        };
+        Ok(Item::Unread(Unread { name, fault }))
     }
 
     /// Reads an item; none if it changes no meaning.
@@ -55,6 +108,10 @@ impl<'a> Reader<'a> {
             }
             Element::Reserved(Reserved::Begin) => {
                 self.skip_program();
+                Ok(None)
+            }
+            Element::Reserved(Reserved::Overriding) | Element::Reserved(Reserved::Not) => {
+                self.step();
                 Ok(None)
             }
             Element::Reserved(Reserved::Task) => {
@@ -117,29 +174,50 @@ impl<'a> Reader<'a> {
         Ok(name)
     }
 
-    /// Opens a package: its items stand for themselves.
+    /// Opens a package: its items stand for themselves. An instance of a generic package is passed over.
     fn package(&mut self) -> Result<Option<Item>, Stop> {
-        let place = self.place();
         self.step();
         self.takes(Reserved::Body);
         let name = self.unit_name()?;
         self.ignored_aspects()?;
         self.needs(Reserved::Is)?;
         if self.sees(Reserved::New) {
-            return Err(self.refuse(
-                place,
-                "an instance of a generic package isn't in this subset (12.3)",
-            ));
+            return Ok(Some(self.instance(name)?));
         }
         Ok(Some(Item::Package(name)))
     }
 
+    /// Passes over an instance of a generic package.
+    fn instance(&mut self, name: Name) -> Result<Item, AllocError> {
+        let message = String::from_str(
+            self.alloc,
+            "an instance of a generic package isn't in this subset (12.3)",
+        )?;
+        self.skip_declaration();
+        let fault = Some(Fault {
+            place: name.place,
+            message,
+        });
+        Ok(Item::Unread(Unread { name, fault }))
+    }
+
+    /// Whether a main program comes next, with a protected unit before its statements.
+    fn sees_program(&self) -> bool {
+        let is_short = matches!(
+            self.ahead(3),
+            Element::Reserved(Reserved::New)
+                | Element::Reserved(Reserved::Null)
+                | Element::Reserved(Reserved::Separate)
+        );
+        self.sees(Reserved::Procedure)
+            && self.ahead(2) == Element::Reserved(Reserved::Is)
+            && !is_short
+            && self.holds_protected()
+    }
+
     /// Reads a subprogram, or opens a main program.
     fn subprogram(&mut self) -> Result<Option<Item>, Stop> {
-        let is_main = self.sees(Reserved::Procedure)
-            && self.ahead(2) == Element::Reserved(Reserved::Is)
-            && self.holds_protected();
-        if is_main {
+        if self.sees_program() {
             self.step();
             let name = self.name("the program's name")?;
             self.step();
@@ -157,14 +235,30 @@ impl<'a> Reader<'a> {
         }
     }
 
-    /// Passes over a subprogram outside of protected units that has what isn't in the subset. It may not be called.
+    /// Passes over a subprogram outside of protected units that has what isn't in the subset: forgets the faults after this many.
     fn unread(&mut self, start: usize, told: usize) -> Result<Option<Item>, Stop> {
-        self.faults.truncate(told);
         self.next = start;
         self.step();
         let name = self.name("the operation's name")?;
-        self.skip_unit(name);
-        Ok(Some(Item::Unread(name)))
+        let item = self.unread_item(name, told)?;
+        self.faults.truncate(told);
+        if self.skip_profile() {
+            self.skip_content(name);
+        }
+        Ok(Some(item))
+    }
+
+    /// Goes on past `is` and what comes after it in the subprogram of this name: a body, or a few words.
+    fn skip_content(&mut self, name: Name) {
+        self.step();
+        match self.peek() {
+            Element::Sign(_)
+            | Element::Reserved(Reserved::Abstract)
+            | Element::Reserved(Reserved::New)
+            | Element::Reserved(Reserved::Null)
+            | Element::Reserved(Reserved::Separate) => self.skip_declaration(),
+            _ => self.skip_unit(name),
+        }
     }
 
     /// Goes on past `end NAME;`.

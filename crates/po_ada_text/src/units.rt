@@ -156,7 +156,7 @@ impl<'a> Reader<'a> {
             self.semicolon()?;
             return Ok(Content::Statements(Vec::new(self.alloc), self.null_sequence(place)?));
         }
-        if self.sees_sign(Sign::LeftParenthesis) {
+        if self.sees_sign(Sign::LeftParenthesis) || self.sees_sign(Sign::LeftBracket) {
             let value = self.expression(MOST_LEVELS)?;
             self.ignored_aspects()?;
             self.semicolon()?;
@@ -217,13 +217,7 @@ impl<'a> Reader<'a> {
         let discriminants = self.discriminants()?;
         self.ignored_aspects()?;
         self.needs(Reserved::Is)?;
-        if self.sees(Reserved::New) {
-            let place = self.place();
-            return Err(self.refuse(
-                place,
-                "interfaces aren't in this subset: leave 'new .. with' out (9.4)",
-            ));
-        }
+        self.interfaces()?;
         let public = self.parts()?;
         let mut private = Vec::new(self.alloc);
         if self.takes(Reserved::Private) {
@@ -241,6 +235,15 @@ impl<'a> Reader<'a> {
             public,
             private,
         })
+    }
+
+    /// Passes over the interfaces that a protected unit implements, if it names any: they change no action of its object (9.4).
+    fn interfaces(&mut self) -> Result<(), Stop> {
+        if self.takes(Reserved::New) {
+            self.skip_to(Reserved::With);
+            self.needs(Reserved::With)?;
+        }
+        Ok(())
     }
 
     /// Reads discriminants in parentheses, if they come next (3.7).

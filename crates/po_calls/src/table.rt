@@ -210,6 +210,22 @@ impl<V: Copy> Table<V> {
         Some(end)
     }
 
+    /// Takes out a waiting call, whose end nobody collects. The ticket is then `Unknown` for good.
+    pub fn take_out(&mut self, ticket: Ticket)
+        requires { status_of (kept self.old ticket) ≡ Waiting }
+        ensures sets { Sets self.old self.new ticket None }
+        ensures updates { Updates self.old.calls self.new.calls ticket.key None }
+        ensures next_key { self.new.calls.vacant_key ≡ ticket.key }
+        ensures len { slab_len self.new.calls + 1 ≡ slab_len self.old.calls }
+        ensures room { HasRoomFor self.new.calls 1 }
+        ensures capacity { self.new.calls.capacity ≡ self.old.calls.capacity }
+        ensures last { self.new.last ≡ self.old.last }
+        ensures for_good { IsSpent self.new ticket }
+        ensures spent { KeepsSpent self.old self.new }
+    {
+        self.calls.remove(ticket.key);
+    }
+
     /// Gives a waiting call another entry and value, and sets whether it is protected against cancellation.
     pub fn requeue(&mut self, ticket: Ticket, entry: u16, value: V, without_abort: bool)
         requires { status_of (kept self.old ticket) ≡ Waiting }

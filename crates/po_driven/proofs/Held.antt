@@ -59,6 +59,10 @@ pub collected : (waiting : List (Call ℕ)) (ended : List (Ended ℕ)) (old new 
 collected waiting ended old new ticket r live over is sets =
     some_end r old new ticket.key ticket.number (subst (λ o. IsSome o) (sym is) (ended_end (find (has_ended ticket.number) ended) (find (has_number ticket.number) waiting) (is_live old ticket) live over)) sets (number_of ticket.number (number_at old ticket.key) live)
 
+-- a call whose ticket is given up no longer has one
+pub given_up : (old new : List (Option ℕ)) (ticket : Ticket) → is_live old ticket ≡ true → SetsTicket old new ticket.key None → uncollected new + 1 ≡ uncollected old
+given_up old new ticket live sets = one-less old new ticket.key ticket.number (number_of ticket.number (number_at old ticket.key) live) sets
+
 -- the call that has just ended is found among the ended ones
 pub ended_last : (n : ℕ) (xs : List (Ended ℕ)) (x : Call ℕ) (end : End ℕ) → x.number ≡ n → IsSome (find (has_ended n) (xs ++ ended_as end x ∷ []))
 ended_last n [] x end is = rw (subst (λ k. (x.number == k) ≡ true) is (eq_self x.number)) refl

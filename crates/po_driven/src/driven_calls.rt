@@ -57,15 +57,15 @@ fn finish(state: &mut State<ClientUnit>, call: Call<u64>, end: End<u64>)
       serving = None;
       tickets = state.new.tickets;
       most = state.new.most;
+      before = length state.old.state.ended + 1;
     } }
     ensures placed { IsThereOnce state.old → IsThereOnce state.new }
     ensures tickets { HasTickets state.old → HasTickets state.new }
     ensures room { KeepsRoom state.old state.new }
+    ensures kept_room { uncollected state.old.tickets < state.old.most → state.new.most ≡ state.old.most }
     ensures tickets_kept { KeepsTickets state.old state.new }
 {
-    let ticket = state.ticket_in_service(call);
-    state.end_call(call, end);
-    state.collect(ticket);
+    state.end_collected(call, end);
 }
 
 /// Cancels a queued call, and gives up its ticket.
@@ -85,6 +85,7 @@ fn withdraw(state: &mut State<ClientUnit>, ticket: Ticket)
     ensures placed { IsThereOnce state.old → IsThereOnce state.new }
     ensures tickets { HasTickets state.old → HasTickets state.new }
     ensures room { KeepsRoom state.old state.new }
+    ensures kept_room { uncollected state.old.tickets < state.old.most → state.new.most ≡ state.old.most }
     ensures tickets_kept { KeepsTickets state.old state.new }
 {
     state.cancel(ticket);
@@ -322,6 +323,7 @@ impl DrivenCalls {
         ensures serving { self.new.object.serving ≡ result }
         ensures happened { self.new.happened ≡ self.old.happened ++ Selected e ∷ [] }
         ensures room_kept { KeepsRoom self.old.object self.new.object }
+        ensures kept_room { uncollected self.old.object.tickets < self.old.object.most → self.new.object.most ≡ self.old.object.most }
         ensures tickets_kept { KeepsTickets self.old.object self.new.object }
     {
         let call = self.state.take_on(e);
@@ -338,6 +340,7 @@ impl DrivenCalls {
         ensures serving { self.new.object.serving ≡ None }
         ensures happened { self.new.happened ≡ self.old.happened ++ Ended end ∷ [] }
         ensures room_kept { KeepsRoom self.old.object self.new.object }
+        ensures kept_room { uncollected self.old.object.tickets < self.old.object.most → self.new.object.most ≡ self.old.object.most }
         ensures tickets_kept { KeepsTickets self.old.object self.new.object }
     {
         finish(&mut self.state, call, end);
@@ -353,6 +356,7 @@ impl DrivenCalls {
         ensures serving { self.new.object.serving ≡ None }
         ensures happened { self.new.happened ≡ self.old.happened ++ RequeuedElsewhere ∷ [] }
         ensures room_kept { KeepsRoom self.old.object self.new.object }
+        ensures kept_room { uncollected self.old.object.tickets < self.old.object.most → self.new.object.most ≡ self.old.object.most }
         ensures tickets_kept { KeepsTickets self.old.object self.new.object }
     {
         finish(&mut self.state, call, End::Completed(call.value));
@@ -396,6 +400,7 @@ impl DrivenCalls {
         ensures live { IfSome result (λ ticket. is_live self.new.object.tickets ticket ≡ true) }
         ensures full { IfNone result (is_full longest (count_by (is_on target) self.old.object.state.waiting) ≡ true) }
         ensures room_kept { KeepsRoom self.old.object self.new.object }
+        ensures kept_room { uncollected self.old.object.tickets < self.old.object.most → self.new.object.most ≡ self.old.object.most }
         ensures tickets_kept { KeepsTickets self.old.object self.new.object }
     {
         let queueing = Queueing {
@@ -438,6 +443,7 @@ impl DrivenCalls {
         ensures live { IfSome result (λ ticket. is_live self.new.object.tickets ticket ≡ true) }
         ensures full { IfNone result (is_full longest (count_by (is_on requeue.target) self.old.object.state.waiting) ≡ true) }
         ensures room_kept { KeepsRoom self.old.object self.new.object }
+        ensures kept_room { uncollected self.old.object.tickets < self.old.object.most → self.new.object.most ≡ self.old.object.most }
         ensures tickets_kept { KeepsTickets self.old.object self.new.object }
     {
         let moved = if requeue.due {
@@ -457,6 +463,7 @@ impl DrivenCalls {
         ensures none { IfNone result (self.new ≡ self.old) }
         ensures happened { self.new.happened ≡ self.old.happened ++ cancellation_of result }
         ensures room_kept { KeepsRoom self.old.object self.new.object }
+        ensures kept_room { uncollected self.old.object.tickets < self.old.object.most → self.new.object.most ≡ self.old.object.most }
         ensures tickets_kept { KeepsTickets self.old.object self.new.object }
     {
         let ticket = self.state.first_due()?;
@@ -476,6 +483,7 @@ impl DrivenCalls {
         ensures happened { IfSome result (λ _. self.new.happened ≡ self.old.happened ++ Broken ∷ []) }
         ensures same { IfNone result (self.new.happened ≡ self.old.happened) }
         ensures room_kept { KeepsRoom self.old.object self.new.object }
+        ensures kept_room { uncollected self.old.object.tickets < self.old.object.most → self.new.object.most ≡ self.old.object.most }
         ensures tickets_kept { KeepsTickets self.old.object self.new.object }
     {
         let call = self.state.take_oldest()?;
@@ -494,6 +502,7 @@ impl DrivenCalls {
         ensures serving { self.new.object.serving ≡ None }
         ensures happened { self.new.happened ≡ self.old.happened ++ Cancelled ticket.number ∷ [] }
         ensures room_kept { KeepsRoom self.old.object self.new.object }
+        ensures kept_room { uncollected self.old.object.tickets < self.old.object.most → self.new.object.most ≡ self.old.object.most }
         ensures tickets_kept { KeepsTickets self.old.object self.new.object }
     {
         withdraw(&mut self.state, ticket);
@@ -512,6 +521,7 @@ impl DrivenCalls {
         ensures happened { self.new.happened ≡ self.old.happened ++ Marked ticket.number ∷ [] }
         ensures rests { (closed : List ℕ) → IsAtRest self.old.object closed → IsAtRest self.new.object closed }
         ensures room_kept { KeepsRoom self.old.object self.new.object }
+        ensures kept_room { uncollected self.old.object.tickets < self.old.object.most → self.new.object.most ≡ self.old.object.most }
         ensures tickets_kept { KeepsTickets self.old.object self.new.object }
     {
         self.state.attempt_cancel(ticket);

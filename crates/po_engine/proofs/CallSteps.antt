@@ -25,7 +25,7 @@ pub record IsLeft (most len capacity reserved left : ℕ) : Type 0 where
   pub all : capacity ≤ reserved → left ≡ most
   pub none : reserved < capacity → left ≡ len
 
-left_between : (most len capacity reserved left : ℕ) → len + 1 ≤ most → IsLeft most len capacity reserved left → (len ≤ left) × (left ≤ most)
+pub left_between : (most len capacity reserved left : ℕ) → len + 1 ≤ most → IsLeft most len capacity reserved left → (len ≤ left) × (left ≤ most)
 left_between most len capacity reserved left few is = elim (cases_lt reserved capacity) [
   | inl lt ↦ (omega (arith, is.none lt), omega (arith, few, is.none lt))
   | inr le ↦ (omega (arith, few, is.all le), omega (arith, is.all le))
@@ -42,6 +42,12 @@ module _ {V : Type 0} where
       → AreReserved fixed calls reserved most → key < reserved
   key_reserved true calls reserved most key low few h = omega (arith, low, h)
   key_reserved false calls reserved most key low few h = omega (arith, low, h few)
+
+  -- If there is room for one more call, each key that the table may give can be queued.
+  pub all_reserved : (fixed : Bool) (calls : Slab (Kept V)) (reserved most : ℕ) → slab_len calls < most → AreReserved fixed calls reserved most
+      → calls.capacity ≤ reserved
+  all_reserved true calls reserved most few h = h
+  all_reserved false calls reserved most few h = h few
 
   -- No memory is lost as long as no call is collected.
   pub reserved_kept : (fixed : Bool) (old new : Slab (Kept V)) (reserved most : ℕ) → slab_len old ≤ slab_len new → new.capacity ≡ old.capacity

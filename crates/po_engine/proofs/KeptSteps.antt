@@ -147,6 +147,28 @@ module _ {V : Type 0} where
       some_same : (j k : ℕ) → Some j ≡ Some k → j ≡ k
       some_same j k e = cc
 
+  -- A waiting call ends, and is taken out.
+  pub kept_taken_out : (old new : Slab (Kept V)) (k : ℕ) (x : Call V) (end : End V) (index : ℕ → Option ℕ) (ended : List (Ended V)) → call_at old k ≡ Some x
+      → Updates old new k None → IsKeptWell old index ended → IsKeptWell new index (ended ++ ended_as end x ∷ [])
+  kept_taken_out old new k x end index ended at u is =
+      let led = waiting_indexed old k x index ended at is in
+      record {
+        indexed = λ j w found. elim (cases_eq j k) [
+          | inl e ↦ let bad : None ≡ Some w = sym u.changed ∙ ap (get new) (sym e) ∙ found in absurd (cc)
+          | inr ne ↦ is.indexed j w (sym (u.others j ne) ∙ found)
+        ];
+        ends = λ j w found. elim (cases_eq j k) [
+          | inl e ↦ let bad : None ≡ Some w = sym u.changed ∙ ap (get new) (sym e) ∙ found in absurd (cc)
+          | inr ne ↦
+              let was = sym (u.others j ne) ∙ found in
+              let its = is.indexed j w was in
+              is.ends j w was ∙ ap (option_map (λ y. y.end)) (sym (find_other w.call.number ended (ended_as end x) (λ e. ne (key_same j k (sym its ∙ ap index (sym e) ∙ led)))))
+        ];
+      }
+    where
+      key_same : (j k : ℕ) → Some j ≡ Some k → j ≡ k
+      key_same j k e = cc
+
   -- A call that isn't in the table is numbered and has ended: what is kept of the others stays.
   pub kept_beside : (calls : Slab (Kept V)) (index later : ℕ → Option ℕ) (ended : List (Ended V)) (x : Ended V)
       → ((n j : ℕ) → index n ≡ Some j → later n ≡ Some j) → ((n j : ℕ) → index n ≡ Some j → n < x.number) → IsKeptWell calls index ended

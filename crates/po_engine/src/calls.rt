@@ -2,6 +2,7 @@
 //! The calls of an object: those that wait, on their queues, and those that have just ended.
 
 ghost use Rattle.std.specs.Prelude.{◌≡◌, ◌<◌, ◌≤◌, ◌+◌, [], ℕ, map, length, Some, None, true, false, IfOk, IsOk, OnOk, OnErr, find};
+ghost use Rattle.slab.specs.Slab.{slab_len};
 ghost use Rattle.po_engine.specs.WaitingCalls.{has_number};
 ghost use Rattle.po_engine.specs.Tickets.{number_at, uncollected};
 ghost use Rattle.po_engine.specs.Calls.{AreCallsSound, HasTicket, key_of, expires_at as time_of_expiration};
@@ -94,13 +95,17 @@ fn reserve_below(queues: &mut EntryQueues, keys: usize) -> Result<(), AllocError
     Ok(())
 }
 
-/// Returns how many calls there is room for after one is collected and `len` are left: as many as before, if each key that the
-/// table may give can be queued.
-fn room_left(most: usize, len: usize, capacity: usize, reserved: usize) -> usize
-    ensures all { capacity ≤ reserved → result ≡ most }
-    ensures left { reserved < capacity → result ≡ len }
+/// Returns how many calls there is room for after one has left the table: as many as before, if each key that the table may give can
+/// be queued, and otherwise those that are left.
+fn room_left<V: Copy>(most: usize, table: &Table<V>, queues: &EntryQueues) -> usize
+    ensures all { table.now.calls.capacity ≤ queues.now.reserved → result ≡ most }
+    ensures none { queues.now.reserved < table.now.calls.capacity → result ≡ slab_len table.now.calls }
 {
-    if capacity <= reserved { most } else { len }
+    if table.capacity() <= queues.reserved() {
+        most
+    } else {
+        table.len()
+    }
 }
 
 impl<V: Copy> Calls<V> {
@@ -179,7 +184,7 @@ impl<V: Copy> Calls<V> {
         })
     }
 
-    /// Makes room for one more call if there is none. A collected call leaves its room to another.
+    /// Makes room for one more call if there is none. A call that is collected while there is room leaves its own to another.
     pub fn reserve(&mut self) -> Result<(), AllocError>
         requires { self.old.is_fixed ≡ false }
         ensures same { self.new ≡ record self.old { most = self.new.most } }

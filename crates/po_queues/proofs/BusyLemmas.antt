@@ -1,5 +1,5 @@
 -- The bits of entries: writing one, finding the next set one, and what they say about the queues.
-use Rattle.std.proofs.Common.{◌≡◌, ◌≢◌, ℕ, ◌+◌, ◌-◌, ◌*◌, ◌/◌, ◌%◌, ◌^◌, ◌<◌, ◌≤◌, min, Bool, true, false, eqb, ltb}
+use Rattle.std.proofs.Common.{◌≡◌, ◌≢◌, ℕ, suc, ◌+◌, ◌-◌, ◌*◌, ◌/◌, ◌%◌, ◌^◌, ◌<◌, ◌≤◌, min, Bool, true, false, eqb, ltb}
 use Rattle.std.proofs.Common.{List, [], ◌∷◌, ◌++◌, length, get_or, set, replicate, Some, refl, sym, ap, ◌∙◌, inl, inr}
 use Rattle.std.proofs.Common.{arith}
 use Rattle.std.specs.Int.{bit_at, w64, trailing_zeros}
@@ -263,3 +263,96 @@ next_busy_from_bit queues words from e m all next =
       busy = some_queue (queue_of e queues.items) has;
       idle_before = λ f here below. idle_queue queues.total words queues.items f m (next.clear_before f here below);
     }
+
+-- the bit of an entry below 64 is in the first word
+pub low_bit : (word : ℕ) (words : List ℕ) (e : ℕ) → e < 64 → bit_of (word ∷ words) e ≡ bit_at word e
+low_bit word words e low = bit_of-at (word ∷ words) 0 e e (omega arith) low
+
+-- the bit of any other entry is in the words after it
+pub high_bit : (word : ℕ) (words : List ℕ) (e : ℕ) → 64 ≤ e → bit_of (word ∷ words) e ≡ bit_of words (e - 64)
+high_bit word words e high =
+    bit_of-at (word ∷ words) (suc ((e - 64) / 64)) ((e - 64) % 64) e (omega (arith, high)) (omega arith)
+
+-- a bit of the first word is written
+pub writes_low : (word word' : ℕ) (words : List ℕ) (entry bit : ℕ) → entry < 64 → bit_at word' entry ≡ bit
+    → ((i : ℕ) → i < 64 → i ≢ entry → bit_at word' i ≡ bit_at word i)
+    → WritesBit (word ∷ words) (word' ∷ words) entry bit
+writes_low word word' words entry bit low same others = record {
+  same = low_bit word' words entry low ∙ same;
+  others = λ e ne. elim (cases_lt e 64) [
+    | inl lt ↦ low_bit word' words e lt ∙ others e lt ne ∙ sym (low_bit word words e lt)
+    | inr ge ↦ high_bit word' words e ge ∙ sym (high_bit word words e ge)
+  ];
+  len = refl;
+}
+
+-- a bit of the words after the first is written
+pub writes_high : (word : ℕ) (words words' : List ℕ) (entry bit : ℕ) → 64 ≤ entry → bit_of words' (entry - 64) ≡ bit
+    → ((e : ℕ) → e ≢ entry - 64 → bit_of words' e ≡ bit_of words e) → length words' ≡ length words
+    → WritesBit (word ∷ words) (word ∷ words') entry bit
+writes_high word words words' entry bit high same others len = record {
+  same = high_bit word words' entry high ∙ same;
+  others = λ e ne. elim (cases_lt e 64) [
+    | inl lt ↦ low_bit word words' e lt ∙ sym (low_bit word words e lt)
+    | inr ge ↦ high_bit word words' e ge ∙ others (e - 64) (λ q. ne (omega (arith, q, ge, high)))
+        ∙ sym (high_bit word words e ge)
+  ];
+  len = omega (arith, len);
+}
+
+-- the next bit of the first word is the next of all
+pub low_next : (word : ℕ) (words : List ℕ) (from e : ℕ) → e < 64 → IsNextBit (word ∷ []) from e
+    → IsNextBit (word ∷ words) from e
+low_next word words from e low next = record {
+  from_here = next.from_here;
+  is_set = low_bit word words e low ∙ sym (low_bit word [] e low) ∙ next.is_set;
+  clear_before = λ f here before.
+      let lt : f < 64 = omega (arith, before, low) in
+      low_bit word words f lt ∙ sym (low_bit word [] f lt) ∙ next.clear_before f here before;
+}
+
+-- if the first word has no bit from here on, the next bit is that of the words after it
+pub next_after_low : (word : ℕ) (words : List ℕ) (from e : ℕ) → from < 64
+    → ((b : ℕ) → from ≤ b → b < 64 → bit_of (word ∷ []) b ≡ 0) → IsNextBit (word ∷ words) 64 e
+    → IsNextBit (word ∷ words) from e
+next_after_low word words from e low clear next = record {
+  from_here = omega (arith, low, next.from_here);
+  is_set = next.is_set;
+  clear_before = λ f here before. elim (cases_lt f 64) [
+    | inl lt ↦ low_bit word words f lt ∙ sym (low_bit word [] f lt) ∙ clear f here lt
+    | inr ge ↦ next.clear_before f ge before
+  ];
+}
+
+-- if neither the first word nor those after it have a bit from here on, there is none
+pub none_after_low : (word : ℕ) (words : List ℕ) (from : ℕ)
+    → ((b : ℕ) → from ≤ b → b < 64 → bit_of (word ∷ []) b ≡ 0)
+    → ((b : ℕ) → 64 ≤ b → bit_of (word ∷ words) b ≡ 0) → (b : ℕ) → from ≤ b → bit_of (word ∷ words) b ≡ 0
+none_after_low word words from clear later b here = elim (cases_lt b 64) [
+  | inl lt ↦ low_bit word words b lt ∙ sym (low_bit word [] b lt) ∙ clear b here lt
+  | inr ge ↦ later b ge
+]
+
+-- the next bit of the words after the first, from 64 on
+pub high_next : (word : ℕ) (words : List ℕ) (from e : ℕ) → 64 ≤ from → IsNextBit words (from - 64) e
+    → IsNextBit (word ∷ words) from (64 + e)
+high_next word words from e high next = record {
+  from_here = omega (arith, high, next.from_here);
+  is_set = high_bit word words (64 + e) (omega arith) ∙ ap (bit_of words) (omega arith) ∙ next.is_set;
+  clear_before = λ f here before.
+      high_bit word words f (omega (arith, here, high))
+      ∙ next.clear_before (f - 64) (omega (arith, here, high)) (omega (arith, before, here, high));
+}
+
+-- if the words after the first have no bit from here on, there is none
+pub high_none : (word : ℕ) (words : List ℕ) (from : ℕ) → 64 ≤ from
+    → ((b : ℕ) → from - 64 ≤ b → bit_of words b ≡ 0) → (b : ℕ) → from ≤ b → bit_of (word ∷ words) b ≡ 0
+high_none word words from high none b here =
+    high_bit word words b (omega (arith, here, high)) ∙ none (b - 64) (omega (arith, here, high))
+
+-- a set bit is in one of the words
+pub bit_within : (words : List ℕ) (e : ℕ) → bit_of words e ≡ 1 → e < 64 * length words
+bit_within words e is_set = elim (cases_lt e (64 * length words)) [
+  | inl lt ↦ lt
+  | inr ge ↦ absurd (omega (arith, is_set, bit_of-past words e (omega (arith, ge))))
+]

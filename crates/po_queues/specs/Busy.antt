@@ -1,7 +1,7 @@
 -- SPDX-License-Identifier: MIT
 -- Which entries have a queued key, and the bits that say so.
 use Rattle.std.specs.Prelude.{ℕ, ◌≡◌, ◌<◌, ◌≤◌, ◌*◌, ◌/◌, ◌%◌, Bool, true, false, List, [], ◌∷◌, length, slice_index_or}
-use Rattle.std.specs.Prelude.{nat_lt}
+use Rattle.std.specs.Prelude.{nat_lt, Option, Some, None}
 use Rattle.std.specs.Int.{bit_at}
 use Rattle.po_queues.specs.QueuedKeys.{QueuedKey, QueuesView, queue_of, keys_on}
 
@@ -26,6 +26,11 @@ pub record IsNextBit (words : List ℕ) (from entry : ℕ) : Type 0 where
   pub from_here : from ≤ entry
   pub is_set : bit_of words entry ≡ 1
   pub clear_before : (e : ℕ) → from ≤ e → e < entry → bit_of words e ≡ 0
+
+-- The words, if there are any.
+abbrev pub words_in : Option (List ℕ) → List ℕ
+words_in None = []
+words_in (Some words) = words
 
 -- A bit for each word says whether one of the word's own bits is set, and there are enough words of such bits.
 pub record SumsUp (words sums : List ℕ) : Type 0 where

@@ -84,7 +84,7 @@ impl Bits {
 }
 
 /// Returns the word with this bit set or cleared.
-fn with_bit(word: u64, bit: u16, is_set: bool) -> u64
+pub(crate) fn with_bit(word: u64, bit: u16, is_set: bool) -> u64
     requires { bit < 64 }
     ensures same { bit_at result bit ≡ bit_when is_set }
     ensures others { (i : ℕ) → i < 64 → i ≢ bit → bit_at result i ≡ bit_at word i }

@@ -97,6 +97,8 @@ impl Expirations {
     }
 
     /// Takes out the call of the key, and returns whether it was there.
+    // Inlined, so that a call that never expires costs no more than a look.
+    #[inline(always)]
     pub fn remove(&mut self, key: usize) -> bool
         ensures was_there { result ≡ is_some (call_of self.old.calls key) }
         ensures others { self.new ≡ record self.old { calls = slice_set self.old.calls key None } }
@@ -104,13 +106,21 @@ impl Expirations {
         let Some(call) = call_at(&self.calls, key) else {
             return false;
         };
+        self.take_out(key, call);
+        true
+    }
+
+    /// Takes out the call of the key, which expires in this way.
+    fn take_out(&mut self, key: usize, call: Expiration)
+        requires { call_of self.old.calls key ≡ Some call }
+        ensures { self.new ≡ record self.old { calls = slice_set self.old.calls key None } }
+    {
         self.calls[key] = None;
         if call.time <= self.clock {
             self.due.set(key, None);
         } else {
             self.later.set(key, None);
         }
-        true
     }
 
     /// Returns the key of the call that arrived first of those whose time has come, if there is one (9.7.2).

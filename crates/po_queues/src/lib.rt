@@ -13,6 +13,7 @@
 mod arrivals;
 mod bits;
 mod busy;
+mod busy_words;
 mod chain;
 mod entry_queues;
 mod examination;

@@ -202,7 +202,8 @@ impl Queues {
 
     /// Returns the first entry from this one on that has a queued key.
     ///
-    /// Reads three words of bits, and one more for each 4,096 entries that it passes.
+    /// Reads one word of bits for the first 64 entries. Then it reads three for all others, and one more for each 4,096 entries that
+    /// it passes.
     pub fn next_busy(&self, from: u16) -> Option<u16>
         ensures some { IfSome result (λ e. IsNextBusy self.now from e) }
         ensures none { IsNone result → (e : ℕ) → from ≤ e → queue_of e self.now.items ≡ [] }

@@ -5,8 +5,8 @@
 
 mod asked;
 mod check;
-mod files;
 mod run;
+mod script;
 mod status;
 
 use asked::Asked;
@@ -23,8 +23,8 @@ fn start<R: Env + Input + Print + Eprint + Files + AllocGlobal>(
 ) -> Result<u8, CommandError> {
     match asked::parse(rt)? {
         Asked::Run(file) => Ok(run::run(rt, file, is_typed)),
-        Asked::CheckText(file) => Ok(check::check_text(rt, file.as_str())),
-        Asked::CheckScript(file) => Ok(check::check_script_of(rt, file.as_str())),
+        Asked::CheckText(file) => Ok(check::check_text(rt, file)),
+        Asked::CheckScript(file) => Ok(check::check_script_of(rt, file)),
     }
 }
 

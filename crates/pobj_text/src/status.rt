@@ -30,7 +30,7 @@ pub(crate) fn print_fault<R: Eprint>(rt: &R, fault: &RunFault) -> u8 {
             let _ = eprint!(rt; "{lines}");
             return FINDINGS;
         }
-        RunFault::Unreadable(name) => {
+        RunFault::Unread(name) => {
             let _ = eprintln!(rt; "{NAME}: {name} can't be read");
             return NO_MEANS;
         }

@@ -120,6 +120,41 @@ impl<V: Copy> Calls<V> {
         self.serving = None;
     }
 
+    /// Ends the call in service and gives up its ticket, in a command of its own: nobody collects its end.
+    pub fn end_collected(&mut self, call: Call<V>, end: End<V>) -> Ticket
+        requires { self.old.serving ≡ Some call }
+        ensures after { self.new ≡ record self.old {
+          serving = None;
+          ended = self.old.ended ++ ended_as end call ∷ [];
+          ended_before = length self.old.ended + 1;
+          tickets = self.new.tickets;
+          most = self.new.most;
+        } }
+        ensures number { result.number ≡ call.number }
+        ensures live { is_live self.old.tickets result ≡ true }
+        ensures taken { SetsTicket self.old.tickets self.new.tickets result.key None }
+        ensures room { self.old.is_fixed ≡ true → self.new.most ≡ self.old.most }
+        ensures kept_room { uncollected self.old.tickets < self.old.most → self.new.most ≡ self.old.most }
+    {
+        let number = call.number;
+        let Some(key) = self.serving else {
+            return Ticket { key: 0, number };
+        };
+        let ticket = Ticket { key, number };
+        self.table.take_out(ticket);
+        let over = Ended {
+            number,
+            owner: call.owner,
+            end,
+        };
+        self.ended = self.ended.then(&over);
+        self.before = self.ended.copy();
+        self.ended_now.clear();
+        self.serving = None;
+        self.most = room_left(self.most, &self.table, &self.queues);
+        ticket
+    }
+
     /// Gives a new call its number and ends it, in a command of its own. The call was never in service or queued, so it takes no
     /// room and gets no ticket.
     pub fn end_at_once(&mut self, call: Call<V>, end: End<V>)
@@ -242,16 +277,11 @@ impl<V: Copy> Calls<V> {
         ensures taken { OnSome result (SetsTicket self.old.tickets self.new.tickets ticket.key None) }
         ensures rest { self.new ≡ record self.old { tickets = self.new.tickets; most = self.new.most } }
         ensures room { self.old.is_fixed ≡ true → self.new.most ≡ self.old.most }
+        ensures kept_room { uncollected self.old.tickets < self.old.most → self.new.most ≡ self.old.most }
         ensures left { IfNone result (self.new ≡ self.old) }
     {
         let end = self.table.collect(ticket)?;
-        let len = self.table.len();
-        self.most = room_left(
-            self.most,
-            len,
-            self.table.capacity(),
-            self.queues.reserved(),
-        );
+        self.most = room_left(self.most, &self.table, &self.queues);
         Some(end)
     }
 }

@@ -45,6 +45,26 @@ impl<U: Unit> State<U> {
         self.calls.end(call, end);
     }
 
+    /// Ends the call in service and gives up its ticket, in a command of its own: nobody collects its end.
+    #[inline(always)]
+    pub fn end_collected(&mut self, call: Call<U::Value>, end: End<U::Value>) -> Ticket
+        requires { self.old.serving ≡ Some call }
+        ensures after { self.new ≡ record self.old {
+          state = end_call self.old.state call end;
+          serving = None;
+          tickets = self.new.tickets;
+          most = self.new.most;
+          before = length self.old.state.ended + 1;
+        } }
+        ensures number { result.number ≡ call.number }
+        ensures live { is_live self.old.tickets result ≡ true }
+        ensures taken { SetsTicket self.old.tickets self.new.tickets result.key None }
+        ensures room { self.old.is_fixed ≡ true → self.new.most ≡ self.old.most }
+        ensures kept_room { uncollected self.old.tickets < self.old.most → self.new.most ≡ self.old.most }
+    {
+        self.calls.end_collected(call, end)
+    }
+
     /// Puts the call in service at the end of the queues.
     fn queue(&mut self, call: Call<U::Value>, place: u128)
         requires serving { self.old.serving ≡ Some call }
@@ -431,6 +451,7 @@ impl<U: Unit> State<U> {
         ensures taken { OnSome result (SetsTicket self.old.tickets self.new.tickets ticket.key None) }
         ensures rest { self.new ≡ record self.old { tickets = self.new.tickets; most = self.new.most } }
         ensures room { self.old.is_fixed ≡ true → self.new.most ≡ self.old.most }
+        ensures kept_room { uncollected self.old.tickets < self.old.most → self.new.most ≡ self.old.most }
         ensures left { IfNone result (self.new ≡ self.old) }
     {
         self.calls.collect(ticket)

@@ -3,7 +3,6 @@ use Rattle.std.proofs.lemmas.List.Elements.{All-weaker}
 use Rattle.po_calls.specs.Calls.{waiting_call, IsAbove}
 use Rattle.po_engine.specs.declared.ended.Ended.{Ended}
 use Rattle.slab.specs.Slab.{slab_len}
-use Rattle.po_calls.specs.declared.ticket.Ticket.{Ticket}
 use Rattle.po_engine.specs.Calls.{IsQueued, IsKeptWell, call_at, key_of, calls_in_service}
 use Rattle.po_engine.proofs.CallSteps.{key_reserved, reserved_kept}
 use Rattle.po_engine.proofs.ServiceSteps.{added, none_serving}

@@ -1,13 +1,13 @@
 -- The end that the table returns is the one that is seen, and only the tickets and the room change.
-use Rattle.std.proofs.Common.{◌∙◌, arith, ap, sym, refl, subst, None}
-use Rattle.std.proofs.Common.{◌≡◌}
+use Rattle.std.proofs.Common.{◌∙◌, ◌<◌, arith, ap, sym, refl, None}
 use Rattle.slab.specs.Slab.{slab_len}
 use Rattle.po_calls.specs.Calls.{kept}
 use Rattle.po_engine.specs.Tickets.{end_at}
 use Rattle.po_engine.specs.Calls.{key_of}
 use Rattle.po_engine.proofs.CallPlaces.{place_is, end_is, leaves}
 use Rattle.po_engine.proofs.KeptSteps.{ticket_set}
-use Rattle.po_engine.proofs.CallSteps.{IsLeft, collected}
+use Rattle.po_engine.proofs.CallSteps.{IsLeft, all_reserved, collected}
+use Rattle.po_engine.proofs.Uncollected.{uncollected_kept}
 use Rattle.po_engine.proofs.calls.Calls.collect.Goals as goal
 
 pub returns-in_err-end-clause-end : goal.returns-in_err-end-clause-end
@@ -23,8 +23,8 @@ invariant_of-self-2 g c =
     let s = c.self.inside in let e = c.in_ok-end.ensures in
     let r = c.room_left-self-inside.ensures in
     let given : IsLeft s.most (slab_len c.collect.new.self.calls) c.collect.new.self.calls.capacity s.queues.reserved c.room_left-self-inside.result = record {
-      all = λ le. r.all (omega (arith, le, c.capacity.ensures, c.reserved.ensures));
-      none = λ lt. r.left (omega (arith, lt, c.capacity.ensures, c.reserved.ensures)) ∙ c.len-len.ensures;
+      all = r.all;
+      none = r.none;
     } in
     (collected s.table c.collect.new.self s.queues s.keys.items s.ended.items s.before.items s.ended_now s.first s.next s.serving s.most c.room_left-self-inside.result s.is_fixed c.args.ticket c.in_ok-end.end e.exact e.updates e.len e.capacity e.last given c.self.invariant).keeps
 
@@ -46,3 +46,11 @@ returns-clause-rest g c =
     let e = c.in_ok-end.ensures in
     let l = leaves s.table c.collect.new.self.calls (key_of s.first s.keys.items) s.queues s.serving s.ended.items c.args.ticket c.in_ok-end.end (sym e.exact) e.updates i.queued i.kept in
     rw (← c.self.view_is) (rw (l.waiting, l.in_service) refl)
+
+pub returns-clause-kept_room : goal.returns-clause-kept_room
+returns-clause-kept_room g c = λ room.
+    let s = c.self.inside in let i = c.self.invariant in
+    let has_room = rw (← c.self.view_is) at room in
+    let few : slab_len s.table.calls < s.most = omega (arith, uncollected_kept s.table.calls.slots, has_room) in
+    let all = all_reserved s.is_fixed s.table.calls s.queues.reserved s.most few i.reserved in
+    rw (← c.self.view_is) (c.room_left-self-inside.ensures.all (omega (arith, all, c.in_ok-end.ensures.capacity)))

@@ -2,7 +2,7 @@
 use Rattle.std.proofs.Common.{◌≡◌, ◌*◌, ◌/◌, ◌∙◌, sym, arith}
 use Rattle.std.proofs.lemmas.Option.{IfSome_then}
 use Rattle.po_queues.proofs.BusyLemmas.{next_bit_behind, some_word}
-use Rattle.po_queues.proofs.busy.BusyEntries.next.Goals as goal
+use Rattle.po_queues.proofs.busy_words.BusyWords.next.Goals as goal
 
 pub returns-clause-some : goal.returns-clause-some
 returns-clause-some c = rw (← c.self.view_is) (IfSome_then c.next_in_word.result c.next_in_word.ensures.some (λ e first.
