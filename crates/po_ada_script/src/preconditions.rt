@@ -31,7 +31,7 @@ fn refusal<U: Unit>(core: &Core<U>, entry: EntryRef) -> Option<Refusal>
         Some(declaration) if !declaration.public => Some(Refusal::PrivateEntry),
         Some(_) => match core.count(entry) {
             Ok(_) => None,
-            Err(refusal) => Some(refusal),
+            Err(why) => Some(why),
         },
     }
 }
