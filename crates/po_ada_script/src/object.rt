@@ -126,7 +126,6 @@ impl<U: TextUnit> TextObject<U> {
 
     /// Carries out the operation, unless it is a call whose precondition doesn't hold, and puts the lines that answer it into the
     /// empty reply.
-    #[tactic(auto, using(crate::proofs::Asking::failed, crate::proofs::Asking::held))]
     pub(crate) fn operate(
         &mut self,
         operation: Operation<U::Value>,

@@ -1,13 +1,13 @@
 // SPDX-License-Identifier: MIT
 //! The preconditions of entries, which are asked before a call is issued (6.1.1).
 
-ghost use Rattle.std.specs.Prelude.{◌≡◌, None, Some};
+ghost use Rattle.std.specs.Prelude.{◌≡◌, ◌↔◌, IsTrue, None, Some};
 ghost use Rattle.po_core.specs.Refusals.{entry_refusal};
 ghost use Rattle.po_ada_script.specs.Preconditions.{asked as answer_of, call_failure as failure_of_call, failed_precondition as failure_by, failure_of, precondition_of};
 
 use po_ada_language::{Operation, TextUnit};
 use po_ada_names::ObjectNames;
-use po_core::{Core, Refusal};
+use po_core::Core;
 use po_program::ASSERTION_ERROR;
 use po_unit::{EntryRef, Unit};
 
@@ -21,18 +21,13 @@ fn precondition(names: &ObjectNames, declaration: u16) -> Option<u16>
     }
 }
 
-/// Returns the refusal of each call of this entry from outside, if there is one: it isn't declared in the visible part, or has no
-/// such index.
-fn refusal<U: Unit>(core: &Core<U>, entry: EntryRef) -> Option<Refusal>
-    ensures { result ≡ entry_refusal core.now.object.setup.shape entry None }
+/// Returns whether the entry can be called from outside: it is declared in the visible part, and has this index.
+fn is_callable<U: Unit>(core: &Core<U>, entry: EntryRef) -> bool
+    ensures { IsTrue result ↔ (entry_refusal core.now.object.setup.shape entry None ≡ None) }
 {
     match core.shape().decl(entry.declaration) {
-        None => Some(Refusal::NoSuchEntry),
-        Some(declaration) if !declaration.public => Some(Refusal::PrivateEntry),
-        Some(_) => match core.count(entry) {
-            Ok(_) => None,
-            Err(why) => Some(why),
-        },
+        Some(declaration) => declaration.public && core.shape().flat(entry).is_ok(),
+        None => false,
     }
 }
 
@@ -53,7 +48,6 @@ fn failure<U: TextUnit>(replied: Result<U::Value, u32>) -> Option<u32>
 }
 
 /// Returns the exception that the function with this number, a precondition, raises for a call with this value.
-#[tactic(auto, using(crate::proofs::Asking::admitted, crate::proofs::Asking::refused))]
 fn asked<U: TextUnit>(core: &Core<U>, op: u16, value: U::Value) -> Option<u32>
     ensures { result ≡ answer_of U.meaning U.parameters core.now.object value (Some op) }
 {
@@ -64,7 +58,6 @@ fn asked<U: TextUnit>(core: &Core<U>, op: u16, value: U::Value) -> Option<u32>
 }
 
 /// Returns the exception that the precondition of an entry raises for a call with this value. A call that is refused isn't asked.
-#[tactic(auto, using(crate::proofs::Asking::admitted, crate::proofs::Asking::refused))]
 fn call_failure<U: TextUnit>(
     core: &Core<U>,
     names: &ObjectNames,
@@ -73,13 +66,12 @@ fn call_failure<U: TextUnit>(
 ) -> Option<u32>
     ensures { result ≡ failure_of_call U.meaning U.parameters names.now.entries.items core.now.object entry value }
 {
-    let op = precondition(names, entry.declaration);
-    match refusal(core, entry) {
-        Some(_) => None,
-        None => match op {
-            Some(op) => asked(core, op, value),
-            None => None,
-        },
+    if !is_callable(core, entry) {
+        return None;
+    }
+    match precondition(names, entry.declaration) {
+        Some(op) => asked(core, op, value),
+        None => None,
     }
 }
 
