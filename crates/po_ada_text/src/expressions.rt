@@ -228,7 +228,12 @@ impl<'a> Reader<'a> {
         let place = self.place();
         let mut arms = Vec::new(self.alloc);
         for _ in 0..self.turns() {
-            if !self.takes(Reserved::If) && !self.takes(Reserved::Elsif) {
+            let word = if arms.is_empty() {
+                Reserved::If
+            } else {
+                Reserved::Elsif
+            };
+            if !self.takes(word) {
                 break;
             }
             let condition = self.operation(LOGICAL, levels)?;

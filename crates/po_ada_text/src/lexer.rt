@@ -54,42 +54,59 @@ fn byte_at(text: &[u8], index: usize) -> u8 {
     }
 }
 
+/// The bytes from this index on.
+fn rest(text: &[u8], from: usize) -> &[u8] {
+    text.get(from..).unwrap_or(&[])
+}
+
+/// Whether an underline begins or ends the word, or comes after another (2.3).
+fn has_stray_underline(word: &[u8]) -> bool {
+    let mut last = b'_';
+    for byte in word {
+        if *byte == b'_' && last == b'_' {
+            return true;
+        }
+        last = *byte;
+    }
+    last == b'_'
+}
+
 /// How many letters, digits and underlines there are from here on.
 fn word_length(text: &[u8], from: usize) -> usize {
-    text.iter()
-        .skip(from)
+    rest(text, from)
+        .iter()
         .take_while(|byte| is_letter_or_digit(**byte))
         .count()
 }
 
 /// How many bytes there are from here to the end of the line.
 fn line_length(text: &[u8], from: usize) -> usize {
-    text.iter()
-        .skip(from)
+    rest(text, from)
+        .iter()
         .take_while(|byte| **byte != b'\n')
         .count()
 }
 
 /// How many bytes there are from here to a quotation mark or the end of the line.
 fn quoted_length(text: &[u8], from: usize) -> usize {
-    text.iter()
-        .skip(from)
+    rest(text, from)
+        .iter()
         .take_while(|byte| **byte != b'"' && **byte != b'\n')
         .count()
 }
 
 /// How many blanks there are from here on.
 fn blank_length(text: &[u8], from: usize) -> usize {
-    text.iter()
-        .skip(from)
+    rest(text, from)
+        .iter()
         .take_while(|byte| is_blank(**byte))
         .count()
 }
 
 /// How many bytes from here on can begin no element.
 fn foreign_length(text: &[u8], from: usize) -> usize {
-    text.iter()
-        .skip(from)
+    rest(text, from)
+        .iter()
         .take_while(|byte| is_foreign(**byte))
         .count()
 }
@@ -176,6 +193,12 @@ impl<'a> Lexer<'a> {
         let length = word_length(self.text, place);
         self.skip(length);
         let bytes = self.text.get(place..self.next).unwrap_or(&[]);
+        if has_stray_underline(bytes) {
+            self.tell(
+                place,
+                "a name has single underlines, between letters and digits (2.3)",
+            )?;
+        }
         let element = match self.names.word(bytes)? {
             Word::Reserved(reserved) => Element::Reserved(reserved),
             Word::Name(name) => Element::Name(name),

@@ -22,6 +22,8 @@ pub struct Reader<'a> {
     pub next: usize,
     pub names: Names,
     pub faults: &'a mut Faults,
+    /// How many elements may still be looked at to find a protected unit far ahead.
+    pub looks: usize,
 }
 
 /// The reserved word that this name may be meant to be, at most two letters apart.

@@ -16,6 +16,9 @@ use std::alloc::{AllocError, Global};
 /// A text has at most this many bytes.
 pub const MOST_BYTES: usize = 16_777_216;
 
+/// For each element of a text, this many are looked at to find protected units in main programs.
+const MOST_LOOKS: usize = 16;
+
 /// A copy of the fault before which this many were told, if there is one.
 fn fault_at(alloc: Global, faults: &Faults, told: usize) -> Result<Option<Fault>, AllocError> {
     match faults.items.get(told) {
@@ -206,8 +209,8 @@ impl<'a> Reader<'a> {
         Ok(Item::Unread(Unread { name, fault }))
     }
 
-    /// Whether a main program comes next, with a protected unit before its statements.
-    fn sees_program(&self) -> bool {
+    /// Whether a main program comes next, with a protected unit before its end.
+    fn sees_program(&mut self) -> bool {
         let is_short = matches!(
             self.ahead(3),
             Element::Reserved(Reserved::New)
@@ -316,14 +319,25 @@ impl<'a> Reader<'a> {
         }
     }
 
-    /// Whether a protected unit comes before the next `begin`.
-    fn holds_protected(&self) -> bool {
-        for distance in 0..self.turns() {
-            match self.ahead(distance) {
-                Element::Reserved(Reserved::Protected) => return true,
-                Element::Reserved(Reserved::Begin) | Element::End => return false,
-                _ => {}
+    /// Whether a protected unit comes before `end` and the name of the subprogram that comes next.
+    fn holds_protected(&mut self) -> bool {
+        let name = self.ahead(1);
+        let mut last = name;
+        for distance in 2..self.turns() {
+            if self.looks == 0 {
+                return false;
             }
+            self.looks -= 1;
+            let element = self.ahead(distance);
+            let is_type = last == Element::Reserved(Reserved::Access);
+            if element == Element::Reserved(Reserved::Protected) && !is_type {
+                return true;
+            }
+            let ends = last == Element::Reserved(Reserved::End) && element == name;
+            if ends || element == Element::End {
+                return false;
+            }
+            last = element;
         }
         false
     }
@@ -332,6 +346,7 @@ impl<'a> Reader<'a> {
 /// Reads the items of a text that is short enough.
 fn read_items(alloc: Global, text: &[u8], faults: &mut Faults) -> Result<Text, Stop> {
     let Lexed { elements, names } = cut(alloc, text, faults)?;
+    let looks = elements.len().saturating_mul(MOST_LOOKS);
     let mut reader = Reader {
         alloc,
         text_length: text.len(),
@@ -339,6 +354,7 @@ fn read_items(alloc: Global, text: &[u8], faults: &mut Faults) -> Result<Text, S
         next: 0,
         names,
         faults,
+        looks,
     };
     let items = reader.items()?;
     let Reader { names, .. } = reader;

@@ -249,7 +249,11 @@ impl<'a> Reader<'a> {
     /// Reads discriminants in parentheses, if they come next (3.7).
     fn discriminants(&mut self) -> Result<Vec<Variables>, Stop> {
         let mut list = Vec::new(self.alloc);
+        let place = self.place();
         for parameters in self.parameter_list()? {
+            if parameters.mode != Mode::In {
+                return Err(self.refuse(place, "a discriminant has no mode (3.7)"));
+            }
             list.push(parameters.variables)?;
         }
         Ok(list)
