@@ -1,4 +1,4 @@
-use Rattle.std.proofs.Common.{◌≡◌, ℕ, length, None, Some, ap, sym, refl, arith}
+use Rattle.std.proofs.Common.{ℕ, length, None, Some, ap, sym, refl, arith}
 use Rattle.po_engine.specs.Ending.{ended_as}
 use Rattle.po_engine.specs.StateView.{StateView}
 use Rattle.po_engine.specs.Step.{end_call}
