@@ -1,6 +1,7 @@
 // SPDX-License-Identifier: MIT
 //! A program for the gate: it reads Ada texts from standard input, each after a line `-- text NAME`. It writes each tree as a
-//! text, reads that again and compares; then it does so with as many changed texts as its argument says.
+//! text, reads that again and compares; and it makes an object of the text. Then it does both with changed texts: its arguments
+//! say how many, and what number the lot begins with.
 #![tactic(auto)]
 
 mod declarations;
@@ -8,13 +9,17 @@ mod expressions;
 mod items;
 mod likeness;
 mod mutation;
+mod outcome;
 mod precedence;
 mod printer;
 mod reading;
 mod statements;
+mod whole;
 
 use crate::mutation::{Lot, mutant};
-use crate::reading::{Outcome, outcome, written};
+use crate::outcome::{Counts, Outcome};
+use crate::reading::{round_trip, written};
+use crate::whole::whole_way;
 use anyhow::Result;
 use std::alloc::Global;
 use std::env;
@@ -31,22 +36,26 @@ struct Sample {
     bytes: Vec<u8>,
 }
 
-/// How many texts there were of each outcome.
+/// How many texts had each outcome, as trees and as objects.
 #[derive(Clone, Copy)]
-struct Counts {
-    same: usize,
-    faulty: usize,
-    wrong: usize,
+struct Tally {
+    trees: Counts,
+    objects: Counts,
 }
 
-impl Counts {
-    /// Counts a text.
-    fn add(&mut self, outcome: Outcome) {
-        match outcome {
-            Outcome::Same => self.same = self.same.saturating_add(1),
-            Outcome::Faulty(_) => self.faulty = self.faulty.saturating_add(1),
-            _ => self.wrong = self.wrong.saturating_add(1),
+impl Tally {
+    /// No texts.
+    fn new() -> Tally {
+        Tally {
+            trees: Counts::new(),
+            objects: Counts::new(),
         }
+    }
+
+    /// Writes how many there were of each outcome.
+    fn write(self, rt: &impl Print, what: &str) -> Result<()> {
+        self.trees.write_trees(rt, what)?;
+        self.objects.write_objects(rt, what)
     }
 }
 
@@ -69,28 +78,14 @@ fn samples(alloc: Global, bytes: &[u8]) -> Result<Vec<Sample>> {
     let mut list = Vec::new(alloc);
     for line in bytes.split(|byte| *byte == b'\n') {
         if let Some(name) = named(alloc, line)? {
-            list.push(Sample {
-                name,
-                bytes: Vec::new(alloc),
-            })?;
+            let bytes = Vec::new(alloc);
+            list.push(Sample { name, bytes })?;
         } else if let Some(sample) = list.last_mut() {
             sample.bytes.extend_from_slice(line)?;
             sample.bytes.push(b'\n')?;
         }
     }
     Ok(list)
-}
-
-/// Writes what became of a text.
-fn write_outcome(rt: &impl Print, name: &str, outcome: Outcome) -> Result<()> {
-    match outcome {
-        Outcome::Same => println!(rt; "{name}: same")?,
-        Outcome::Different => println!(rt; "{name}: another tree")?,
-        Outcome::Unread => println!(rt; "{name}: the written tree isn't read")?,
-        Outcome::Faulty(count) => println!(rt; "{name}: {count} faults")?,
-        Outcome::Wrong => println!(rt; "{name}: neither a tree nor 1 to 20 faults")?,
-    }
-    Ok(())
 }
 
 /// Writes bytes, each as a character.
@@ -104,13 +99,7 @@ fn write_bytes(rt: &impl Print, bytes: &[u8]) -> Result<()> {
 }
 
 /// Writes a text that isn't read as it should be, and what its tree is written as.
-fn write_wrong(
-    rt: &(impl Print + AllocGlobal),
-    name: &str,
-    bytes: &[u8],
-    outcome: Outcome,
-) -> Result<()> {
-    write_outcome(rt, name, outcome)?;
+fn write_wrong(rt: &(impl Print + AllocGlobal), bytes: &[u8]) -> Result<()> {
     write_bytes(rt, bytes)?;
     if let Ok(found) = written(rt.alloc(), bytes)? {
         write_bytes(rt, found.text.as_slice())?;
@@ -118,49 +107,59 @@ fn write_wrong(
     Ok(())
 }
 
-/// Writes how many texts there were of each outcome.
-fn write_counts(rt: &impl Print, what: &str, counts: Counts) -> Result<()> {
-    let Counts {
-        same,
-        faulty,
-        wrong,
-    } = counts;
-    println!(rt; "{what}: {same} the same, {faulty} with faults, {wrong} wrong")?;
-    Ok(())
+/// Tests a text, and writes the outcome.
+fn test_text(
+    rt: &(impl Print + AllocGlobal),
+    name: &str,
+    bytes: &[u8],
+    tally: &mut Tally,
+) -> Result<()> {
+    let (tree, object) = (
+        round_trip(rt.alloc(), bytes)?,
+        whole_way(rt.alloc(), bytes)?,
+    );
+    tally.trees.add(tree);
+    tally.objects.add(object);
+    tree.write(rt, name)?;
+    if tree == object {
+        return Ok(());
+    }
+    object.write(rt, name)
 }
 
 /// Tests each text.
 fn test_texts(rt: &(impl Print + AllocGlobal), samples: &[Sample]) -> Result<()> {
-    let mut counts = NONE;
+    let mut tally = Tally::new();
     for sample in samples {
-        let found = outcome(rt.alloc(), sample.bytes.as_slice())?;
-        write_outcome(rt, sample.name.as_str(), found)?;
-        counts.add(found);
+        test_text(
+            rt,
+            sample.name.as_str(),
+            sample.bytes.as_slice(),
+            &mut tally,
+        )?;
     }
-    write_counts(rt, "texts", counts)
+    tally.write(rt, "texts")
 }
 
-/// No texts.
-const NONE: Counts = Counts {
-    same: 0,
-    faulty: 0,
-    wrong: 0,
-};
-
-/// Tests a text that a text is changed into.
+/// Tests a changed text, and writes it if the outcome is not as it should be.
 fn test_changed(
     rt: &(impl Print + AllocGlobal),
-    sample: &Sample,
-    lot: &mut Lot,
-    counts: &mut Counts,
+    name: &str,
+    bytes: &[u8],
+    tally: &mut Tally,
 ) -> Result<()> {
-    let changed = mutant(rt.alloc(), sample.bytes.as_slice(), lot)?;
-    let found = outcome(rt.alloc(), changed.as_slice())?;
-    counts.add(found);
-    match found {
-        Outcome::Same | Outcome::Faulty(_) => Ok(()),
-        _ => write_wrong(rt, sample.name.as_str(), changed.as_slice(), found),
+    let (tree, object) = (
+        round_trip(rt.alloc(), bytes)?,
+        whole_way(rt.alloc(), bytes)?,
+    );
+    tally.trees.add(tree);
+    tally.objects.add(object);
+    if tree.is_right() && object.is_right() {
+        return Ok(());
     }
+    tree.write(rt, name)?;
+    object.write(rt, name)?;
+    write_wrong(rt, bytes)
 }
 
 /// Tests as many changed texts as this, from each text in turn.
@@ -168,31 +167,33 @@ fn test_all_changed(
     rt: &(impl Print + AllocGlobal),
     samples: &[Sample],
     count: usize,
+    lot: &mut Lot,
 ) -> Result<()> {
-    let mut lot = Lot::new(1);
-    let mut counts = NONE;
+    let mut tally = Tally::new();
     for turn in 0..count {
         let number = turn.checked_rem(samples.len()).unwrap_or(0);
         if let Some(sample) = samples.get(number) {
-            test_changed(rt, sample, &mut lot, &mut counts)?;
+            let changed = mutant(rt.alloc(), sample.bytes.as_slice(), lot)?;
+            test_changed(rt, sample.name.as_str(), changed.as_slice(), &mut tally)?;
         }
     }
-    write_counts(rt, "changed texts", counts)
+    tally.write(rt, "changed texts")
 }
 
-/// The number that is the program's argument; 0 if there is none.
-fn argument(rt: &(impl Env + AllocGlobal)) -> Result<usize> {
-    match env::args(rt)?.nth(1) {
+/// The number that is this argument of the program; 1 if there is none.
+fn argument(rt: &(impl Env + AllocGlobal), place: usize) -> Result<usize> {
+    match env::args(rt)?.nth(place) {
         Some(word) => Ok(word.as_str().parse::<usize>()?),
-        None => Ok(0),
+        None => Ok(1),
     }
 }
 
 fn main(rt: HostRuntime) -> Result<()> {
-    let count = argument(&rt)?;
+    let (count, seed) = (argument(&rt, 1)?, argument(&rt, 2)?);
     let mut bytes = Vec::new(rt.alloc());
     rt.reader().read_to_end(&mut bytes)?;
     let list = samples(rt.alloc(), bytes.as_slice())?;
     test_texts(&rt, list.as_slice())?;
-    test_all_changed(&rt, list.as_slice(), count)
+    let mut lot = Lot::new(seed as u64);
+    test_all_changed(&rt, list.as_slice(), count, &mut lot)
 }

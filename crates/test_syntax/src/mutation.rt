@@ -210,7 +210,12 @@ fn reworded(alloc: Global, text: &[u8], word: Part, lot: &mut Lot) -> Result<Vec
     if lot.below(2) == 0 {
         return spliced(alloc, text, word, &[reserved.as_bytes()]);
     }
-    spliced(alloc, text, word, &[reserved.as_bytes(), b" ", word.of(text)])
+    spliced(
+        alloc,
+        text,
+        word,
+        &[reserved.as_bytes(), b" ", word.of(text)],
+    )
 }
 
 /// The text with two words that come one after the other swapped.

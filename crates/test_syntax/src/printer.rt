@@ -98,11 +98,7 @@ impl<'a> Printer<'a> {
     }
 
     /// Writes an expression next, in parentheses unless its operator binds at least this tight.
-    pub fn expression(
-        &mut self,
-        expression: &'a Expression,
-        least: u32,
-    ) -> Result<(), AllocError> {
+    pub fn expression(&mut self, expression: &'a Expression, least: u32) -> Result<(), AllocError> {
         self.add(Piece::Expression(expression, least))
     }
 

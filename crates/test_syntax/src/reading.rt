@@ -3,26 +3,11 @@
 
 use crate::items::printed;
 use crate::likeness::likeness;
+use crate::outcome::{Outcome, faulty};
 use anyhow::{Result, bail};
 use po_ada_text::parse;
-use po_ada_tree::fault::MOST_FAULTS;
 use po_ada_tree::{Faults, Stop, Text};
 use std::alloc::Global;
-
-/// What became of a text.
-#[derive(Clone, Copy, PartialEq, Eq)]
-pub enum Outcome {
-    /// The tree, written and read again, is the same.
-    Same,
-    /// It is another one.
-    Different,
-    /// The text of the tree isn't read.
-    Unread,
-    /// The text has this many faults.
-    Faulty(usize),
-    /// Reading told no fault and made no tree, or told too many.
-    Wrong,
-}
 
 /// What a tree is written as.
 #[derive(Drop)]
@@ -52,17 +37,8 @@ pub fn written(alloc: Global, bytes: &[u8]) -> Result<Result<Written, usize>> {
     }
 }
 
-/// What becomes of a text with this many faults.
-fn faulty(count: usize) -> Outcome {
-    if (1..=MOST_FAULTS).contains(&count) {
-        Outcome::Faulty(count)
-    } else {
-        Outcome::Wrong
-    }
-}
-
 /// Reads a text, writes its tree, reads that again and compares.
-pub fn outcome(alloc: Global, bytes: &[u8]) -> Result<Outcome> {
+pub fn round_trip(alloc: Global, bytes: &[u8]) -> Result<Outcome> {
     let first = match written(alloc, bytes)? {
         Ok(found) => found,
         Err(count) => return Ok(faulty(count)),

@@ -17,8 +17,9 @@ impl<'a> Printer<'a> {
             Action::Case(subject, alternatives) => self.case_statement(subject, alternatives),
             Action::Loop(name, head, statements) => self.loop_statement(name, head, statements),
             Action::Block(declarations, sequence) => self.block(declarations, sequence),
-            Action::ExtendedReturn(variables, sequence) =>
-                self.extended_return(variables, sequence),
+            Action::ExtendedReturn(variables, sequence) => self.extended_return(
+                variables, sequence,
+            ),
             other => self.simple_statement(other),
         }
     }
