@@ -16,7 +16,7 @@ const NO_LENGTH: &str =
 const DIFFERENT: &str =
     "the queues of an object have one greatest length here: give all its entries, also the private ones, the same Max_Queue_Length, or none and write 'max' on the script's line 'unit' (D.4)";
 
-/// The greatest length of the queues of an entry, if one is stated, and where the entry is declared.
+/// The greatest length of the queues of an entry, if one is stated, and the place of its declaration.
 #[derive(Clone, Copy, Debug)]
 pub struct QueueLimit {
     pub place: usize,

@@ -259,7 +259,7 @@ impl<'a> Reader<'a> {
         }
     }
 
-    /// How many parentheses and records are open after the next element, if so many are before it. Reads that element.
+    /// How many parentheses and records are open after the next element, if this many are before it. Reads that element.
     pub fn open_after(&mut self, open: usize) -> usize {
         let element = self.peek();
         self.step();

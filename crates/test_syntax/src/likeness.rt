@@ -24,7 +24,7 @@ struct Likeness<'a> {
     bytes: &'a [u8],
     line: Vec<u8>,
     sense: Sense,
-    /// Where a string begins, if this was read.
+    /// The place at which a string begins, if this was read.
     start: Option<usize>,
 }
 
