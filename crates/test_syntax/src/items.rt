@@ -184,7 +184,7 @@ impl<'a> Printer<'a> {
             Item::Operation(body) => self.body(body),
             Item::Protected(unit) => self.protected(unit),
             Item::ProtectedBody(unit) => self.protected_body(unit),
-            Item::Unread(name) => self.unread(*name),
+            Item::Unread(unread) => self.unread(unread.name),
         }
     }
 }
