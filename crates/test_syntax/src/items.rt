@@ -166,7 +166,7 @@ impl<'a> Printer<'a> {
         self.end(unit.name)
     }
 
-    /// Writes a subprogram that has what isn't in the subset, as it is known: by its name.
+    /// Writes what has what isn't in the subset as a subprogram of its name that has that too.
     fn unread(&mut self, name: Name) -> Result<(), AllocError> {
         self.heading("procedure ", name)?;
         self.put("begin\ngoto L;\n")?;

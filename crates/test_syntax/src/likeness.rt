@@ -1,6 +1,7 @@
 // SPDX-License-Identifier: MIT
 //! A syntax tree as a line of text without places, in which names and strings are written out: equal for equal trees.
 
+use po_ada_tree::tree::Item;
 use po_ada_tree::{Names, Text};
 use std::alloc::{AllocError, Global};
 
@@ -130,6 +131,17 @@ impl<'a> Likeness<'a> {
     }
 }
 
+/// An item as a line. Of one that isn't read only its name counts: why it isn't is no part of the tree.
+fn shown(alloc: Global, item: &Item) -> Result<String, AllocError> {
+    match item {
+        Item::Unread(unread) => {
+            let name = unread.name;
+            format!(in alloc; "Unread({name:?})")
+        }
+        _ => format!(in alloc; "{item:?}"),
+    }
+}
+
 /// The tree of a text as a line, but for its places. Its strings stand in these bytes.
 pub fn likeness(alloc: Global, text: &Text, bytes: &[u8]) -> Result<Vec<u8>, AllocError> {
     let mut made = Likeness {
@@ -140,7 +152,7 @@ pub fn likeness(alloc: Global, text: &Text, bytes: &[u8]) -> Result<Vec<u8>, All
         start: None,
     };
     for item in text.items.iter() {
-        let shown = format!(in alloc; "{item:?}")?;
+        let shown = shown(alloc, item)?;
         made.add(shown.as_bytes())?;
     }
     let Likeness { line, .. } = made;
