@@ -13,11 +13,11 @@ extern "C" {
 
 /* How many bytes of the arena pobj_make_fixed takes, for this many entries and calls: exactly, on each target, as
    bindings/c/tests/arena.c compares with what the arena counts. */
-#define POBJ_ARENA_BYTES(entries, calls) (528 + POBJ_ARENA_OF_ENTRIES((size_t)(entries)) + POBJ_ARENA_OF_CALLS((size_t)(calls)))
+#define POBJ_ARENA_BYTES(entries, calls) (544 + POBJ_ARENA_OF_ENTRIES((size_t)(entries)) + POBJ_ARENA_OF_CALLS((size_t)(calls)))
 
-/* The parts of it: arrays by entry, two sets of bits, and arrays by call, of four elements or more. */
-#define POBJ_ARENA_OF_ENTRIES(n) \
-    (32 * (n) + 2 * POBJ_ARENA_ROUNDED(8 * (n)) + POBJ_ARENA_ROUNDED((n) / 64 * 8 + 8) + POBJ_ARENA_ROUNDED((n) / 4096 * 8 + 8))
+/* The parts of it: arrays by entry, two sets of bits if there are 64 entries or more, and arrays by call, of four elements or more. */
+#define POBJ_ARENA_OF_ENTRIES(n) (32 * (n) + 2 * POBJ_ARENA_ROUNDED(8 * (n)) + ((n) < 64 ? 0 : POBJ_ARENA_OF_BITS((n) - 64)))
+#define POBJ_ARENA_OF_BITS(n) (POBJ_ARENA_ROUNDED((n) / 64 * 8 + 8) + POBJ_ARENA_ROUNDED((n) / 4096 * 8 + 8))
 #define POBJ_ARENA_OF_CALLS(n) ((n) == 0 ? 0 : 112 * (n) + 160 * POBJ_ARENA_MOST(n, 4) + 64 * POBJ_ARENA_MOST(2 * (n) - 1, 4))
 #define POBJ_ARENA_MOST(a, b) ((a) > (b) ? (a) : (b))
 #define POBJ_ARENA_ROUNDED(bytes) (((bytes) + 15) / 16 * 16)

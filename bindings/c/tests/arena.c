@@ -9,7 +9,7 @@ enum { ARENA_BYTES = 1 << 26 };
 _Alignas(16) unsigned char pobj_arena[ARENA_BYTES];
 const size_t pobj_arena_size = ARENA_BYTES;
 
-static const uint64_t entries_of[] = {0, 1, 2, 3, 5, 32, 33, 1000, 65535};
+static const uint64_t entries_of[] = {0, 1, 2, 3, 5, 32, 63, 64, 65, 1000, 65535};
 static const size_t calls_of[] = {0, 1, 2, 3, 4, 5, 6, 7, 16, 17, 64, 1000};
 
 /* Makes an object of this shape, and compares. */
