@@ -1,7 +1,7 @@
 // SPDX-License-Identifier: MIT
 //! The values of discrete subtypes, as scripts write them.
 
-ghost use Rattle.std.specs.Prelude.{◌≤ℤ◌, IfSome};
+ghost use Rattle.std.specs.Prelude.{◌≡◌, ◌≤ℤ◌, ◌<ℤ◌, pos, IfSome};
 
 use po_ada_names::{Form, Subtype, Types};
 use po_language::words::number;
@@ -129,7 +129,10 @@ pub(crate) fn wanted_value(
 
 /// Returns the value that a parameter of mode `out` has before the call: 0, or the subtype's first value if 0 isn't in it.
 pub fn value_before(subtype: &Subtype) -> i128
-    ensures { subtype.now.low ≤ℤ subtype.now.high → (subtype.now.low ≤ℤ result) × (result ≤ℤ subtype.now.high) }
+    ensures zero { subtype.now.low ≤ℤ pos 0 → pos 0 ≤ℤ subtype.now.high → result ≡ pos 0 }
+    ensures above { pos 0 <ℤ subtype.now.low → result ≡ subtype.now.low }
+    ensures below { subtype.now.high <ℤ pos 0 → result ≡ subtype.now.low }
+    ensures bounds { subtype.now.low ≤ℤ subtype.now.high → (subtype.now.low ≤ℤ result) × (result ≤ℤ subtype.now.high) }
 {
     if subtype.low <= 0 && 0 <= subtype.high {
         0
