@@ -7,6 +7,7 @@ import re
 
 import programs
 import report
+import text_numbers
 import text_random
 import texts
 
@@ -58,7 +59,9 @@ def as_known(ours, theirs):
 
 
 def answers(text, script, ours):
-    """Returns our lines and GNAT's. GNAT is tried again with longer steps of time until the lines agree."""
+    """Returns our lines and GNAT's, with GNAT's numbers of calls. GNAT is tried again with longer steps of time until the lines
+    agree."""
+    script, ours = text_numbers.as_gnat(script, ours)
     theirs = None
     for step in programs.STEPS:
         written = texts.of_gnat(text, script, step)

@@ -278,10 +278,10 @@ build() {
   local program programs=() words
   case "$*" in
     "") words=run ;;
-    run | check | stress) words=$1 ;;
-    all) words="run check stress" ;;
+    run | check | stress | text) words=$1 ;;
+    all) words="run check stress text" ;;
     *)
-      say "build takes run, check, stress or all; without a word it builds run"
+      say "build takes run, check, stress, text or all; without a word it builds run"
       exit 2
       ;;
   esac

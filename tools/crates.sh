@@ -2,10 +2,11 @@
 # shellcheck shell=bash
 # The crates on which a program depends, and whether it is built from the sources as they are. Read by `pobj`, which sets `top`.
 
-# Sets `program` to the one that carries out the words: the first of them names it.
+# Sets `program` to the one that carries out the words: the first of them names it, or `--unit` with an Ada text after it.
 program_of() {
-  case ${1-} in
-    check | stress) program=pobj_$1 ;;
+  case "${1-} ${2-}" in
+    "run --unit"* | "check --unit"*) program=pobj_text ;;
+    "check "* | "stress "*) program=pobj_$1 ;;
     *) program=pobj_run ;;
   esac
 }
@@ -20,7 +21,7 @@ minutes_of() {
   case $* in
     pobj_run) echo "10 to 20" ;;
     pobj_check) echo "15 to 25" ;;
-    pobj_stress) echo "20 to 40" ;;
+    pobj_stress | pobj_text) echo "20 to 40" ;;
     *) echo "25 to 45" ;;
   esac
 }

@@ -18,10 +18,22 @@ version() { head -n 1 "$here/../VERSION"; }
 # shellcheck source=tools/words.sh
 . "$parts/words.sh"
 
+# Carries out `run` or `check` on an Ada text, and ends.
+by_text() {
+  case "$1 ${file:+file}" in
+    "run file") run_file "$here/pobj_text" "$file" run --unit "$text" ;;
+    "check file") run_file "$here/pobj_text" "$file" check --unit "$text" - ;;
+  esac
+  exec "$here/pobj_text" "$@"
+}
+
 [ "${1-}" != help ] || [ $# -eq 1 ] || set -- "$2" --help
 answer_words "$@"
 case $1 in
-  run | check) take_script "$@" ;;
+  run | check)
+    take_script "$@"
+    [ -z "$text" ] || by_text "$@"
+    ;;
 esac
 case $1 in
   ada)
@@ -38,7 +50,7 @@ case $1 in
     draw "$here/pobj_run" "$@"
     ;;
   run)
-    [ -z "$file" ] || run_file "$here/pobj_run" "$file"
+    [ -z "$file" ] || run_file "$here/pobj_run" "$file" run
     exec "$here/pobj_run" "$@"
     ;;
   *) exec "$here/pobj_$1" "$@" ;;

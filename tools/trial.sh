@@ -36,11 +36,27 @@ keep_input() {
   [ "$(stat -c %s "$room/input")" -le "$most_input" ] || refuse_trial "the script has more than 64 MiB"
 }
 
+# Hands the file with this path over to the trial: under the same path, if that leads below this folder, else under its own name.
+keep_text() {
+  local name=$1
+  case /$name/ in
+    //* | */../*) name=${name##*/} ;;
+  esac
+  data=(--data "$name=$(readlink -f "$1")")
+  words[2]=$name
+}
+
 # Keeps the input of the program that carries out `words`: of `check FILE` the script, which the program then reads on standard
-# input.
+# input; of `--unit FILE` the Ada text.
 keep_input_of_words() {
   : >"$room/input"
   case "${#words[@]} ${words[*]}" in
+    "3 run --unit "* | "4 check --unit "*" -")
+      [ ! -t 0 ] || refuse_trial "the script is typed"
+      keep_input
+      keep_text "${words[2]}"
+      ;;
+    "3 check --unit "*) keep_text "${words[2]}" ;;
     "1 run" | "1 check")
       [ ! -t 0 ] || refuse_trial "the script is typed"
       keep_input
@@ -54,7 +70,7 @@ keep_input_of_words() {
 
 # Runs the trial, and keeps what the program and the toolchain write.
 run_trial() {
-  (cd "$top/crates/$program" && exec rt try --seconds "$most_seconds" -- "${words[@]}" <"$room/input" >"$room/output" 2>"$room/said") &
+  (cd "$top/crates/$program" && exec rt try --seconds "$most_seconds" "${data[@]}" -- "${words[@]}" <"$room/input" >"$room/output" 2>"$room/said") &
   trial=$!
   wait "$trial" || true
   trial=
@@ -72,7 +88,7 @@ hand_on() {
     say "write failed"
     exit 4
   fi
-  if [ "${words[*]}" = run ] && [ -t 2 ]; then explain_fault "$(errors_of_program)" "$room/input" "${script:-FILE}"; fi
+  if [ "${words[0]}" = run ] && [ -t 2 ]; then explain_fault "$(errors_of_program)" "$room/input" "${script:-FILE}"; fi
   exit "$1"
 }
 
@@ -81,6 +97,7 @@ try_sources() {
   program=$1
   shift
   words=("$@")
+  data=()
   trial=
   room=$(mktemp -d)
   trap end_trial EXIT

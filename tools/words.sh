@@ -9,8 +9,9 @@ say() { printf 'pobj: %s\n' "$*" >&2; }
 # Prints what each command takes, and after two spaces or more what it does: of all commands, and with --target.
 all_rows() {
   cat <<'ROWS'
-  run [FILE]                    Carries out a script
-  check [FILE]                  Explains each fault of a script, and carries out nothing
+  run [--unit TEXT] [FILE]      Carries out a script, on one of eight units or on the protected object of an Ada text
+  check [--unit TEXT] [FILE]    Explains each fault of a script, and carries out nothing
+  check --unit TEXT             Explains each fault of an Ada text
   picture [FILE] [-o PICTURE]   Draws what a script does as a time line, in SVG
   stress --unit NAME ..         Has threads share an object, and compares each answer with its history
   ada DEST [--target TARGET]    Makes a runtime folder for Ada programs of GNAT
@@ -20,7 +21,7 @@ all_rows() {
   c DEST [--target TARGET]      Makes a folder with the library for C, its headers and examples
   c DEST --bare [--target ..]   Makes one for programs without an operating system, with an example
   trace [--all|--waits] FILE    Shows what the objects of an Ada program did, or only what waits
-  build [run|check|stress|all]  Proves and builds programs; until then a trial answers, in a minute
+  build [PROGRAM|all]           Proves and builds run, check, stress or text; until then a trial answers, in a minute
   dist [--target TARGET]        Makes an archive of everything, for machines without the toolchain
 ROWS
 }
@@ -148,13 +149,17 @@ need_file() {
   exit 4
 }
 
-# Sets `file` to the script that the words after `run` or `check` name, or to nothing if they name none. Ends if it can't be read,
-# or if the words are others.
+# Sets `file` to the script that the words after `run` or `check` name, and `text` to the Ada text after `--unit`, or each to nothing
+# if they name none. Ends if a file can't be read, or if the words are others.
 take_script() {
-  command=$1 file=
+  command=$1 file="" text=""
   shift
+  if [ "${1-}" = --unit ] && [ $# -ge 2 ]; then
+    text=$2
+    shift 2
+  fi
   case "$# ${1-}" in
-    "0 " | "1 -h" | "1 --help") return ;;
+    "0 " | "1 -h" | "1 --help") ;;
     "2 --") file=$2 ;;
     "1 "[!-]*) file=$1 ;;
     *)
@@ -162,27 +167,39 @@ take_script() {
       exit 2
       ;;
   esac
-  need_file "$file"
+  [ -z "$file" ] || need_file "$file"
+  if [ -z "$text" ] && [ -n "$file" ]; then text=$(text_in "$file"); fi
+  [ -z "$text" ] || need_file "$text"
+}
+
+# Prints the name of the Ada text that the script's first command names, by `unit file "NAME"`.
+text_in() {
+  [ ! -f "$1" ] || awk '
+    NF == 0 || $1 ~ /^#/ { next }
+    $1 == "unit" && $2 == "file" { split($0, part, "\""); print part[2] }
+    { exit }' "$1"
 }
 
 # Shows the faulty line of a script, and what explains it: explain_fault ERRORS SCRIPT NAME. ERRORS is what the program wrote on
-# standard error, and NAME is what the user calls the script.
+# standard error, NAME is what the user calls the script, and `text` the Ada text of its object, if it has one.
 explain_fault() {
   number=$(printf '%s\n' "$1" | awk '/^pobj: line [0-9]+: / { print $3 + 0; exit }')
   [ -n "$number" ] || return 0
   say "line $number is: $(head -n "$number" "$2" | tail -n 1 | shown)"
-  say "'$0 check $3' explains each fault"
+  say "'$0 check ${text:+--unit $text }$3' explains each fault"
 }
 
-# Carries out the script by a built program, and ends: run_file PROGRAM SCRIPT. On a terminal a faulty line is shown too, if the
-# script can be read again. Elsewhere standard error has the program's own text alone, which users may compare.
+# Carries out the script by a built program, and ends: run_file PROGRAM SCRIPT WORDS.. On a terminal a faulty line is shown too, if
+# the script can be read again. Elsewhere standard error has the program's own text alone, which users may compare.
 run_file() {
-  if [ ! -t 2 ] || [ ! -f "$2" ]; then exec "$1" run <"$2"; fi
+  program=$1 script=$2
+  shift 2
+  if [ ! -t 2 ] || [ ! -f "$script" ]; then exec "$program" "$@" <"$script"; fi
   status=0
   exec 3>&1
-  errors=$("$1" run <"$2" 2>&1 >&3 3>&-) || status=$?
+  errors=$("$program" "$@" <"$script" 2>&1 >&3 3>&-) || status=$?
   [ -z "$errors" ] || printf '%s\n' "$errors" >&2
-  explain_fault "$errors" "$2" "$2"
+  [ "$1" != run ] || explain_fault "$errors" "$script" "$script"
   exit "$status"
 }
 

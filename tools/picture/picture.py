@@ -2,7 +2,7 @@
 """Draws what a script does as a time line, in SVG. It has the program carry out a copy of the script, which asks for the state
 after each command.
 
-    picture.py PROGRAM [FILE] [-o PICTURE]     PROGRAM carries out scripts, as `pobj` does
+    picture.py PROGRAM [--unit TEXT] [FILE] [-o PICTURE]     PROGRAM carries out scripts, as `pobj` does
 """
 
 import os
@@ -18,10 +18,10 @@ sys.path.insert(0, str(pathlib.Path(__file__).resolve().parent))
 import story
 import timeline
 
-USAGE = """usage: pobj picture [FILE] -o PICTURE.svg    draws a time line of what the script does
-       pobj picture [FILE] > PICTURE.svg
+USAGE = """usage: pobj picture [--unit TEXT] [FILE] -o PICTURE.svg    draws a time line of what the script does
+       pobj picture [--unit TEXT] [FILE] > PICTURE.svg
 
-Without FILE the script is read from standard input. Without -o the picture, which is SVG, goes to standard output. If it can't be
+With --unit the object is the protected one of an Ada text. Without FILE the script is read from standard input. Without -o the picture, which is SVG, goes to standard output. If it can't be
 drawn, -o leaves PICTURE.svg as it was. If the script has a fault, the picture shows what ran before it. A script has at most 2,000
 commands and 8 MiB.
 
@@ -71,15 +71,15 @@ def own_line(said, numbers):
     return b"pobj: line %d: %s\n" % (number, found[2]), (number, found[2].decode())
 
 
-def carried_out(program, script):
+def carried_out(program, script, text):
     """Returns what the program answers to the copy of the script, the fault that ended it, and the status. What the program writes
     on standard error is passed on at once, since a trial says first that it takes a minute."""
-    copy, numbers = story.asking(script)
-    fault = None
+    copy, numbers = story.asking(script, story.ASKED_OF_TEXT if text else story.ASKED)
+    words, fault = ["run", "--unit", text] if text else ["run"], None
     with tempfile.TemporaryFile() as given, tempfile.TemporaryFile() as taken:
         given.write(copy)
         given.seek(0)
-        with subprocess.Popen([program, "run"], stdin=given, stdout=taken, stderr=subprocess.PIPE) as running:
+        with subprocess.Popen([program, *words], stdin=given, stdout=taken, stderr=subprocess.PIPE) as running:
             for said in running.stderr:
                 shown, found = own_line(said, numbers)
                 fault = found or fault
@@ -89,25 +89,34 @@ def carried_out(program, script):
         return taken.read().decode("ascii", "replace"), fault, running.returncode
 
 
-def drawn(program, words):
-    """Returns the picture of the script that the words name, or "" if there is none, and the status of its run."""
+def drawn(program, words, text):
+    """Returns the picture of the script that the words name, or "" if there is none, and the status of its run. `text` names the
+    Ada text of the object, if it isn't None."""
     script, name = script_in(words)
     look_at(script)
-    answers, fault, status = carried_out(program, script)
+    answers, fault, status = carried_out(program, script, text or story.text_of(script))
     if status not in (0, 1) or (status == 1 and fault is None):
         return "", status
     told = story.read(script, answers, fault)
     return timeline.draw(told, name) if told.commands else "", status
 
 
+def take_option(words, option):
+    """Takes the option and the word after it out of the words. Returns that word, or None if the option isn't there."""
+    if option not in words[:-1]:
+        return None
+    at = words.index(option)
+    value = words[at + 1]
+    del words[at : at + 2]
+    return value
+
+
 def asked(words):
-    """Returns the words without `-o PICTURE`, and PICTURE or None. Instead of words that are refused it returns None."""
-    words, output = list(words), None
-    if "-o" in words[:-1]:
-        at = words.index("-o")
-        output = words[at + 1]
-        del words[at : at + 2]
-    return (None if len(words) > 1 or any(it.startswith("-") for it in words) else words), output
+    """Returns the words without `-o PICTURE` and `--unit TEXT`, then PICTURE or None, and TEXT or None. Instead of words that are
+    refused it returns None."""
+    words = list(words)
+    output, text = take_option(words, "-o"), take_option(words, "--unit")
+    return (None if len(words) > 1 or any(it.startswith("-") for it in words) else words), output, text
 
 
 def look_for_room(output):
@@ -150,12 +159,12 @@ def put(picture, output):
     return 0
 
 
-def carry_out(program, words, output):
+def carry_out(program, words, output, text):
     """Draws the picture and writes it, and returns the status."""
     try:
         if output is not None:
             look_for_room(output)
-        picture, status = drawn(program, words)
+        picture, status = drawn(program, words, text)
     except Refused as refusal:
         print(f"pobj: {refusal}", file=sys.stderr)
         return refusal.status
@@ -172,11 +181,11 @@ def main(program, words):
     if words in (["--help"], ["-h"]):
         print(USAGE)
         return 0
-    words, output = asked(words)
+    words, output, text = asked(words)
     if words is None:
         print(USAGE, file=sys.stderr)
         return 2
-    return carry_out(program, words, output)
+    return carry_out(program, words, output, text)
 
 
 if __name__ == "__main__":

@@ -5,9 +5,9 @@ copy of the script, which asks for `State` and `show` after each command."""
 import re
 from dataclasses import dataclass, field
 
-END = re.compile(r"([0-9]+) (done [0-9]+|raised [0-9]+|cancelled|program_error)")
-# What the copy has after each command.
-ASKED = b"func State 0\nshow\n"
+END = re.compile(r"([0-9]+) (done(?: .*)?|raised .+|cancelled|program_error)")
+# What the copy has after each command. A function of an Ada text that takes no value is called without one.
+ASKED, ASKED_OF_TEXT = b"func State 0\nshow\n", b"func State\nshow\n"
 
 
 class Unread(Exception):
@@ -81,11 +81,18 @@ def commands_of(script):
     return {n: words for n, it in enumerate(lines_of(script), 1) if (words := words_of(it))}
 
 
-def asking(script):
+def text_of(script):
+    """Returns the name of the Ada text that the first command names, or None: `unit file "NAME"`."""
+    number, words = next(iter(commands_of(script).items()), (0, []))
+    quoted = lines_of(script)[number - 1].split('"') if words[:2] == ["unit", "file"] else []
+    return quoted[1] if len(quoted) > 2 else None
+
+
+def asking(script, asked=ASKED):
     """Returns the copy that asks for the state, and for each of its lines the number of the script's own line."""
     commands, copy, numbers = commands_of(script), [], []
     for number, it in enumerate(script.split(b"\n")[: len(lines_of(script))], 1):
-        copy += [it + b"\n", ASKED if number in commands else b""]
+        copy += [it + b"\n", asked if number in commands else b""]
         numbers += [number] * (3 if number in commands else 1)
     return b"".join(copy), numbers
 

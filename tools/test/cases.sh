@@ -57,10 +57,10 @@ broken() {
   fi
 }
 
-# Whether the three programs are built of the sources as they are. If one isn't, `pobj` would try the sources.
+# Whether the programs are built of the sources as they are. If one isn't, `pobj` would try the sources.
 are_built() {
   local program crates=()
-  for program in pobj_run pobj_check pobj_stress; do
+  for program in pobj_run pobj_check pobj_stress pobj_text; do
     list_crates "$program"
     if ! is_fresh "$program"; then
       fail "$program isn't built"
@@ -80,6 +80,57 @@ scripts_by_programs() {
   done
   broken / "$scratch/out" "read failed"
   broken examples/buffer.pobj /dev/full "write failed"
+}
+
+# Prints the Ada text of the unit that a script begins, if there is one; for a script that begins none, that of the buffer.
+text_of() {
+  local name
+  name=$(awk '$1 == "unit" { print $2; exit }' "$1")
+  compgen -G "examples/ada/${name:-buffer}.adb"
+}
+
+# Prints the scripts that are carried out on Ada texts too: those of one of the eight units that end well, and those of examples/ada.
+# Each line has a script without its ending, and its text.
+text_cases() {
+  local base words want program text
+  for base in $(all_cases) examples/ada/*.pobj; do
+    base=${base%.pobj}
+    read_case "$base"
+    [ ! -f "$base.make" ] && [ "$words $want" = "run 0" ] && text=$(text_of "$base.pobj") || continue
+    echo "$base $text"
+  done
+}
+
+# Prints what such a script answers on its text. A message that is a number is kept only if it is less than 2 ** 23 - 1: a greater
+# one is answered by the exception's name.
+text_answers() { sed 's/ raised 4294967295$/ raised Failure/' "$1.out"; }
+
+# Carries out these scripts on their texts by the built program.
+texts_by_program() {
+  local base text path
+  path_of pobj_text
+  while read -r base text; do
+    "$path" run --unit "$text" <"$base.pobj" >"$scratch/out" 2>"$scratch/err"
+    text_answers "$base" >"$scratch/want"
+    if [ ! -s "$scratch/err" ] && cmp -s "$scratch/out" "$scratch/want"; then
+      pass
+    else
+      fail "$base on $text: $(cat "$scratch/err") $(diff "$scratch/want" "$scratch/out")"
+    fi
+  done < <(text_cases)
+}
+
+# Lays out these scripts as a trial takes them.
+lay_out_texts() {
+  local base text name
+  mkdir -p "$scratch/$1/cases"
+  while read -r base text; do
+    name=text-$(tr / - <<<"${base#*/}")
+    cp "$base.pobj" "$scratch/$1/cases/$name"
+    text_answers "$base" >"$scratch/$1/cases/$name.stdout"
+    printf '%s\n' run --unit "$text" >"$scratch/$1/cases/$name.args"
+    echo 0 >"$scratch/$1/$name.want"
+  done < <(text_cases)
 }
 
 # Draws the pages' pictures from the built program's answers.
@@ -127,11 +178,17 @@ lay_out_pictures() {
 
 # Carries out the cases of the program by one trial of its sources, and compares what they write and their statuses.
 scripts() {
-  local file name
+  local file name data=()
   lay_out_cases "$1"
   [ "$1" != pobj_run ] || lay_out_pictures "$1"
+  if [ "$1" = pobj_text ]; then
+    lay_out_texts "$1"
+    for file in examples/ada/*.adb cases/*.adb; do
+      data+=(--data "$file=$top/$file")
+    done
+  fi
   steps_in "$(find "$scratch/$1" -maxdepth 1 -name '*.want' | wc -l)" "$scratch/$1/said"
-  (cd "crates/$1" && rt try --seconds 120 --cases "$scratch/$1/cases") >"$scratch/$1/said" 2>&1
+  (cd "crates/$1" && rt try --seconds 120 "${data[@]}" --cases "$scratch/$1/cases") >"$scratch/$1/said" 2>&1
   for file in "$scratch/$1"/*.want; do
     name=$(basename "$file" .want)
     if grep -qE "^case=$name run=ended status=$(cat "$file") .*output=expected" "$scratch/$1/said"; then

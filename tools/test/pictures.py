@@ -201,6 +201,19 @@ class Asking(unittest.TestCase):
         self.assertEqual((said, fault), (b"pobj: line 4: unknown command\n", (4, "unknown command")))
         self.assertEqual(picture.own_line(b"pobj: out of memory\n", numbers), (b"pobj: out of memory\n", None))
 
+    def test_texts(self):
+        script = b'# one\nunit file "a b.adb" 3\ncall Pop\ncall Push -5\n'
+        self.assertEqual(story.text_of(script), "a b.adb")
+        for other in (b"", b"unit buffer 2\n", b"unit file a.adb\n", b'call "unit" file\n'):
+            self.assertIsNone(story.text_of(other))
+        self.assertIn(b"call Pop\nfunc State\nshow\n", story.asking(script, story.ASKED_OF_TEXT)[0])
+        self.assertEqual(picture.asked(["--unit", "a.adb", "it", "-o", "it.svg"]), (["it"], "it.svg", "a.adb"))
+        asked = ["refused 4", "Push 0", "Pop 0", "clock 0", "next 1"]
+        answers = [*asked, "#1", *asked[:2], "Pop 1", *asked[3:], "#2", "2 raised Too_Far", "1 done -5 Red", *asked]
+        told = story.read(script, "\n".join(answers))
+        self.assertEqual(told.commands[-1].ends, [(2, "raised Too_Far"), (1, "done -5 Red")])
+        self.assertIn("raised Too_Far", timeline.draw(told, "it.pobj"))
+
     def test_nothing(self):
         for script in (b"", b"\n \n# nothing\n", b"#" * (picture.MOST_BYTES + 1)):
             with self.assertRaises(picture.Refused):

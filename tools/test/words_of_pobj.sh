@@ -82,6 +82,25 @@ named_there() {
   answers_there 0 out "unit" run "$script"
 }
 
+# If the command line or the script names an Ada text, another program reads the script on standard input, and the text.
+texts_there() {
+  local script=$scratch/text.pobj text=$scratch/text.adb
+  echo "unit file \"$text\" 3" >"$script"
+  echo "protected type T" >"$text"
+  put_program pobj_text 'echo "$*"; cat'
+  echo 'pobj_text:' >>"$scratch/build/crates.txt"
+  mkdir -p "$scratch/build/crates/pobj_text/src"
+  touch "$scratch/build/crates/pobj_text/out/pobj_text"
+  answers_there 0 out "run --unit $text" run "$script"
+  wrote_there out "unit file"
+  answers_there 0 out "run --unit $text" run --unit "$text" "$script"
+  answers_there 0 out "check --unit $text -" check "$script"
+  wrote_there out "unit file"
+  answers_there 0 out "check --unit $text -" check --unit "$text" "$script"
+  answers_there 0 out "check --unit $text" check --unit "$text"
+  answers_there 4 err "pobj: $scratch/none can't be opened: No such file or directory" check --unit "$scratch/none"
+}
+
 # On a terminal a fault is shown with its line, by the built program and by a trial. If nobody reads along, standard error
 # has the program's own text alone.
 faults_there() {
@@ -140,8 +159,8 @@ picture_in_file() {
 make_packed() {
   local work=$scratch/build program
   cp -r LICENSE README.md bindings docs examples include "$work/"
-  printf '%s\n' pobj_run: pobj_check: pobj_stress: po_c: >"$work/crates.txt"
-  for program in pobj_run pobj_check pobj_stress; do
+  printf '%s\n' pobj_run: pobj_check: pobj_stress: pobj_text: po_c: >"$work/crates.txt"
+  for program in pobj_run pobj_check pobj_stress pobj_text; do
     mkdir -p "$work/crates/$program/src"
     echo >"$work/crates/$program/src/main.rt"
   done
@@ -188,6 +207,7 @@ packs_there() {
     "run check picture stress ada trace help " "the packed commands"
   same "$("$to/bin/pobj" tarce 2>&1)" "pobj: no command 'tarce'; did you mean 'trace'?" "the packed answer to a mistyped word"
   same "$("$to/bin/pobj" run "$to/VERSION")" "pobj_run run"$'\n'"$(cat VERSION)" "the packed program's input"
+  same "$("$to/bin/pobj" run --unit "$to/VERSION" "$to/VERSION")" "pobj_text run --unit $to/VERSION"$'\n'"$(cat VERSION)" "the packed program for Ada texts"
   same "$("$to/bin/pobj" run "$to/none" 2>&1)" "pobj: $to/none can't be opened: No such file or directory" "a file that isn't there"
   if git check-ignore -q "$name.tar.gz"; then pass; else fail "git doesn't ignore $name.tar.gz"; fi
 }
@@ -301,6 +321,7 @@ words_of_pobj() {
   ln -s "$(python3 -c 'import sys; print(sys.executable)')" "$scratch/build/bin/python3"
   missing_there
   named_there
+  texts_there
   faults_there
   kits_there
   picture_in_file

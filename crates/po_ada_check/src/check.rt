@@ -1,10 +1,9 @@
 // SPDX-License-Identifier: MIT
-//! A check of a script, from its bytes to what is wrong with it.
+//! A check of the lines of a script.
 
 use crate::object::CheckedObject;
 use po_ada_language::{Interpreter, LineFault, Stop, Texts};
-use po_ada_script::{Answers, RunFault, answer_lines, fault_at};
-use po_streams::{Sink, Source};
+use po_ada_script::{Answers, RunFault, fault_at};
 use std::alloc::{AllocError, Global};
 use std::fmt::Write;
 
@@ -17,9 +16,9 @@ pub enum Verdict {
     Faulty,
 }
 
-/// What tells the faults of the lines of a script.
+/// What tells the faults of the lines of a script, and the lines that are sure to be refused.
 #[derive(Drop)]
-struct Checker<T> {
+pub struct Checker<T> {
     interpreter: Interpreter<CheckedObject, T>,
     /// What was found in the latest line.
     finding: String,
@@ -45,6 +44,25 @@ fn push_warning(text: &mut String, number: u64, warning: &str) -> Result<(), All
 }
 
 impl<T: Texts<CheckedObject> + Drop> Checker<T> {
+    /// Returns a checker before the first line.
+    pub fn new(alloc: Global, texts: T) -> Checker<T> {
+        Checker {
+            interpreter: Interpreter::new(alloc, texts),
+            finding: String::new(alloc),
+            verdict: Verdict::Clean,
+        }
+    }
+
+    /// Returns what makes the object.
+    pub fn texts_mut(&mut self) -> &mut T {
+        self.interpreter.texts_mut()
+    }
+
+    /// Returns whether anything was found.
+    pub fn verdict(&self) -> Verdict {
+        self.verdict
+    }
+
     /// Notes the fault of the line with this number.
     fn blame(&mut self, number: u64, fault: &LineFault) -> Result<(), RunFault> {
         self.verdict = Verdict::Faulty;
@@ -77,26 +95,5 @@ impl<T: Texts<CheckedObject> + Drop> Answers for Checker<T> {
 
     fn answer(&self) -> &[u8] {
         self.finding.as_bytes()
-    }
-}
-
-/// Checks the script that the reader gives on the object that one of the texts says, and writes a line for each finding.
-pub fn check_script<T: Texts<CheckedObject> + Drop, R: Source, W: Sink>(
-    alloc: Global,
-    texts: T,
-    reader: &mut R,
-    writer: &mut W,
-) -> Result<Verdict, RunFault> {
-    let mut checker = Checker {
-        interpreter: Interpreter::new(alloc, texts),
-        finding: String::new(alloc),
-        verdict: Verdict::Clean,
-    };
-    let checked = answer_lines(alloc, &mut checker, reader, writer);
-    let verdict = checker.verdict;
-    drop(checker);
-    match checked {
-        Ok(()) => Ok(verdict),
-        Err(fault) => Err(fault),
     }
 }

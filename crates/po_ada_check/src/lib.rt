@@ -2,7 +2,7 @@
 //! Scripts on protected objects that Ada texts say, which are read and not carried out: each fault is told, and each line that is
 //! sure to be refused, whatever was carried out before it.
 //!
-//! `check_script` does it all, over any `Texts` of `po_ada_language` whose objects are a `CheckedObject`.
+//! A `Checker` answers each line with what is wrong with it, over any `Texts` of `po_ada_language` that makes a `CheckedObject`.
 //!
 //! Begin with check.rt.
 #![tactic(auto)]
@@ -12,5 +12,5 @@ pub mod object;
 mod refusals;
 mod warning;
 
-pub use crate::check::{Verdict, check_script};
+pub use crate::check::{Checker, Verdict};
 pub use crate::object::CheckedObject;

@@ -23,8 +23,8 @@ pub enum Stop {
     Fault(LineFault),
     /// The Ada text has faults: the lines that tell them.
     Text(String),
-    /// The file with the Ada text can't be read: what its name is.
-    Unreadable(String),
+    /// The Ada text is in the file of this name, which hasn't been read.
+    Unread(String),
     /// Memory ran out.
     OutOfMemory,
 }
@@ -96,12 +96,12 @@ pub(crate) fn bad_argument(alloc: Global, expected: &str, word: Option<&[u8]>) -
 }
 
 /// Returns why no object is made by a `unit` line in which this word, or none, stands where something else was expected.
-pub(crate) fn bad_unit(alloc: Global, expected: &str, word: Option<&[u8]>) -> Stop {
+pub fn bad_unit(alloc: Global, expected: &str, word: Option<&[u8]>) -> Stop {
     stop_at(alloc, FaultKind::BadUnit, expected, word)
 }
 
 /// Returns the fault of this kind alone.
-pub(crate) fn fault_of(alloc: Global, kind: FaultKind) -> Stop {
+pub fn fault_of(alloc: Global, kind: FaultKind) -> Stop {
     Stop::Fault(LineFault {
         kind,
         detail: String::new(alloc),

@@ -1,10 +1,9 @@
 // SPDX-License-Identifier: MIT
 //! Carries out the lines of a script.
 
-use crate::fault::{Stop, bad_unit, fault_of};
-use crate::texts::{FileChoice, ObjectText, ScriptedObject, Settings, Texts};
-use crate::unit_line::{Chosen, choice_of, push_discriminants, settings};
-use po_ada_names::Heading;
+use crate::fault::{Stop, fault_of};
+use crate::texts::{FileChoice, ScriptedObject, Texts};
+use crate::unit_line::choice_of;
 use po_language::FaultKind;
 use po_language::parse::{Verb, is_comment, verb_of};
 use po_language::words::cut_word;
@@ -20,61 +19,10 @@ pub struct Interpreter<O, T> {
     reply: String,
 }
 
-/// Returns what the words say of the object of this text.
-fn settings_of(alloc: Global, heading: &Heading, words: &[u8]) -> Result<Settings, Stop> {
-    let mut discriminants = Vec::new(alloc);
-    let rest = push_discriminants(alloc, heading, words, &mut discriminants)?;
-    let (order, max_queue) = settings(alloc, rest)?;
-    Ok(Settings {
-        discriminants,
-        order,
-        max_queue,
-    })
-}
-
-/// Makes the object of this text with the discriminants and the settings that the words state.
-fn begin<O, X: ObjectText<O>>(alloc: Global, text: &X, words: &[u8]) -> Result<O, Stop> {
-    let settings = settings_of(alloc, text.heading(), words)?;
-    text.object(alloc, settings)
-}
-
-/// Returns whether the word is the unit's name, in any case.
-fn is_unit_name(heading: &Heading, word: &[u8]) -> bool {
-    match str::from_utf8(word) {
-        Ok(word) => heading.unit.as_str().eq_ignore_ascii_case(word),
-        Err(_) => false,
-    }
-}
-
-/// Returns the text of the given file, if its object goes by this name: its own, or that of the file.
-fn named_text<O, T: Texts<O>>(alloc: Global, texts: &mut T, word: &[u8]) -> Result<T::Text, Stop> {
-    if !texts.has_given() {
-        return Err(fault_of(alloc, FaultKind::BadUnit));
-    }
-    let text = texts.read(alloc, FileChoice::Given(Some(word)))?;
-    if !is_unit_name(text.heading(), word) && !texts.is_file_name(word) {
-        return Err(bad_unit(alloc, text.heading().unit.as_str(), Some(word)));
-    }
-    Ok(text)
-}
-
 /// Makes the object that the words after `unit` ask for.
 fn begin_unit<O, T: Texts<O>>(alloc: Global, texts: &mut T, words: &[u8]) -> Result<O, Stop> {
-    let (chosen, rest) = choice_of(alloc, words)?;
-    let text = match chosen {
-        Chosen::Name(word) => named_text::<O, T>(alloc, texts, word)?,
-        Chosen::File(name) => texts.read(alloc, FileChoice::Named(name))?,
-    };
-    begin(alloc, &text, rest)
-}
-
-/// Makes the object of the given file, whose discriminants have their defaults.
-fn begin_given<O, T: Texts<O>>(alloc: Global, texts: &mut T) -> Result<O, Stop> {
-    if !texts.has_given() {
-        return Err(fault_of(alloc, FaultKind::NoUnit));
-    }
-    let text = texts.read(alloc, FileChoice::Given(None))?;
-    begin(alloc, &text, &[])
+    let (choice, rest) = choice_of(alloc, words)?;
+    texts.object(alloc, choice, rest)
 }
 
 impl<O: ScriptedObject + Drop, T: Texts<O> + Drop> Interpreter<O, T> {
@@ -85,6 +33,11 @@ impl<O: ScriptedObject + Drop, T: Texts<O> + Drop> Interpreter<O, T> {
             object: None,
             reply: String::new(alloc),
         }
+    }
+
+    /// Returns what makes the object.
+    pub fn texts_mut(&mut self) -> &mut T {
+        &mut self.texts
     }
 
     /// Returns the lines that answer the latest line.
@@ -102,12 +55,12 @@ impl<O: ScriptedObject + Drop, T: Texts<O> + Drop> Interpreter<O, T> {
         self.object.is_some()
     }
 
-    /// Makes the object that the first command asks for.
+    /// Makes the object that the first command asks for: the given file's, with default discriminants, if it isn't `unit`.
     fn begin(&mut self, alloc: Global, verb: Verb, words: &[u8]) -> Result<(), Stop> {
         let begun = if verb == Verb::Begin {
             begin_unit(alloc, &mut self.texts, words)?
         } else {
-            begin_given(alloc, &mut self.texts)?
+            self.texts.object(alloc, FileChoice::Given(None), &[])?
         };
         drop(self.object.replace(begun));
         Ok(())

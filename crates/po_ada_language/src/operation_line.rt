@@ -128,14 +128,15 @@ fn entry_position(names: &ObjectNames, name: &[u8]) -> usize {
     names.entries.len()
 }
 
-/// Returns the position of the operation with this name; the number of operations if there is none.
+/// Returns the position of the operation with this name; the greatest number if there is none, since functions that aren't named
+/// come after those that are.
 fn operation_position(operations: &[Named], name: &[u8]) -> usize {
     for (position, operation) in operations.iter().enumerate() {
         if operation.name.as_bytes() == name {
             return position;
         }
     }
-    operations.len()
+    usize::MAX
 }
 
 /// Returns the entry that the word names: its position, and the index. An entry that isn't known has the position after the

@@ -1,8 +1,7 @@
 // SPDX-License-Identifier: MIT
-//! What gives the objects that Ada texts say.
+//! What makes the object that an Ada text says.
 
 use crate::fault::Stop;
-use po_ada_names::Heading;
 use po_language::parse::Verb;
 use po_queues::Order;
 use std::alloc::Global;
@@ -19,10 +18,10 @@ pub trait ScriptedObject: Sized {
     ) -> Result<(), Stop>;
 }
 
-/// The file with the text of an object.
+/// Which file has the text of the object.
 #[derive(Clone, Copy, Debug)]
 pub enum FileChoice<'a> {
-    /// The one that the command line names: its protected unit of this name if there is one, else the only one.
+    /// The one that the command line names. A name that comes with it is the protected unit's, or the file's without `.adb`.
     Given(Option<&'a [u8]>),
     /// The one of this name.
     Named(&'a [u8]),
@@ -39,26 +38,8 @@ pub struct Settings {
     pub max_queue: Option<u64>,
 }
 
-/// An Ada text that was read: it says one protected type or object.
-pub trait ObjectText<O> {
-    /// Returns what is known of the object before its discriminants have values.
-    fn heading(&self) -> &Heading;
-
-    /// Makes the object.
-    fn object(&self, alloc: Global, settings: Settings) -> Result<O, Stop>;
-}
-
-/// What gives the Ada texts of a script.
+/// What makes the object of a script from an Ada text.
 pub trait Texts<O> {
-    /// A text.
-    type Text: ObjectText<O> + Drop;
-
-    /// Returns whether the command line names a file.
-    fn has_given(&self) -> bool;
-
-    /// Returns whether the word is the name of the file that the command line names, without `.adb`.
-    fn is_file_name(&self, word: &[u8]) -> bool;
-
-    /// Reads the text.
-    fn read(&mut self, alloc: Global, choice: FileChoice<'_>) -> Result<Self::Text, Stop>;
+    /// Makes the object of the chosen text, with the discriminants and the settings that the words state.
+    fn object(&mut self, alloc: Global, choice: FileChoice<'_>, words: &[u8]) -> Result<O, Stop>;
 }

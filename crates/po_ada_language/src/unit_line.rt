@@ -2,6 +2,7 @@
 //! The words of a `unit` line.
 
 use crate::fault::{Stop, bad_unit, no_object};
+use crate::texts::{FileChoice, Settings};
 use crate::values::{value_of, wanted_value};
 use po_ada_names::{Discriminant, Heading, Subtype, Types};
 use po_language::unit_line::order_of;
@@ -40,23 +41,16 @@ fn quoted(bytes: &[u8]) -> Option<(&[u8], &[u8])> {
     }
 }
 
-/// What comes first on a `unit` line: a name, or `file` and the name of a file.
-#[derive(Clone, Copy, Debug)]
-pub(crate) enum Chosen<'a> {
-    Name(&'a [u8]),
-    File(&'a [u8]),
-}
-
-/// Returns what comes first after `unit`, and the words after it.
-pub(crate) fn choice_of(alloc: Global, words: &[u8]) -> Result<(Chosen<'_>, &[u8]), Stop> {
+/// Returns the file that the words after `unit` choose, and the words after those that do.
+pub(crate) fn choice_of(alloc: Global, words: &[u8]) -> Result<(FileChoice<'_>, &[u8]), Stop> {
     let Some((word, rest)) = cut_word(words) else {
         return Err(bad_unit(alloc, NAME, None));
     };
     if word != b"file".as_slice() {
-        return Ok((Chosen::Name(word), rest));
+        return Ok((FileChoice::Given(Some(word)), rest));
     }
     match quoted(rest) {
-        Some((name, rest)) => Ok((Chosen::File(name), rest)),
+        Some((name, rest)) => Ok((FileChoice::Named(name), rest)),
         None => Err(bad_unit(alloc, FILE, None)),
     }
 }
@@ -108,7 +102,7 @@ fn discriminant_of<'a>(
 }
 
 /// Adds the values of the discriminants, in order, and returns the words after them.
-pub(crate) fn push_discriminants<'a>(
+fn push_discriminants<'a>(
     alloc: Global,
     heading: &Heading,
     words: &'a [u8],
@@ -144,7 +138,7 @@ fn limit_of(alloc: Global, expected: &str, words: &[u8]) -> Result<Option<u64>, 
 }
 
 /// Returns the service order and the greatest length of a queue that the words state. The order is textual if they state none.
-pub(crate) fn settings(alloc: Global, words: &[u8]) -> Result<(Order, Option<u64>), Stop> {
+fn service_of(alloc: Global, words: &[u8]) -> Result<(Order, Option<u64>), Stop> {
     let Some((word, rest)) = cut_word(words) else {
         return Ok((Order::Textual, None));
     };
@@ -152,4 +146,16 @@ pub(crate) fn settings(alloc: Global, words: &[u8]) -> Result<(Order, Option<u64
         Some(order) => Ok((order, limit_of(alloc, MAX, rest)?)),
         None => Ok((Order::Textual, limit_of(alloc, ORDER, words)?)),
     }
+}
+
+/// Returns what the words of a `unit` line state of an object with this heading: its discriminants, and how its calls are served.
+pub fn settings_of(alloc: Global, heading: &Heading, words: &[u8]) -> Result<Settings, Stop> {
+    let mut discriminants = Vec::new(alloc);
+    let rest = push_discriminants(alloc, heading, words, &mut discriminants)?;
+    let (order, max_queue) = service_of(alloc, rest)?;
+    Ok(Settings {
+        discriminants,
+        order,
+        max_queue,
+    })
 }

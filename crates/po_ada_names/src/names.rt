@@ -90,6 +90,9 @@ pub struct Entry {
     pub public: bool,
     /// The family's index range, if it is a family.
     pub family: Option<Family>,
+    /// Its precondition, if it has one (6.1.1): the number of a function of the program, which takes the entry's parameters, and
+    /// whose result is Boolean. No script can name it: its number is none of those that `ObjectNames.functions` have.
+    pub precondition: Option<u16>,
 }
 
 /// A discriminant of a protected type (3.7).
@@ -131,4 +134,6 @@ pub struct ObjectNames {
     pub exceptions: Vec<String>,
     /// The messages of exceptions that aren't numbers, by their positions.
     pub messages: Vec<String>,
+    /// How many calls each queue can have, if the text says so: the aspect Max_Queue_Length of all entries (D.4).
+    pub max_queue: Option<u64>,
 }

@@ -405,10 +405,7 @@ impl<'a> Making<'a> {
     /// Raises Assertion_Error unless the condition holds (11.4.2).
     pub fn assertion(&mut self, condition: &'a Expression, exception: u32) -> Result<(), Stop> {
         let test = self.lowering.condition(condition)?;
-        let raise = Stmt::Raise(Expr::Number(i128::from(exception)));
-        let fails = self.lowering.boxed_statement(raise)?;
-        let holds = self.lowering.boxed_statement(Stmt::Null)?;
-        self.lowering.emit(Stmt::If(test, holds, fails))
+        self.raise_unless(test, exception)
     }
 
     /// A return statement (6.5).
@@ -585,6 +582,7 @@ impl<'a> Making<'a> {
                 ),
             );
         }
+        self.check_requeue(entry.place, operation)?;
         self.lowering
             .emit(Stmt::Requeue(first, distance, with_abort))
     }

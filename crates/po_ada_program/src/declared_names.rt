@@ -144,7 +144,12 @@ impl<'a> Making<'a> {
         })
     }
 
-    fn entry_names(&self, table: &mut Table, declared: &Declared<'a>) -> Result<Entry, AllocError> {
+    fn entry_names(
+        &self,
+        table: &mut Table,
+        number: usize,
+        declared: &Declared<'a>,
+    ) -> Result<Entry, AllocError> {
         let operation = self.operation_names(table, declared)?;
         let family = match declared.family {
             Some(sub) => Some(Family {
@@ -158,6 +163,7 @@ impl<'a> Making<'a> {
             operation,
             public: declared.public,
             family,
+            precondition: self.precondition_function(number),
         })
     }
 }
@@ -184,9 +190,9 @@ pub fn object_names(making: &Making<'_>, unit: Name) -> Result<ObjectNames, Allo
     let mut entries = Vec::new(making.lowering.known.alloc);
     let mut procedures = Vec::new(making.lowering.known.alloc);
     let mut functions = Vec::new(making.lowering.known.alloc);
-    for declared in making.lowering.operations.iter() {
+    for (number, declared) in making.lowering.operations.iter().enumerate() {
         match declared.profile.kind {
-            Kind::Entry => entries.push(making.entry_names(&mut table, declared)?)?,
+            Kind::Entry => entries.push(making.entry_names(&mut table, number, declared)?)?,
             Kind::Procedure if declared.public => procedures.push(making.operation_names(
                 &mut table, declared,
             )?)?,
@@ -213,6 +219,7 @@ pub fn object_names(making: &Making<'_>, unit: Name) -> Result<ObjectNames, Allo
         functions,
         exceptions,
         messages,
+        max_queue: making.max_queue,
     })
 }
 

@@ -8,10 +8,14 @@
 #![tactic(auto)]
 
 mod actions;
+mod aspects;
 mod declared_names;
 mod declaring;
 mod making;
 mod object;
+mod outside;
+mod preconditions;
+mod queue_limits;
 mod unit;
 
 pub use crate::object::{Made, heading_of, object_of};

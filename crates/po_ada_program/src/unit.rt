@@ -4,8 +4,8 @@
 use crate::making::{FIRST_LOCAL, Making};
 use po_ada_tree::Stop;
 use po_ada_tree::tree::{
-    Aspect, Body, Content, Declaration, Expression, Item, Kind, Mode, Name, Parameters, Part,
-    Profile, Protected, ProtectedBody, Variables,
+    Body, Content, Declaration, Expression, Item, Kind, Mode, Name, Parameters, Part, Profile,
+    Protected, ProtectedBody, Variables,
 };
 use po_ada_types::{Meaning, Sub, Variable};
 use po_ada_values::{Declared, LEVELS, Parameter, body_number, sequence, slot_cell};
@@ -57,50 +57,47 @@ impl<'a> Making<'a> {
         }
     }
 
-    /// The meaning of an item before the body of the protected unit.
+    /// The meaning of an item before the body of the protected unit. What stands after the unit hides none of its names (8.3).
     pub fn item(&mut self, item: &'a Item, wanted: Name, values: &'a [i128]) -> Result<(), Stop> {
+        let (inner, from) = (self.outside, self.lowering.known.scope.len());
+        let done = self.any_item(item, wanted, values);
+        if inner > 0 {
+            self.outside = self.lowering.known.lower(inner, from)?;
+        }
+        done
+    }
+
+    /// The meaning of an item.
+    fn any_item(&mut self, item: &'a Item, wanted: Name, values: &'a [i128]) -> Result<(), Stop> {
         match item {
             Item::Package(name) => self.lowering.known.define(*name, Meaning::Package),
             Item::Declaration(Declaration::Variables(variables)) if !variables.constant =>
                 self.outer_variables(variables),
-            Item::Declaration(declaration) => self.declared(declaration, false),
+            Item::Declaration(declaration) => self.outer_declared(declaration),
             Item::Operation(body) => self.outer_operation(body),
             Item::Protected(unit) if unit.name.number == wanted.number => self.unit(unit, values),
-            Item::Protected(unit) => self.lowering.known.define(unit.name, Meaning::Unread),
+            Item::Protected(unit) => self.lowering.known.define(unit.name, Meaning::Unread(None)),
             Item::ProtectedBody(_) => Ok(()),
-            Item::Unread(name) => self.lowering.known.define(*name, Meaning::Unread),
+            Item::Unread(unread) => self.lowering.known.define_unread(unread),
         }
     }
 
-    /// Variables outside of the object: no operation reads or changes them here.
-    fn outer_variables(&mut self, variables: &'a Variables) -> Result<(), Stop> {
-        for name in variables.names.iter() {
-            self.lowering.known.define(*name, Meaning::Unread)?;
-        }
-        Ok(())
-    }
-
-    /// An operation outside of the protected unit.
-    fn outer_operation(&mut self, body: &'a Body) -> Result<(), Stop> {
-        let number = match self.lowering.known.look_up(body.profile.name.number) {
-            Some(Meaning::Operation(number)) => number,
-            _ => self.declare(&body.profile, false, true)?,
-        };
-        if matches!(body.content, Content::Declared) {
-            return Ok(());
-        }
-        if let Some(declared) = self.lowering.operations.get_mut(number) {
-            declared.body = Some(body);
-        }
-        Ok(())
+    /// Refuses a second operation of a name.
+    pub fn two_of_one_name(&mut self, name: Name) -> Stop {
+        self.lowering.known.refuse(
+            name.place,
+            "two operations of one name aren't in this subset: rename one (8.3)",
+        )
     }
 
     /// The declaration of the protected unit (9.4).
     fn unit(&mut self, unit: &'a Protected, values: &'a [i128]) -> Result<(), Stop> {
         self.lowering.known.define(unit.name, Meaning::Package)?;
+        self.outside = self.lowering.known.scope.len();
         self.discriminants(unit, values)?;
         self.parts(unit.public.as_slice(), true)?;
-        self.parts(unit.private.as_slice(), false)
+        self.parts(unit.private.as_slice(), false)?;
+        self.agree_on_limit()
     }
 
     /// The discriminants have values (3.7).
@@ -152,6 +149,8 @@ impl<'a> Making<'a> {
         for part in parts {
             let done = match part {
                 Part::Operation(profile) => self.declare_or_fault(profile, public),
+                Part::Declaration(Declaration::Pragma(pragma))
+                    if self.is_queue_limit(pragma.name) => self.note_pragma(pragma),
                 Part::Declaration(declaration) => self.declared(declaration, false),
             };
             self.keep_on(done)?;
@@ -169,21 +168,16 @@ impl<'a> Making<'a> {
     }
 
     /// The declaration of an operation; returns its number.
-    fn declare(
+    pub fn declare(
         &mut self,
         profile: &'a Profile,
         public: bool,
         outside: bool,
     ) -> Result<usize, Stop> {
         if let Some(Meaning::Operation(_)) = self.lowering.known.look_up(profile.name.number) {
-            return Err(
-                self.lowering.known.refuse(
-                    profile.name.place,
-                    "two operations of one name aren't in this subset: rename one (8.3)",
-                ),
-            );
+            return Err(self.two_of_one_name(profile.name));
         }
-        self.aspects(profile)?;
+        self.admit_aspects(profile)?;
         let parameters = self.parameters(profile)?;
         let mut returns = None;
         if let Some(subtype) = &profile.returns {
@@ -198,6 +192,7 @@ impl<'a> Making<'a> {
         let entry = self.entries;
         if profile.kind == Kind::Entry {
             self.count_entries(profile.name.place, family)?;
+            self.note_entry(profile)?;
         }
         let number = self.lowering.operations.len();
         if number >= 30_000 {
@@ -223,44 +218,6 @@ impl<'a> Making<'a> {
             .known
             .define(profile.name, Meaning::Operation(number))?;
         Ok(number)
-    }
-
-    /// Aspects that mean something and aren't in the subset are refused.
-    fn aspects(&mut self, profile: &'a Profile) -> Result<(), Stop> {
-        for aspect in profile.aspects.iter() {
-            if self.is_refused(aspect, profile.kind) {
-                return Err(
-                    self.lowering.known.refuse_name(
-                        aspect.name.place,
-                        "the aspect ",
-                        aspect.name.number,
-                        " isn't in this subset yet: write pragma Assert in the body, or 'max' in the script",
-                    ),
-                );
-            }
-        }
-        Ok(())
-    }
-
-    /// Whether the subset lacks an aspect; a precondition of an entry is checked before the call is queued, which no body does.
-    fn is_refused(&self, aspect: &Aspect, kind: Kind) -> bool {
-        let names = self.lowering.known.names;
-        let found = Some(aspect.name.number);
-        if kind == Kind::Entry && names.find("pre") == found {
-            return true;
-        }
-        for text in [
-            "max_queue_length",
-            "pre'class",
-            "post'class",
-            "import",
-            "address",
-        ] {
-            if names.find(text) == found {
-                return true;
-            }
-        }
-        false
     }
 
     /// One entry, or those of a family.
@@ -326,8 +283,7 @@ impl<'a> Making<'a> {
             let done = self.attach(body);
             self.keep_on(done)?;
         }
-        self.missing_bodies()?;
-        Ok(())
+        self.missing_bodies(false, " has no body")
     }
 
     /// A body belongs to its declaration, or declares an operation of the body alone.
@@ -395,19 +351,21 @@ impl<'a> Making<'a> {
         )
     }
 
-    fn missing_bodies(&mut self) -> Result<(), Stop> {
+    /// Refuses operations of the unit without a body, or those outside of it that are called.
+    fn missing_bodies(&mut self, outside: bool, after: &str) -> Result<(), Stop> {
         for number in 0..self.lowering.operations.len() {
             let missing = match self.lowering.operations.get(number) {
-                Some(declared) if declared.body.is_none() && !declared.outside => Some(
-                    declared.profile.name,
-                ),
+                Some(declared)
+                    if declared.body.is_none()
+                        && declared.outside == outside
+                        && (declared.used || !outside) => Some(declared.profile.name),
                 _ => None,
             };
             if let Some(name) = missing {
                 let stop = self
                     .lowering
                     .known
-                    .refuse_name(name.place, "the operation ", name.number, " has no body");
+                    .refuse_name(name.place, "the operation ", name.number, after);
                 self.keep_on(Err(stop))?;
             }
         }
@@ -415,7 +373,7 @@ impl<'a> Making<'a> {
     }
 
     /// The frame of an operation is empty.
-    fn begin_frame(&mut self, number: usize) {
+    pub fn begin_frame(&mut self, number: usize) {
         self.lowering.slots = FIRST_LOCAL;
         self.lowering.most_slots = FIRST_LOCAL;
         self.loops.truncate(0);
@@ -449,7 +407,7 @@ impl<'a> Making<'a> {
     }
 
     /// The parameters of a body, in slots from 0 on.
-    fn body_parameters(&mut self, profile: &'a Profile) -> Result<(), Stop> {
+    pub fn body_parameters(&mut self, profile: &'a Profile) -> Result<(), Stop> {
         let mut slot = 0u16;
         for group in profile.parameters.iter() {
             slot = self.parameter_group(group, slot)?;
@@ -503,27 +461,17 @@ impl<'a> Making<'a> {
         }
     }
 
-    /// The value of an aspect of an operation.
-    fn aspect(&self, number: usize, text: &str) -> Option<&'a Expression> {
-        let declared = self.lowering.operations.get(number)?;
-        let wanted = self.lowering.known.names.find(text)?;
-        let aspects = &declared.profile.aspects;
-        aspects
-            .iter()
-            .find(|aspect| aspect.name.number == wanted)?
-            .value
-            .as_ref()
-    }
-
-    /// What a body does, with its precondition before it and its postcondition after it (6.1.1).
+    /// What a body does, with its precondition before it and its postcondition after it (6.1.1). That of an entry isn't the body's.
     fn asserted_content(
         &mut self,
         number: usize,
         body: &'a Body,
         returns: Option<Sub>,
     ) -> Result<(), Stop> {
-        if let Some(condition) = self.aspect(number, "pre") {
-            self.assertion(condition, ASSERTION_ERROR)?;
+        if self.lowering.kind_of(number) != Kind::Entry {
+            if let Some(condition) = self.aspect(number, "pre") {
+                self.assertion(condition, ASSERTION_ERROR)?;
+            }
         }
         match self.aspect(number, "post") {
             None => self.content(body, returns),
@@ -604,6 +552,16 @@ impl<'a> Making<'a> {
         if done.is_ok() {
             done = self.asserted_content(number, body, returns);
         }
+        self.ended_operation(scope, before, done)
+    }
+
+    /// The operation whose statements were made, which had a scope and a list of its own.
+    pub fn ended_operation(
+        &mut self,
+        scope: usize,
+        before: Vec<Stmt>,
+        done: Result<(), Stop>,
+    ) -> Result<Operation, Stop> {
         let made = self.lowering.end_sequence(before)?;
         self.lowering.known.scope.truncate(scope);
         self.keep_on(done)?;
@@ -623,13 +581,7 @@ impl<'a> Making<'a> {
         self.begin_frame(number);
         let before = self.lowering.begin_list();
         let done = self.barrier_code(body, family);
-        let made = self.lowering.end_sequence(before)?;
-        self.lowering.known.scope.truncate(scope);
-        self.keep_on(done)?;
-        Ok(Operation {
-            slots: self.lowering.most_slots,
-            body: made,
-        })
+        self.ended_operation(scope, before, done)
     }
 
     fn barrier_code(&mut self, body: &'a Body, family: Option<Sub>) -> Result<(), Stop> {
@@ -671,21 +623,17 @@ impl<'a> Making<'a> {
         }
     }
 
-    /// The program: operation 0 gives the data their values; then come the body and the barrier of each operation.
+    /// The program: operation 0 gives the data their values; then come the body and the barrier of each operation, and then the
+    /// preconditions of entries.
     pub fn program(&mut self) -> Result<Program, Stop> {
         let mut operations = Vec::new(self.lowering.known.alloc);
         operations.push(self.setup()?)?;
+        let preconditions = self.made_preconditions()?;
         let mut bodies = Vec::new(self.lowering.known.alloc);
         for number in 0..self.lowering.operations.len() {
             bodies.push(self.made_operation(number, false)?)?;
         }
-        for number in 0..self.lowering.operations.len() {
-            let outer = self.made_operation(number, true)?;
-            let inner = bodies.get_mut(number);
-            if let (Some(found), Some(made)) = (inner, outer) {
-                *found = Some(made);
-            }
-        }
+        self.outer_bodies(&mut bodies)?;
         for made in bodies {
             let (body, barrier) = match made {
                 Some(pair) => pair,
@@ -694,7 +642,41 @@ impl<'a> Making<'a> {
             operations.push(body)?;
             operations.push(barrier)?;
         }
-        self.assembled(operations)
+        self.assembled(operations, preconditions)
+    }
+
+    /// Makes the bodies of the operations outside of the unit that are called, also by one another.
+    fn outer_bodies(
+        &mut self,
+        bodies: &mut Vec<Option<(Operation, Operation)>>,
+    ) -> Result<(), Stop> {
+        for _ in 0..bodies.len() {
+            if !self.more_outer_bodies(bodies)? {
+                break;
+            }
+        }
+        self.missing_bodies(
+            true,
+            " is called and has no body before that of the object: move it up",
+        )
+    }
+
+    /// Makes the bodies of the operations outside of the unit that are called so far. Says whether there were more.
+    fn more_outer_bodies(
+        &mut self,
+        bodies: &mut Vec<Option<(Operation, Operation)>>,
+    ) -> Result<bool, Stop> {
+        let mut more = false;
+        for number in 0..bodies.len() {
+            if matches!(bodies.get(number), Some(None)) {
+                let made = self.made_operation(number, true)?;
+                more = more || made.is_some();
+                if let Some(found) = bodies.get_mut(number) {
+                    *found = made;
+                }
+            }
+        }
+        Ok(more)
     }
 
     /// The body and the barrier of an operation; none of one outside of the unit that isn't called.
@@ -717,7 +699,12 @@ impl<'a> Making<'a> {
         }
     }
 
-    fn assembled(&mut self, operations: Vec<Operation>) -> Result<Program, Stop> {
+    fn assembled(
+        &mut self,
+        operations: Vec<Operation>,
+        preconditions: Vec<Operation>,
+    ) -> Result<Program, Stop> {
+        let mut operations = operations;
         let mut entries = Vec::new(self.lowering.known.alloc);
         let mut procedures = Vec::new(self.lowering.known.alloc);
         let mut functions = Vec::new(self.lowering.known.alloc);
@@ -744,6 +731,10 @@ impl<'a> Making<'a> {
                 Kind::Function if declared.public => functions.push(body)?,
                 _ => {}
             }
+        }
+        for precondition in preconditions {
+            functions.push(u16::try_from(operations.len()).unwrap_or(0))?;
+            operations.push(precondition)?;
         }
         Ok(Program {
             cells: self.cells,

@@ -7,4 +7,4 @@
 
 mod text;
 
-pub use crate::text::{AdaText, read};
+pub use crate::text::{AdaText, read, unit_names};

@@ -21,6 +21,41 @@ pub struct AdaText {
     heading: Heading,
 }
 
+/// The fault of a text without a protected unit.
+const NO_UNIT: &str = "the text has no protected type or object";
+
+/// The message of a text that has several protected units, of which none is asked for.
+fn several(alloc: Global, text: &Text) -> Result<String, AllocError> {
+    let mut message = String::from_str(
+        alloc,
+        "the text has several protected units: begin the script with 'unit' and one of these names:",
+    )?;
+    for item in text.items.iter() {
+        if let Item::Protected(unit) = item {
+            message.push(' ')?;
+            message.push_str(text.names.written(unit.name.number))?;
+        }
+    }
+    Ok(message)
+}
+
+/// Why a text has not one protected unit that is asked for, but this many.
+fn not_one(
+    alloc: Global,
+    text: &Text,
+    wanted: Option<&str>,
+    count: usize,
+) -> Result<String, AllocError> {
+    match wanted {
+        None if count > 1 => several(alloc, text),
+        None => String::from_str(alloc, NO_UNIT),
+        Some(_) => String::from_str(
+            alloc,
+            "the text has no protected unit of the name that is asked for",
+        ),
+    }
+}
+
 /// The protected unit of a text that is asked for; if none is, the only one.
 fn chosen(
     alloc: Global,
@@ -38,15 +73,10 @@ fn chosen(
             }
         }
     }
-    let message = match wanted {
-        None if count > 1 => "the text has several protected units: say which one",
-        None => "the text has no protected type or object",
-        Some(_) => "the text has no protected unit of the name that is asked for",
-    };
     match found {
         Some(name) if count == 1 => Ok(name),
         _ => {
-            faults.add(0, String::from_str(alloc, message)?)?;
+            faults.add(0, not_one(alloc, text, wanted, count)?)?;
             Err(Stop::Fault)
         }
     }
@@ -109,6 +139,32 @@ pub fn read(
     let mut faults = Faults::new(alloc);
     let made = read_text(alloc, bytes, wanted, &mut faults);
     outcome(made, faults)
+}
+
+/// The names of a text's protected units, at least one, or a stop.
+fn names_in(alloc: Global, bytes: &[u8], faults: &mut Faults) -> Result<Vec<String>, Stop> {
+    let text = parse(alloc, bytes, faults)?;
+    let mut list = Vec::new(alloc);
+    for item in text.items.iter() {
+        if let Item::Protected(unit) = item {
+            list.push(String::from_str(alloc, text.names.written(unit.name.number))?)?;
+        }
+    }
+    if list.is_empty() {
+        faults.add(0, String::from_str(alloc, NO_UNIT)?)?;
+        return Err(Stop::Fault);
+    }
+    Ok(list)
+}
+
+/// The names of a text's protected units, in order, at least one; or what is wrong with its syntax: at most 20 faults.
+pub fn unit_names(
+    alloc: Global,
+    bytes: &[u8],
+) -> Result<Result<Vec<String>, Vec<Fault>>, AllocError> {
+    let mut faults = Faults::new(alloc);
+    let names = names_in(alloc, bytes, &mut faults);
+    outcome(names, faults)
 }
 
 impl AdaText {

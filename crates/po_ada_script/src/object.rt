@@ -3,8 +3,11 @@
 
 ghost use Rattle.std.specs.Prelude.{◌≡◌, IfOk, OnOk, OnErr, [], string_bytes};
 ghost use Rattle.po_script.specs.Tickets.{Knows, AreCollected};
+ghost use Rattle.po_ada_script.specs.Preconditions.{least};
 
 use crate::operate::carry_out;
+use crate::preconditions::failed_precondition;
+use crate::replies::push_raised;
 use po_ada_language::{Operation, ScriptedObject, Stop, TextUnit, no_object, operation_of};
 use po_ada_names::{Entry, ObjectNames};
 use po_core::{Core, MakeError, Order, Start};
@@ -63,22 +66,35 @@ fn shape_of(alloc: Global, entries: &[Entry]) -> Result<Shape, Stop> {
     }
 }
 
-/// Makes the core of an object with this unit and these entries, whose calls are numbered from 1.
+/// Returns the smaller of two limits, if there is one.
+fn smaller(limit: Option<u64>, other: Option<u64>) -> Option<u64>
+    ensures { result ≡ least limit other }
+{
+    match (limit, other) {
+        (Some(limit), Some(other)) => Some(limit.min(other)),
+        (Some(limit), None) => Some(limit),
+        (None, other) => other,
+    }
+}
+
+/// Makes the core of an object with this unit and these names, whose calls are numbered from 1. A queue has at most as many calls
+/// as the text says, and at most `max_queue`.
 fn make<U: TextUnit>(
     alloc: Global,
     unit: U,
-    entries: &[Entry],
+    names: &ObjectNames,
     order: Order,
     max_queue: Option<u64>,
 ) -> Result<Core<U>, Stop>
     ensures tickets { IfOk result (λ core. core.tickets ≡ []) }
     ensures collected { IfOk result (λ core. AreCollected core) }
+    ensures limit { IfOk result (λ core. core.object.setup.max_queue ≡ least names.now.max_queue max_queue) }
 {
-    let shape = shape_of(alloc, entries)?;
+    let shape = shape_of(alloc, names.entries.as_slice())?;
     let start = Start {
         first_number: 1,
         first_place: 0,
-        max_queue,
+        max_queue: smaller(names.max_queue, max_queue),
     };
     match Core::start(alloc, unit, shape, order, start) {
         Ok(core) => Ok(core),
@@ -89,9 +105,10 @@ fn make<U: TextUnit>(
 
 impl<U: TextUnit> TextObject<U> {
     ghost use Rattle.po_script.specs.Operations.{IsEither};
-    ghost use Rattle.po_ada_script.specs.Operations.{after_operation};
+    ghost use Rattle.po_ada_script.specs.Preconditions.{after_asking};
 
-    /// Makes the object of this unit, whose calls are numbered from 1.
+    /// Makes the object of this unit, whose calls are numbered from 1. Each of its queues has at most as many calls as the text
+    /// says, and at most `max_queue`.
     #[tactic(auto, using(crate::proofs::NoCalls::knows_none))]
     pub fn new(
         alloc: Global,
@@ -101,29 +118,33 @@ impl<U: TextUnit> TextObject<U> {
         max_queue: Option<u64>,
     ) -> Result<TextObject<U>, Stop> {
         Ok(TextObject {
-            core: make(alloc, unit, names.entries.as_slice(), order, max_queue)?,
+            core: make(alloc, unit, &names, order, max_queue)?,
             tickets: Tickets::new(alloc),
             names,
         })
     }
 
-    /// Carries out the operation, and puts the lines that answer it into the empty reply.
+    /// Carries out the operation, unless it is a call whose precondition doesn't hold, and puts the lines that answer it into the
+    /// empty reply.
     pub(crate) fn operate(
         &mut self,
         operation: Operation<U::Value>,
         reply: &mut String,
     ) -> Result<(), AllocError>
         requires { string_bytes reply.old ≡ [] }
-        ensures object { OnOk result (self.new.core.object ≡ after_operation U.meaning self.old.core.object operation) }
-        ensures failed { OnErr result (IsEither self.new.core.object self.old.core.object (after_operation U.meaning self.old.core.object operation)) }
+        ensures object { OnOk result (self.new.core.object ≡ after_asking U.meaning U.parameters self.old.names.entries.items self.old.core.object operation) }
+        ensures failed { OnErr result (IsEither self.new.core.object self.old.core.object (after_asking U.meaning U.parameters self.old.names.entries.items self.old.core.object operation)) }
     {
-        carry_out(
-            &mut self.core,
-            &mut self.tickets,
-            &self.names,
-            operation,
-            reply,
-        )
+        match failed_precondition(&self.core, &self.names, &operation) {
+            Some(exception) => push_raised(reply, &self.names, exception),
+            None => carry_out(
+                &mut self.core,
+                &mut self.tickets,
+                &self.names,
+                operation,
+                reply,
+            ),
+        }
     }
 }
 

@@ -9,8 +9,12 @@ use po_unit::EntryRef;
 use std::alloc::AllocError;
 use std::fmt::Write;
 
-/// Adds the line of an exception that a procedure or a function propagates.
-fn push_raised(reply: &mut String, names: &ObjectNames, exception: u32) -> Result<(), AllocError> {
+/// Adds the line of an exception that a procedure, a function or the precondition of a call propagates.
+pub(crate) fn push_raised(
+    reply: &mut String,
+    names: &ObjectNames,
+    exception: u32,
+) -> Result<(), AllocError> {
     reply.push_str("raised ")?;
     push_exception(reply, names, exception)?;
     reply.push_str("\n")

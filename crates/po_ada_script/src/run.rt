@@ -18,8 +18,8 @@ pub enum RunFault {
     Line { number: u64, fault: LineFault },
     /// The Ada text has faults: the lines that tell them.
     Text(String),
-    /// The file of this name can't be read.
-    Unreadable(String),
+    /// The script names the file of this name, which hasn't been read. The line that does so can be answered once it is.
+    Unread(String),
     /// A read of the script failed.
     Read,
     /// A write failed, or took no byte.
@@ -39,7 +39,7 @@ pub fn fault_at(number: u64, stop: Stop) -> RunFault {
     match stop {
         Stop::Fault(fault) => RunFault::Line { number, fault },
         Stop::Text(text) => RunFault::Text(text),
-        Stop::Unreadable(name) => RunFault::Unreadable(name),
+        Stop::Unread(name) => RunFault::Unread(name),
         Stop::OutOfMemory => RunFault::OutOfMemory,
     }
 }
@@ -106,15 +106,15 @@ fn newline<A: Answers, W: Sink>(
     Ok(())
 }
 
-/// Reads a script from its beginning to its end, and writes what answers its lines. Each step but the last takes a byte, so
-/// there are at most as many as a script has bytes, and one more.
+/// Reads a script to its end, from the line on that is being cut, and writes what answers its lines. A line that isn't answered
+/// stays with `lines`. Each step but the last takes a byte, so there are at most as many as a script has bytes, and one more.
 pub fn answer_lines<A: Answers, R: Source, W: Sink>(
     alloc: Global,
+    lines: &mut Cutter,
     answers: &mut A,
     reader: &mut R,
     writer: &mut W,
 ) -> Result<(), RunFault> {
-    let mut lines = Cutter::new(alloc)?;
     for _ in 0..=SCRIPT_LIMIT {
         let Ok(piece) = lines.next(reader) else {
             return Err(RunFault::Read);
@@ -122,26 +122,13 @@ pub fn answer_lines<A: Answers, R: Source, W: Sink>(
         match piece {
             Piece::Letter => {
                 if lines.is_too_long() {
-                    return Err(fault(alloc, &lines, FaultKind::LineTooLong));
+                    return Err(fault(alloc, lines, FaultKind::LineTooLong));
                 }
             }
-            Piece::Newline => newline(alloc, &mut lines, answers, writer)?,
-            Piece::End => return answer_line(alloc, &lines, answers, writer),
-            Piece::Past => return Err(fault(alloc, &lines, FaultKind::ScriptTooLong)),
+            Piece::Newline => newline(alloc, lines, answers, writer)?,
+            Piece::End => return answer_line(alloc, lines, answers, writer),
+            Piece::Past => return Err(fault(alloc, lines, FaultKind::ScriptTooLong)),
         }
     }
-    Err(fault(alloc, &lines, FaultKind::ScriptTooLong))
-}
-
-/// Runs the script that the reader gives on the object that one of the texts says, and writes the answers.
-pub fn run_script<O: ScriptedObject + Drop, T: Texts<O> + Drop, R: Source, W: Sink>(
-    alloc: Global,
-    texts: T,
-    reader: &mut R,
-    writer: &mut W,
-) -> Result<(), RunFault> {
-    let mut interpreter: Interpreter<O, T> = Interpreter::new(alloc, texts);
-    let ran = answer_lines(alloc, &mut interpreter, reader, writer);
-    drop(interpreter);
-    ran
+    Err(fault(alloc, lines, FaultKind::ScriptTooLong))
 }

@@ -120,7 +120,7 @@ impl<'a> Reader<'a> {
             }
             Element::Name(_) => Ok(Some(self.variables_declaration()?)),
             _ => {
-                self.skip_semicolon();
+                self.skip_declaration();
                 Ok(None)
             }
         }

@@ -27,17 +27,22 @@ fn literal_form(element: Element) -> Option<Form> {
     }
 }
 
-/// Why a primary can't begin with this word; nothing if no more than a value is missing.
-fn no_value(word: Reserved) -> Option<&'static str> {
-    match word {
-        Reserved::If | Reserved::Case | Reserved::For => Some(
+/// Why a primary can't begin with this element; nothing if no more than a value is missing.
+fn no_value(element: Element) -> Option<&'static str> {
+    match element {
+        Element::Reserved(Reserved::If)
+        | Element::Reserved(Reserved::Case)
+        | Element::Reserved(Reserved::For) => Some(
             "a conditional or quantified expression stands in parentheses (4.5.7, 4.5.8)",
         ),
-        Reserved::New => Some(
+        Element::Reserved(Reserved::New) => Some(
             "allocators aren't in this subset: a protected object has all its data in itself (4.8)",
         ),
-        Reserved::Declare => Some(
+        Element::Reserved(Reserved::Declare) => Some(
             "declare expressions aren't in this subset: write a function with a block (4.5.9)",
+        ),
+        Element::Real => Some(
+            "real numbers aren't in this subset: take an integer type, as milliseconds",
         ),
         _ => None,
     }
@@ -54,10 +59,7 @@ impl<'a> Reader<'a> {
     /// The fault of what begins no primary.
     fn no_primary(&mut self) -> Stop {
         let place = self.place();
-        let Element::Reserved(word) = self.peek() else {
-            return self.expected("a value");
-        };
-        match no_value(word) {
+        match no_value(self.peek()) {
             Some(message) => self.refuse(place, message),
             None => self.expected("a value"),
         }
@@ -226,7 +228,12 @@ impl<'a> Reader<'a> {
         let place = self.place();
         let mut arms = Vec::new(self.alloc);
         for _ in 0..self.turns() {
-            if !self.takes(Reserved::If) && !self.takes(Reserved::Elsif) {
+            let word = if arms.is_empty() {
+                Reserved::If
+            } else {
+                Reserved::Elsif
+            };
+            if !self.takes(word) {
                 break;
             }
             let condition = self.operation(LOGICAL, levels)?;

@@ -16,6 +16,8 @@ pub enum Element {
     Name(u32),
     Reserved(Reserved),
     Number(u64),
+    /// A real literal, whose value isn't kept (2.4.1).
+    Real,
     /// A character literal: its byte.
     Character(u8),
     /// A string literal: how many bytes come before what stands between its quotes, and before the closing quote.
@@ -52,42 +54,59 @@ fn byte_at(text: &[u8], index: usize) -> u8 {
     }
 }
 
+/// The bytes from this index on.
+fn rest(text: &[u8], from: usize) -> &[u8] {
+    text.get(from..).unwrap_or(&[])
+}
+
+/// Whether an underline begins or ends the word, or comes after another (2.3).
+fn has_stray_underline(word: &[u8]) -> bool {
+    let mut last = b'_';
+    for byte in word {
+        if *byte == b'_' && last == b'_' {
+            return true;
+        }
+        last = *byte;
+    }
+    last == b'_'
+}
+
 /// How many letters, digits and underlines there are from here on.
 fn word_length(text: &[u8], from: usize) -> usize {
-    text.iter()
-        .skip(from)
+    rest(text, from)
+        .iter()
         .take_while(|byte| is_letter_or_digit(**byte))
         .count()
 }
 
 /// How many bytes there are from here to the end of the line.
 fn line_length(text: &[u8], from: usize) -> usize {
-    text.iter()
-        .skip(from)
+    rest(text, from)
+        .iter()
         .take_while(|byte| **byte != b'\n')
         .count()
 }
 
 /// How many bytes there are from here to a quotation mark or the end of the line.
 fn quoted_length(text: &[u8], from: usize) -> usize {
-    text.iter()
-        .skip(from)
+    rest(text, from)
+        .iter()
         .take_while(|byte| **byte != b'"' && **byte != b'\n')
         .count()
 }
 
 /// How many blanks there are from here on.
 fn blank_length(text: &[u8], from: usize) -> usize {
-    text.iter()
-        .skip(from)
+    rest(text, from)
+        .iter()
         .take_while(|byte| is_blank(**byte))
         .count()
 }
 
 /// How many bytes from here on can begin no element.
 fn foreign_length(text: &[u8], from: usize) -> usize {
-    text.iter()
-        .skip(from)
+    rest(text, from)
+        .iter()
         .take_while(|byte| is_foreign(**byte))
         .count()
 }
@@ -174,6 +193,12 @@ impl<'a> Lexer<'a> {
         let length = word_length(self.text, place);
         self.skip(length);
         let bytes = self.text.get(place..self.next).unwrap_or(&[]);
+        if has_stray_underline(bytes) {
+            self.tell(
+                place,
+                "a name has single underlines, between letters and digits (2.3)",
+            )?;
+        }
         let element = match self.names.word(bytes)? {
             Word::Reserved(reserved) => Element::Reserved(reserved),
             Word::Name(name) => Element::Name(name),
@@ -237,7 +262,21 @@ impl<'a> Lexer<'a> {
         self.scaled(number, base)
     }
 
-    /// An integer literal (2.4).
+    /// What comes after the point of a real literal (2.4.1).
+    fn real(&mut self, place: usize) -> Result<(), Stop> {
+        self.skip(1);
+        self.numeral(10);
+        if self.byte(0) == b'e' || self.byte(0) == b'E' {
+            self.skip(1);
+            if self.byte(0) == b'+' || self.byte(0) == b'-' {
+                self.skip(1);
+            }
+            self.numeral(10);
+        }
+        self.push(place, Element::Real)
+    }
+
+    /// A numeric literal (2.4).
     fn number(&mut self) -> Result<(), Stop> {
         let place = self.next;
         let mut number = self.numeral(10);
@@ -247,13 +286,9 @@ impl<'a> Lexer<'a> {
             number = self.scaled(number, 10);
         }
         if self.byte(0) == b'.' && self.byte(1).is_ascii_digit() {
-            self.tell(
-                place,
-                "real numbers aren't in this subset: take an integer type, as milliseconds",
-            )?;
-            self.skip(1);
-            self.numeral(10);
-        } else if is_letter(self.byte(0)) {
+            return self.real(place);
+        }
+        if is_letter(self.byte(0)) {
             self.tell(
                 place,
                 "a number is followed by a letter: write a space between them, and 16#FF# for a number of base 16 (2.4)",

@@ -22,6 +22,8 @@ pub struct Reader<'a> {
     pub next: usize,
     pub names: Names,
     pub faults: &'a mut Faults,
+    /// How many elements may still be looked at to find a protected unit far ahead.
+    pub looks: usize,
 }
 
 /// The reserved word that this name may be meant to be, at most two letters apart.
@@ -132,6 +134,7 @@ impl<'a> Reader<'a> {
                 format!(in self.alloc; "'{text}'")
             }
             Element::Number(number) => format!(in self.alloc; "{number}"),
+            Element::Real => String::from_str(self.alloc, "a real number"),
             Element::Character(_) => String::from_str(self.alloc, "a character"),
             Element::Text(_, _) => String::from_str(self.alloc, "a string"),
             Element::Sign(sign) => {
@@ -254,6 +257,67 @@ impl<'a> Reader<'a> {
             }
             self.step();
         }
+    }
+
+    /// How many parentheses and records are open after the next element, if this many are before it. Reads that element.
+    pub fn open_after(&mut self, open: usize) -> usize {
+        let element = self.peek();
+        self.step();
+        match element {
+            Element::Sign(Sign::LeftParenthesis) => open.saturating_add(1),
+            Element::Sign(Sign::RightParenthesis) => open.saturating_sub(1),
+            Element::Reserved(Reserved::Record) => open.saturating_add(1),
+            Element::Reserved(Reserved::End) if self.takes(Reserved::Record) => open.saturating_sub(
+                1,
+            ),
+            Element::Reserved(Reserved::Null) => {
+                self.takes(Reserved::Record);
+                open
+            }
+            Element::Reserved(Reserved::Access) => {
+                self.takes(Reserved::Protected);
+                open
+            }
+            _ => open,
+        }
+    }
+
+    /// Whether a protected unit or a package comes next, or the end of the text: no subprogram goes on past it.
+    pub fn sees_unit(&self) -> bool {
+        self.sees(Reserved::Protected)
+            || self.sees(Reserved::Package)
+            || self.peek() == Element::End
+    }
+
+    /// Whether what comes next is no part of a declaration that has begun, however faulty that is.
+    fn sees_other(&self) -> bool {
+        self.sees_unit() || self.sees(Reserved::Begin)
+    }
+
+    /// Goes on past the semicolon that ends a declaration. Those in parentheses and records don't.
+    pub fn skip_declaration(&mut self) {
+        let mut open = 0;
+        for _ in 0..self.turns() {
+            if self.sees_other() || open == 0 && self.takes_sign(Sign::Semicolon) {
+                break;
+            }
+            open = self.open_after(open);
+        }
+    }
+
+    /// Goes on to the `is` of a subprogram, or past the semicolon of its declaration, and says whether it is `is`.
+    pub fn skip_profile(&mut self) -> bool {
+        let mut open = 0;
+        for _ in 0..self.turns() {
+            if self.sees(Reserved::Is) {
+                return true;
+            }
+            if self.sees_other() || open == 0 && self.takes_sign(Sign::Semicolon) {
+                break;
+            }
+            open = self.open_after(open);
+        }
+        false
     }
 
     /// Goes on to a word or a semicolon, and says whether it is the word.

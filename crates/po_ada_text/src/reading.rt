@@ -7,14 +7,25 @@ use crate::lexer::{Element, Lexed, cut};
 use crate::reader::Reader;
 use crate::sign::Sign;
 use crate::statements::go_on;
-use po_ada_tree::fault::{Faults, Stop};
+use po_ada_tree::fault::{Fault, Faults, Stop};
 use po_ada_tree::names::Names;
 use po_ada_tree::reserved::Reserved;
-use po_ada_tree::tree::{Declaration, Item, Name, Text};
+use po_ada_tree::tree::{Declaration, Item, Name, Text, Unread};
 use std::alloc::{AllocError, Global};
 
 /// A text has at most this many bytes.
 pub const MOST_BYTES: usize = 16_777_216;
+
+/// For each element of a text, this many are looked at to find protected units in main programs.
+const MOST_LOOKS: usize = 16;
+
+/// A copy of the fault before which this many were told, if there is one.
+fn fault_at(alloc: Global, faults: &Faults, told: usize) -> Result<Option<Fault>, AllocError> {
+    match faults.items.get(told) {
+        Some(fault) => Ok(Some(fault.copy(alloc)?)),
+        None => Ok(None),
+    }
+}
 
 impl<'a> Reader<'a> {
     /// Reads a text's items. After a fault, goes on at the next item.
@@ -24,16 +35,66 @@ impl<'a> Reader<'a> {
             if self.peek() == Element::End {
                 break;
             }
+            let (start, told) = (self.next, self.faults.len());
             match self.item() {
                 Ok(Some(item)) => list.push(item)?,
                 Ok(None) => {}
                 Err(stop) => {
                     go_on(stop)?;
-                    self.skip_semicolon();
+                    self.leave(start, told, &mut list)?;
                 }
             }
         }
         Ok(list)
+    }
+
+    /// Goes on after a faulty item, which began with this element and before which this many faults were told.
+    fn leave(&mut self, start: usize, told: usize, list: &mut Vec<Item>) -> Result<(), Stop> {
+        let faulty = self.next;
+        self.next = start;
+        if self.begins_outer() {
+            self.pass_over(told, list)
+        } else {
+            self.next = faulty;
+            self.skip_semicolon();
+            Ok(())
+        }
+    }
+
+    /// Whether a type, a subtype or an object comes next, which the protected units of the text may do without.
+    fn begins_outer(&self) -> bool {
+        match (self.peek(), self.ahead(1)) {
+            (Element::Reserved(Reserved::TypeWord), _) => true,
+            (Element::Reserved(Reserved::Subtype), _) => true,
+            (Element::Name(_), Element::Sign(Sign::Colon)) => true,
+            (Element::Name(_), Element::Sign(Sign::Comma)) => true,
+            _ => false,
+        }
+    }
+
+    /// Passes over a declaration outside of protected units that has what isn't in the subset: forgets the faults after this many.
+    fn pass_over(&mut self, told: usize, list: &mut Vec<Item>) -> Result<(), Stop> {
+        if self.sees(Reserved::TypeWord) || self.sees(Reserved::Subtype) {
+            self.step();
+        }
+        let name = self.name("a name")?;
+        list.push(self.unread_item(name, told)?)?;
+        for _ in 0..self.turns() {
+            if !self.takes_sign(Sign::Comma) {
+                break;
+            }
+            let name = self.name("a name")?;
+            list.push(self.unread_item(name, told)?)?;
+        }
+        self.faults.truncate(told);
+        self.skip_declaration();
+        Ok(())
+    }
+
+    /// An item of this name that isn't read, since a fault was told after this many.
+    fn unread_item(&self, name: Name, told: usize) -> Result<Item, AllocError> {
+        let fault = fault_at(self.alloc, self.faults, told)?;
+        Ok(Item::Unread(Unread { name, fault }))
     }
 
     /// Reads an item; none if it changes no meaning.
@@ -55,6 +116,10 @@ impl<'a> Reader<'a> {
             }
             Element::Reserved(Reserved::Begin) => {
                 self.skip_program();
+                Ok(None)
+            }
+            Element::Reserved(Reserved::Overriding) | Element::Reserved(Reserved::Not) => {
+                self.step();
                 Ok(None)
             }
             Element::Reserved(Reserved::Task) => {
@@ -117,29 +182,50 @@ impl<'a> Reader<'a> {
         Ok(name)
     }
 
-    /// Opens a package: its items stand for themselves.
+    /// Opens a package: its items stand for themselves. An instance of a generic package is passed over.
     fn package(&mut self) -> Result<Option<Item>, Stop> {
-        let place = self.place();
         self.step();
         self.takes(Reserved::Body);
         let name = self.unit_name()?;
         self.ignored_aspects()?;
         self.needs(Reserved::Is)?;
         if self.sees(Reserved::New) {
-            return Err(self.refuse(
-                place,
-                "an instance of a generic package isn't in this subset (12.3)",
-            ));
+            return Ok(Some(self.instance(name)?));
         }
         Ok(Some(Item::Package(name)))
     }
 
+    /// Passes over an instance of a generic package.
+    fn instance(&mut self, name: Name) -> Result<Item, AllocError> {
+        let message = String::from_str(
+            self.alloc,
+            "an instance of a generic package isn't in this subset (12.3)",
+        )?;
+        self.skip_declaration();
+        let fault = Some(Fault {
+            place: name.place,
+            message,
+        });
+        Ok(Item::Unread(Unread { name, fault }))
+    }
+
+    /// Whether a main program comes next, with a protected unit before its end.
+    fn sees_program(&mut self) -> bool {
+        let is_short = matches!(
+            self.ahead(3),
+            Element::Reserved(Reserved::New)
+                | Element::Reserved(Reserved::Null)
+                | Element::Reserved(Reserved::Separate)
+        );
+        self.sees(Reserved::Procedure)
+            && self.ahead(2) == Element::Reserved(Reserved::Is)
+            && !is_short
+            && self.holds_protected()
+    }
+
     /// Reads a subprogram, or opens a main program.
     fn subprogram(&mut self) -> Result<Option<Item>, Stop> {
-        let is_main = self.sees(Reserved::Procedure)
-            && self.ahead(2) == Element::Reserved(Reserved::Is)
-            && self.holds_protected();
-        if is_main {
+        if self.sees_program() {
             self.step();
             let name = self.name("the program's name")?;
             self.step();
@@ -157,20 +243,36 @@ impl<'a> Reader<'a> {
         }
     }
 
-    /// Passes over a subprogram outside of protected units that has what isn't in the subset. It may not be called.
+    /// Passes over a subprogram outside of protected units that has what isn't in the subset: forgets the faults after this many.
     fn unread(&mut self, start: usize, told: usize) -> Result<Option<Item>, Stop> {
-        self.faults.truncate(told);
         self.next = start;
         self.step();
         let name = self.name("the operation's name")?;
-        self.skip_unit(name);
-        Ok(Some(Item::Unread(name)))
+        let item = self.unread_item(name, told)?;
+        self.faults.truncate(told);
+        if self.skip_profile() {
+            self.skip_content(name);
+        }
+        Ok(Some(item))
     }
 
-    /// Goes on past `end NAME;`.
+    /// Goes on past `is` and what comes after it in the subprogram of this name: a body, or a few words.
+    fn skip_content(&mut self, name: Name) {
+        self.step();
+        match self.peek() {
+            Element::Sign(_)
+            | Element::Reserved(Reserved::Abstract)
+            | Element::Reserved(Reserved::New)
+            | Element::Reserved(Reserved::Null)
+            | Element::Reserved(Reserved::Separate) => self.skip_declaration(),
+            _ => self.skip_unit(name),
+        }
+    }
+
+    /// Goes on past `end NAME;`, or to the next protected unit or package.
     fn skip_unit(&mut self, name: Name) {
         for _ in 0..self.turns() {
-            if self.peek() == Element::End {
+            if self.sees_unit() {
                 break;
             }
             let ends = self.takes(Reserved::End);
@@ -179,7 +281,7 @@ impl<'a> Reader<'a> {
                 break;
             }
             if !ends {
-                self.step();
+                self.open_after(0);
             }
         }
     }
@@ -210,24 +312,32 @@ impl<'a> Reader<'a> {
     /// Passes over the statements of a program or a package, up to the next protected unit or package.
     fn skip_program(&mut self) {
         for _ in 0..self.turns() {
-            if self.sees(Reserved::Protected)
-                || self.sees(Reserved::Package)
-                || self.peek() == Element::End
-            {
+            if self.sees_unit() {
                 break;
             }
-            self.step();
+            self.open_after(0);
         }
     }
 
-    /// Whether a protected unit comes before the next `begin`.
-    fn holds_protected(&self) -> bool {
-        for distance in 0..self.turns() {
-            match self.ahead(distance) {
-                Element::Reserved(Reserved::Protected) => return true,
-                Element::Reserved(Reserved::Begin) | Element::End => return false,
-                _ => {}
+    /// Whether a protected unit comes before `end` and the name of the subprogram that comes next.
+    fn holds_protected(&mut self) -> bool {
+        let name = self.ahead(1);
+        let mut last = name;
+        for distance in 2..self.turns() {
+            if self.looks == 0 {
+                return false;
             }
+            self.looks -= 1;
+            let element = self.ahead(distance);
+            let is_type = last == Element::Reserved(Reserved::Access);
+            if element == Element::Reserved(Reserved::Protected) && !is_type {
+                return true;
+            }
+            let ends = last == Element::Reserved(Reserved::End) && element == name;
+            if ends || element == Element::End {
+                return false;
+            }
+            last = element;
         }
         false
     }
@@ -236,6 +346,7 @@ impl<'a> Reader<'a> {
 /// Reads the items of a text that is short enough.
 fn read_items(alloc: Global, text: &[u8], faults: &mut Faults) -> Result<Text, Stop> {
     let Lexed { elements, names } = cut(alloc, text, faults)?;
+    let looks = elements.len().saturating_mul(MOST_LOOKS);
     let mut reader = Reader {
         alloc,
         text_length: text.len(),
@@ -243,6 +354,7 @@ fn read_items(alloc: Global, text: &[u8], faults: &mut Faults) -> Result<Text, S
         next: 0,
         names,
         faults,
+        looks,
     };
     let items = reader.items()?;
     let Reader { names, .. } = reader;

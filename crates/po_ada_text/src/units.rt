@@ -156,7 +156,7 @@ impl<'a> Reader<'a> {
             self.semicolon()?;
             return Ok(Content::Statements(Vec::new(self.alloc), self.null_sequence(place)?));
         }
-        if self.sees_sign(Sign::LeftParenthesis) {
+        if self.sees_sign(Sign::LeftParenthesis) || self.sees_sign(Sign::LeftBracket) {
             let value = self.expression(MOST_LEVELS)?;
             self.ignored_aspects()?;
             self.semicolon()?;
@@ -217,13 +217,7 @@ impl<'a> Reader<'a> {
         let discriminants = self.discriminants()?;
         self.ignored_aspects()?;
         self.needs(Reserved::Is)?;
-        if self.sees(Reserved::New) {
-            let place = self.place();
-            return Err(self.refuse(
-                place,
-                "interfaces aren't in this subset: leave 'new .. with' out (9.4)",
-            ));
-        }
+        self.interfaces()?;
         let public = self.parts()?;
         let mut private = Vec::new(self.alloc);
         if self.takes(Reserved::Private) {
@@ -243,10 +237,23 @@ impl<'a> Reader<'a> {
         })
     }
 
+    /// Passes over the interfaces that a protected unit implements, if it names any: they change no action of its object (9.4).
+    fn interfaces(&mut self) -> Result<(), Stop> {
+        if self.takes(Reserved::New) {
+            self.skip_to(Reserved::With);
+            self.needs(Reserved::With)?;
+        }
+        Ok(())
+    }
+
     /// Reads discriminants in parentheses, if they come next (3.7).
     fn discriminants(&mut self) -> Result<Vec<Variables>, Stop> {
         let mut list = Vec::new(self.alloc);
+        let place = self.place();
         for parameters in self.parameter_list()? {
+            if parameters.mode != Mode::In {
+                return Err(self.refuse(place, "a discriminant has no mode (3.7)"));
+            }
             list.push(parameters.variables)?;
         }
         Ok(list)

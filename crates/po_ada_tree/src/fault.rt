@@ -1,7 +1,7 @@
 // SPDX-License-Identifier: MIT
 //! What is wrong with a text, and where.
 
-ghost use Rattle.std.specs.Prelude.{◌≡◌, ◌+◌, ◌≤◌, ◌↔◌, IsTrue, take, vec_len, OnOk};
+ghost use Rattle.std.specs.Prelude.{◌≡◌, ◌+◌, ◌≤◌, ◌↔◌, IsTrue, take, vec_len, IfOk, OnOk};
 
 use std::alloc::{AllocError, AllocFailed, Global};
 
@@ -14,6 +14,19 @@ pub struct Fault {
     /// How many bytes come before it.
     pub place: usize,
     pub message: String,
+}
+
+impl Fault {
+    /// Returns a copy.
+    pub fn copy(&self, alloc: Global) -> Result<Fault, AllocError>
+        ensures { IfOk result (λ copy. copy.place ≡ self.now.place) }
+    {
+        let message = String::from_str(alloc, self.message.as_str())?;
+        Ok(Fault {
+            place: self.place,
+            message,
+        })
+    }
 }
 
 /// Why a part of a text was not read.

@@ -1,6 +1,7 @@
 // SPDX-License-Identifier: MIT
 //! The syntax tree of a text: what is written, with the place of each part, and not what it means.
 
+use crate::fault::Fault;
 use crate::names::Names;
 
 /// A name that stands at a place.
@@ -395,8 +396,15 @@ pub enum Item {
     Operation(Body),
     Protected(Protected),
     ProtectedBody(ProtectedBody),
-    /// A subprogram that has what isn't in the subset.
-    Unread(Name),
+    Unread(Unread),
+}
+
+/// A declaration outside of protected units that has what isn't in the subset: no protected unit may use it.
+#[derive(Debug, Drop)]
+pub struct Unread {
+    pub name: Name,
+    /// What was found first that isn't in the subset.
+    pub fault: Option<Fault>,
 }
 
 /// A text that was read.

@@ -2,9 +2,10 @@
 //! What is known of a text: types, the meanings of names, and the faults that were told.
 
 use crate::types::{Kind, Meaning, Symbol};
-use po_ada_tree::tree::Name;
-use po_ada_tree::{Faults, Names, Stop};
+use po_ada_tree::tree::{Name, Unread};
+use po_ada_tree::{Fault, Faults, Names, Stop};
 use std::alloc::{AllocError, Global};
+use std::mem;
 use strsim::levenshtein;
 
 /// A text declares at most this many names.
@@ -20,6 +21,30 @@ pub struct Known<'a> {
     pub scope: Vec<Symbol>,
     /// The literals of enumeration types, each with its type.
     pub literals: Vec<(u32, usize)>,
+    /// Why names may not be used: the faults of their declarations.
+    pub reasons: Vec<Fault>,
+}
+
+/// A scope in which the names from `from` on stand before those from `inner` on.
+fn turned(
+    alloc: Global,
+    scope: &[Symbol],
+    inner: usize,
+    from: usize,
+) -> Result<Vec<Symbol>, AllocError> {
+    let mut turned = Vec::new(alloc);
+    turned.extend_from_slice(scope.get(..inner).unwrap_or(&[]))?;
+    turned.extend_from_slice(scope.get(from..).unwrap_or(&[]))?;
+    turned.extend_from_slice(scope.get(inner..from).unwrap_or(&[]))?;
+    Ok(turned)
+}
+
+/// A copy of the fault before which this many were told, if there is one.
+fn fault_at(alloc: Global, faults: &Faults, told: usize) -> Result<Option<Fault>, AllocError> {
+    match faults.items.get(told) {
+        Some(fault) => Ok(Some(fault.copy(alloc)?)),
+        None => Ok(None),
+    }
 }
 
 impl<'a> Known<'a> {
@@ -32,6 +57,7 @@ impl<'a> Known<'a> {
             kinds: Vec::new(alloc),
             scope: Vec::new(alloc),
             literals: Vec::new(alloc),
+            reasons: Vec::new(alloc),
         }
     }
 
@@ -68,6 +94,59 @@ impl<'a> Known<'a> {
         Ok(message)
     }
 
+    /// Puts the names that came last, from this place of the scope on, before those from `inner` on, so that they hide none of these
+    /// (8.3). Returns where these begin then.
+    pub fn lower(&mut self, inner: usize, from: usize) -> Result<usize, AllocError> {
+        let lowered = self.scope.len().saturating_sub(from);
+        if lowered > 0 {
+            let scope = turned(self.alloc, self.scope.as_slice(), inner, from)?;
+            drop(mem::replace(&mut self.scope, scope));
+        }
+        Ok(inner.saturating_add(lowered))
+    }
+
+    /// If a fault was told after this many, forgets what was told since. These names may not be used, then.
+    pub fn excuse(&mut self, told: usize, names: &[Name]) -> Result<(), Stop> {
+        let Some(fault) = fault_at(self.alloc, self.faults, told)? else {
+            return Ok(());
+        };
+        self.faults.truncate(told);
+        let reason = self.reasons.len();
+        self.reasons.push(fault)?;
+        for name in names {
+            self.define(*name, Meaning::Unread(Some(reason)))?;
+        }
+        Ok(())
+    }
+
+    /// Gives the name of a declaration that isn't in the subset its meaning.
+    pub fn define_unread(&mut self, unread: &Unread) -> Result<(), Stop> {
+        let mut reason = None;
+        if let Some(fault) = &unread.fault {
+            reason = Some(self.reasons.len());
+            self.reasons.push(fault.copy(self.alloc)?)?;
+        }
+        self.define(unread.name, Meaning::Unread(reason))
+    }
+
+    /// Tells why a name may not be used: the fault of its declaration, or, if none is known, that of its use at this place.
+    pub fn refuse_unread(
+        &mut self,
+        reason: Option<usize>,
+        place: usize,
+        before: &str,
+        name: u32,
+        after: &str,
+    ) -> Stop {
+        let Some(fault) = reason.and_then(|reason| self.reasons.get(reason)) else {
+            return self.refuse_name(place, before, name, after);
+        };
+        match fault.copy(self.alloc) {
+            Ok(fault) => self.refuse_by(fault.place, fault.message),
+            Err(_) => Stop::OutOfMemory,
+        }
+    }
+
     /// What a name stands for.
     pub fn look_up(&self, name: u32) -> Option<Meaning> {
         self.scope
@@ -102,7 +181,12 @@ impl<'a> Known<'a> {
     pub fn unknown(&mut self, place: usize, name: u32) -> Stop {
         match self.meant(name) {
             Ok(Some(other)) => self.refuse_meant(place, name, other),
-            Ok(None) => self.refuse_name(place, "nothing here has the name ", name, ""),
+            Ok(None) => self.refuse_name(
+                place,
+                "nothing here has the name ",
+                name,
+                "; other files aren't read",
+            ),
             Err(_) => Stop::OutOfMemory,
         }
     }

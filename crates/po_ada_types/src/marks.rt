@@ -18,7 +18,8 @@ impl<'a> Known<'a> {
         match self.look_up(name) {
             Some(Meaning::Type(sub)) => Ok(sub),
             Some(Meaning::Faulty) => Err(Stop::Fault),
-            Some(Meaning::Unread) => Err(self.refuse_name(
+            Some(Meaning::Unread(reason)) => Err(self.refuse_unread(
+                reason,
                 mark.place,
                 "the type ",
                 name,
@@ -95,7 +96,7 @@ impl<'a> Known<'a> {
         self.predefined_type(text, Structure::Integer(low, high), low, high)
     }
 
-    /// The subtypes of Integer, and the literals of Boolean (A.1, D.1).
+    /// The subtypes of Integer, the literals of Boolean, and the default priority as GNAT has it (A.1, D.1).
     fn predefine_subtypes(&mut self) -> Result<(), Stop> {
         for (text, low, high) in [
             ("natural", 0, 2_147_483_647),
@@ -108,6 +109,7 @@ impl<'a> Known<'a> {
         for (text, number) in [("false", 0), ("true", 1)] {
             self.predefine(text, Meaning::Number(number, BOOLEAN))?;
         }
+        self.predefine("default_priority", Meaning::Number(48, INTEGER))?;
         Ok(())
     }
 
@@ -125,7 +127,7 @@ impl<'a> Known<'a> {
             "unbounded_string",
             "task_id",
         ] {
-            self.predefine(text, Meaning::Unread)?;
+            self.predefine(text, Meaning::Unread(None))?;
         }
         Ok(())
     }

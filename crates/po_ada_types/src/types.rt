@@ -84,8 +84,8 @@ pub enum Meaning {
     /// The number of an operation.
     Operation(usize),
     Package,
-    /// A subprogram or a variable outside of the unit that isn't in the subset.
-    Unread,
+    /// Something outside of the unit that isn't in the subset, and the number of the fault that says so, if there is one.
+    Unread(Option<usize>),
     /// A parameter of the entry, which its barrier may not use (9.5.2).
     Hidden,
     /// A name whose declaration has a fault, which was told.

@@ -79,12 +79,13 @@ impl<'a> Lowering<'a> {
             Some(Meaning::Exception(exception)) => Ok(Denoted::Exception(exception)),
             Some(Meaning::Operation(operation)) => Ok(Denoted::Operation(operation)),
             Some(Meaning::Package) => Ok(Denoted::Package),
-            Some(Meaning::Unread) => Err(
-                self.known.refuse_name(
+            Some(Meaning::Unread(reason)) => Err(
+                self.known.refuse_unread(
+                    reason,
                     place,
                     "",
                     name,
-                    " has what isn't in this subset: write it without, as a function of numbers",
+                    " isn't in this subset: an operation uses its own object alone, beside constants and functions",
                 ),
             ),
             Some(Meaning::Hidden) => Err(

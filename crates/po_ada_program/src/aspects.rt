@@ -1,0 +1,58 @@
+// SPDX-License-Identifier: MIT
+//! The aspects of operations (13.1.1).
+
+use crate::making::Making;
+use po_ada_tree::Stop;
+use po_ada_tree::tree::{Aspect, Expression, Kind, Name, Profile};
+
+/// The aspects that mean something and aren't in the subset.
+const REFUSED: [&str; 4] = ["pre'class", "post'class", "import", "address"];
+
+impl<'a> Making<'a> {
+    /// Whether the name is one of these.
+    pub fn is_one_of(&self, name: Name, texts: &[&str]) -> bool {
+        let names = self.lowering.known.names;
+        texts
+            .iter()
+            .any(|text| names.find(text) == Some(name.number))
+    }
+
+    /// Refuses aspects that mean something and aren't in the subset.
+    pub fn admit_aspects(&mut self, profile: &'a Profile) -> Result<(), Stop> {
+        for aspect in profile.aspects.iter() {
+            if self.is_one_of(aspect.name, &REFUSED) {
+                return Err(
+                    self.lowering.known.refuse_name(
+                        aspect.name.place,
+                        "the aspect ",
+                        aspect.name.number,
+                        " isn't in this subset yet: write pragma Assert in the body",
+                    ),
+                );
+            }
+        }
+        Ok(())
+    }
+
+    /// An aspect of an operation.
+    fn named_aspect(&self, number: usize, text: &str) -> Option<&'a Aspect> {
+        let declared = self.lowering.operations.get(number)?;
+        let wanted = self.lowering.known.names.find(text)?;
+        let aspects = &declared.profile.aspects;
+        aspects.iter().find(|aspect| aspect.name.number == wanted)
+    }
+
+    /// The value of an aspect of an operation.
+    pub fn aspect(&self, number: usize, text: &str) -> Option<&'a Expression> {
+        self.named_aspect(number, text)?.value.as_ref()
+    }
+
+    /// The precondition of an entry and its place. Callers check it; the body of another operation checks its own (6.1.1).
+    pub fn entry_precondition(&self, number: usize) -> Option<(usize, &'a Expression)> {
+        if self.lowering.kind_of(number) != Kind::Entry {
+            return None;
+        }
+        let aspect = self.named_aspect(number, "pre")?;
+        Some((aspect.name.place, aspect.value.as_ref()?))
+    }
+}
