@@ -1,7 +1,7 @@
 // SPDX-License-Identifier: MIT
 //! Texts that were changed at places that are drawn by lot.
 
-use po_ada_tree::reserved::RESERVED;
+use po_ada_tree::reserved::{RESERVED, Reserved};
 use std::alloc::{AllocError, Global};
 
 /// What is put around a word, any number of times.
@@ -203,9 +203,9 @@ fn nested(alloc: Global, text: &[u8], word: Part, lot: &mut Lot) -> Result<Vec<u
 
 /// The text with a reserved word in the place of a word, or before it.
 fn reworded(alloc: Global, text: &[u8], word: Part, lot: &mut Lot) -> Result<Vec<u8>, AllocError> {
-    let reserved = match RESERVED.get(lot.below(RESERVED.len())) {
-        Some((found, _)) => *found,
-        None => "",
+    let (reserved, _) = match RESERVED.get(lot.below(RESERVED.len())) {
+        Some(found) => *found,
+        None => ("", Reserved::Abort),
     };
     if lot.below(2) == 0 {
         return spliced(alloc, text, word, &[reserved.as_bytes()]);
