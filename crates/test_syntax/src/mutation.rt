@@ -216,15 +216,13 @@ fn reserved_text(number: usize) -> &'static str {
 /// The text with a reserved word in the place of a word, or before it.
 fn reworded(alloc: Global, text: &[u8], word: Part, lot: &mut Lot) -> Result<Vec<u8>, AllocError> {
     let reserved = reserved_text(lot.below(RESERVED.len()));
-    if lot.below(2) == 0 {
-        return spliced(alloc, text, word, &[reserved.as_bytes()]);
+    let mut middle = Vec::new(alloc);
+    middle.extend_from_slice(reserved.as_bytes())?;
+    if lot.below(2) != 0 {
+        middle.extend_from_slice(b" ")?;
+        middle.extend_from_slice(word.of(text))?;
     }
-    spliced(
-        alloc,
-        text,
-        word,
-        &[reserved.as_bytes(), b" ", word.of(text)],
-    )
+    spliced(alloc, text, word, &[middle.as_slice()])
 }
 
 /// The text with two words that come one after the other swapped.
