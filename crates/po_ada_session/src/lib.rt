@@ -10,10 +10,12 @@
 
 mod checking;
 mod file;
+mod scene_texts;
 mod session;
 mod texts;
 
 pub use crate::checking::hints_on;
 pub use crate::file::TextFile;
+pub use crate::scene_texts::SceneTexts;
 pub use crate::session::{Check, Run, Session};
 pub use crate::texts::TextFiles;
