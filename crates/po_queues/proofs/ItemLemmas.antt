@@ -1,13 +1,15 @@
 -- The links of the list, once an item is added or taken out.
 use Rattle.std.proofs.Common.{◌≡◌, ℕ, Bool, true, false, cond, eqb, List, [], ◌∷◌, ◌++◌, Option, Some, None, refl}
 use Rattle.std.proofs.Common.{sym, ap, ap₂, ◌∙◌, inl, inr}
-use Rattle.std.proofs.lemmas.Bool.{cases_Bool, eqb-true, eqb-false, eq-eqb, ne_eqb}
+use Rattle.std.specs.Prelude.{option_map}
+use Rattle.std.proofs.lemmas.Bool.{cases_Bool, eqb-true, eqb-false, eq-eqb, ne_eqb, false≢true}
 use Rattle.std.proofs.lemmas.List.{append-nil}
 use Rattle.po_queues.proofs.KeyLemmas.{after_free, before_free, last_free, tail_free, free_same, other_way, not_both}
 use Rattle.po_queues.proofs.KeyLemmas.{after_push, after_new, before_push, before_new, after_without, before_without}
 use Rattle.po_queues.proofs.KeyLemmas.{neighbours, without_free}
 use Rattle.po_queues.specs.QueuedKeys.{QueuedKey, keys_of, keys_on, item_of, without_key, occurs, last_key_or}
 use Rattle.po_queues.specs.QueuedKeys.{key_after, key_before_or, without, AreDistinct, is_this}
+use Rattle.po_queues.specs.QueuedKeys.{first_key, first_of, after_item, key_after_in_queue}
 use Rattle.po_queues.specs.Links.{link_with, link_of_item, link_of, put_after, put_before}
 use Rattle.po_queues.specs.declared.link.Link.{Link}
 
@@ -294,3 +296,37 @@ link_gone j items = same_item (without_key j items) j None (item_gone j items)
 pub link_of_found : (k : ℕ) (items : List QueuedKey) (x : QueuedKey) → item_of k items ≡ Some x
     → link_of items k ≡ Some (link_with (keys_on x.entry items) x)
 link_of_found k items x e = same_item items k (Some x) e
+
+-- a key without an item is in no queue
+none_on : (e k : ℕ) (items : List QueuedKey) → item_of k items ≡ None → occurs k (keys_on e items) ≡ false
+none_on e k [] none = refl
+none_on e k (x ∷ xs) none = elim (cases_Bool (eqb x.key k)) [
+  | inl equal ↦ let bad : Some x ≡ None = simp equal at none in absurd (cc)
+  | inr differ ↦ elim (cases_Bool (eqb x.entry e)) [
+    | inl on_entry ↦ simp (on_entry, differ) (none_on e k xs (simp differ at none))
+    | inr elsewhere ↦ simp elsewhere (none_on e k xs (simp differ at none))
+  ]
+]
+
+-- a key that is queued on an entry has an item there
+key_has : (e k : ℕ) (items : List QueuedKey) (o : Option QueuedKey) → AreDistinct (keys_of items)
+    → occurs k (keys_on e items) ≡ true → item_of k items ≡ o
+    → (x : QueuedKey) × (o ≡ Some x) × (x.entry ≡ e) × (x.key ≡ k)
+key_has e k items None d has found = absurd (false≢true (sym (none_on e k items found) ∙ has))
+key_has e k items (Some x) d has found = elim (cases_Bool (eqb x.entry e)) [
+  | inl on_entry ↦ (x, refl, eqb-true x.entry e on_entry, (item_has k items x found).0)
+  | inr elsewhere ↦ absurd (false≢true (sym (other_entry k e items x d found elsewhere) ∙ has))
+]
+
+-- the key after one in its queue is the one after it on its entry
+pub after_on : (e k : ℕ) (items : List QueuedKey) → AreDistinct (keys_of items) → occurs k (keys_on e items) ≡ true
+    → key_after_in_queue k items ≡ key_after k (keys_on e items)
+after_on e k items d has =
+    let h = key_has e k items (item_of k items) d has refl in
+    ap (after_item items) h.1 ∙ ap₂ (λ (j f : ℕ). key_after j (keys_on f items)) h.3 h.2
+
+-- the first key of a queue is that of its first item
+pub first_is_key : (items : List QueuedKey) (o : Option (ℕ × ℕ)) → first_of items ≡ o
+    → first_key (keys_of items) ≡ option_map (λ p. p.0) o
+first_is_key [] o e = rw (← e) refl
+first_is_key (x ∷ xs) o e = rw (← e) refl

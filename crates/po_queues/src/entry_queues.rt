@@ -1,10 +1,11 @@
 // SPDX-License-Identifier: MIT
 //! The entry queues of an object, seen as one list of queued keys in order of arrival.
 
-ghost use Rattle.std.specs.Prelude.{◌≡◌, ◌<◌, ◌≤◌, ◌∷◌, ◌++◌, [], length, slice_index, false, max, ℕ};
+ghost use Rattle.std.specs.Prelude.{◌≡◌, ◌<◌, ◌≤◌, ◌∷◌, ◌++◌, [], length, slice_index, true, false, max, ℕ};
 ghost use Rattle.std.specs.Prelude.{◌+◌, IfOk, IsOk, IfSome, IfNone, OnOk, OnErr};
 ghost use Rattle.std.specs.List.{All};
 ghost use Rattle.po_queues.specs.QueuedKeys.{occurs, first_key, key_after, keys_on, queue_of, stamp_of};
+ghost use Rattle.po_queues.specs.QueuedKeys.{key_after_in_queue};
 ghost use Rattle.po_queues.specs.Arrived.{AreInOrder, all_queued, arrived_keys, first_due, without_arrived};
 
 use crate::arrivals::Arrivals;
@@ -16,7 +17,7 @@ use std::marker::Model;
 /// The entry queues of a protected object (9.5.3, FIFO_Queuing of D.4). Keys stand for calls. They are kept by entry, in order
 /// of arrival over all entries, and by the times at which their calls expire, if they do (9.7.2).
 ///
-/// Except for `new` and `reserve`, no method takes memory.
+/// Except for `new`, `copy` and `reserve`, no method takes memory.
 #[derive(Debug, Drop)]
 pub struct EntryQueues {
     /// The queue of each entry.
@@ -55,6 +56,18 @@ impl EntryQueues {
             arrivals: Arrivals::new(alloc),
             expirations: Expirations::new(alloc),
             reserved: 0,
+        })
+    }
+
+    /// Makes equal queues, with as many keys reserved. Fails only if memory runs out.
+    pub fn copy(&self) -> Result<EntryQueues, AllocError>
+        ensures { IfOk result (λ copy. copy ≡ self.now) }
+    {
+        Ok(EntryQueues {
+            by_entry: self.by_entry.copy()?,
+            arrivals: self.arrivals.copy()?,
+            expirations: self.expirations.copy()?,
+            reserved: self.reserved,
         })
     }
 
@@ -141,6 +154,25 @@ impl EntryQueues {
         ensures { result ≡ key_after key (arrived_keys self.now.items) }
     {
         self.arrivals.after(key)
+    }
+
+    /// Returns the first key of the entry's queue, if it has one: the next to be served (D.4).
+    pub fn first_on(&self, entry: u16) -> Option<usize>
+        requires { entry < self.now.total }
+        ensures { result ≡ first_key (keys_on entry (all_queued self.now.items)) }
+    {
+        let (key, _) = self.by_entry.first(entry)?;
+        Some(key)
+    }
+
+    /// Returns the key after this one in its queue, if this one is queued and isn't the last.
+    pub fn after(&self, key: usize) -> Option<usize>
+        ensures exact { result ≡ key_after_in_queue key (all_queued self.now.items) }
+        ensures on_entry { (e : ℕ) → occurs key (keys_on e (all_queued self.now.items)) ≡ true →
+            result ≡ key_after key (keys_on e (all_queued self.now.items)) }
+    {
+        self.by_entry.recall_invariant();
+        self.by_entry.after(key)
     }
 
     /// Returns how many keys are reserved: all keys below this number.
