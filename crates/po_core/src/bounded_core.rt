@@ -77,3 +77,18 @@ impl<U: Unit> Core<U, Unrecorded<U>> {
         self.in_action.issued()
     }
 }
+
+impl<U: Unit + Drop> Core<U, Unrecorded<U>> {
+    pub fn copy(&self) -> Result<Core<U, Unrecorded<U>>, std::alloc::AllocError> {
+        Ok(Core { in_action: CoreInAction {
+            setup: self.in_action.setup.copy()?,
+            state: self.in_action.state.copy()?,
+            kept: Unrecorded::new(),
+            place: self.in_action.place,
+            last: self.in_action.last,
+        }})
+    }
+    pub fn queued_on(&self, e: u16, calls: &mut Vec<po_calls::Call<U::Value>>) -> Result<(), std::alloc::AllocError> {
+        self.in_action.state.queued_on(e, calls)
+    }
+}

@@ -105,3 +105,14 @@ impl<U: Unit> Setup<U> {
         self.start.first_place
     }
 }
+
+impl<U: Unit + Drop> Setup<U> {
+    pub fn copy(&self) -> Result<Setup<U>, std::alloc::AllocError> {
+        Ok(Setup {
+            opening: self.opening.copy()?,
+            shape: self.shape.copy()?,
+            order: self.order,
+            start: self.start,
+        })
+    }
+}

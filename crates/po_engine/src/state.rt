@@ -180,3 +180,17 @@ impl<U: Unit> State<U> {
         self.calls.recall_invariant();
     }
 }
+
+impl<U: Unit + Drop> State<U> {
+    pub fn copy(&self) -> Result<State<U>, AllocError> {
+        Ok(State {
+            unit: self.unit.copy()?,
+            calls: self.calls.copy()?,
+            finalized: self.finalized,
+            owed: self.owed,
+        })
+    }
+    pub fn queued_on(&self, entry: u16, calls: &mut Vec<Call<U::Value>>) -> Result<(), AllocError> {
+        self.calls.queued_on(entry, calls)
+    }
+}

@@ -11,7 +11,7 @@ use po_ada_language::Stop;
 use po_ada_names::ObjectNames;
 use po_ada_unit::Values;
 use po_core::End;
-use po_scene::{Action, Scene};
+use po_scene::Scene;
 use std::alloc::{AllocError, Global};
 
 /// How far a search goes.
@@ -100,13 +100,12 @@ impl Explored {
     /// Notes what came of a caller's command with this line.
     fn note_news(
         &mut self,
-        news: News,
+        news: &News,
         line: usize,
-        layer: usize,
-        node: usize,
+        place: Place,
         caller: u16,
     ) -> Result<(), AllocError> {
-        let kind = match news {
+        let kind = match *news {
             News::Ended {
                 end: End::Completed(_),
                 ..
@@ -137,9 +136,26 @@ impl Explored {
         self.note(Finding {
             kind,
             line,
-            layer,
-            node,
+            layer: place.layer,
+            node: place.node,
             caller: Some(caller),
+        })
+    }
+
+    /// Notes a situation in which no caller can make a command.
+    fn end(&mut self, situation: &Situation, place: Place) -> Result<(), AllocError> {
+        self.ends = self.ends.saturating_add(1);
+        self.orders = self.orders.saturating_add(place.orders);
+        if !situation.has_waiting() {
+            return Ok(());
+        }
+        self.stuck = self.stuck.saturating_add(1);
+        self.note(Finding {
+            kind: Kind::Stuck,
+            line: 0,
+            layer: place.layer,
+            node: place.node,
+            caller: None,
         })
     }
 }
@@ -166,40 +182,54 @@ fn line_of(scene: &Scene, situation: &Situation, caller: u16) -> usize {
     }
 }
 
-/// A search at work.
-struct Search<'a> {
-    alloc: Global,
-    scene: &'a Scene,
+/// What has been found, and what is needed to find more.
+#[derive(Drop)]
+struct Notes {
     explored: Explored,
     /// By object: the number of its function Invariant.
     invariants: Vec<Option<u16>>,
+    /// What the latest command brought about.
     news: Vec<News>,
 }
 
-impl<'a> Search<'a> {
-    /// Notes the objects whose invariants don't hold.
+/// A place in the search: a situation of the latest layer, and in how many orders it is reached.
+#[derive(Clone, Copy)]
+struct Place {
+    layer: usize,
+    node: usize,
+    orders: u128,
+}
+
+impl Notes {
+    /// Returns what is known before the first situation is looked at.
+    fn new(alloc: Global, scene: &Scene) -> Result<Notes, AllocError> {
+        let mut invariants = Vec::with_capacity(alloc, scene.objects.len())?;
+        for object in scene.objects.iter() {
+            invariants.push(invariant_of(&object.names))?;
+        }
+        Ok(Notes {
+            explored: Explored::new(alloc, scene)?,
+            invariants,
+            news: Vec::new(alloc),
+        })
+    }
+
+    /// Notes the objects whose invariants don't hold, if there are any.
     fn note_invariants(
         &mut self,
         situation: &Situation,
-        layer: usize,
-        node: usize,
+        place: Place,
         caller: Option<u16>,
     ) -> Result<(), AllocError> {
-        for object in 0..self.invariants.len() {
-            let Some(op) = self.invariants[object] else {
-                continue;
-            };
-            let holds = match situation.cores[object].function(op, Values::new([0; 8])) {
-                Ok(Ok(value)) => value.cells[0] != 0,
-                Ok(Err(_)) => false,
-                Err(_) => true,
-            };
-            if !holds {
+        for (object, function) in self.invariants.iter().enumerate() {
+            if let Some(op) = function
+                && !holds(situation, object, *op)
+            {
                 self.explored.note(Finding {
                     kind: Kind::Invariant(object as u16),
                     line: 0,
-                    layer,
-                    node,
+                    layer: place.layer,
+                    node: place.node,
                     caller,
                 })?;
             }
@@ -207,136 +237,176 @@ impl<'a> Search<'a> {
         Ok(())
     }
 
-    /// Has a caller make its next command in a situation of this layer, notes what is found, and returns the situation that follows.
+    /// Has a caller make its next command in a situation, notes what is found, and returns the situation that follows.
     fn follow(
         &mut self,
+        alloc: Global,
+        scene: &Scene,
         situation: &Situation,
-        layer: usize,
-        node: usize,
+        place: Place,
         caller: u16,
     ) -> Result<Situation, AllocError> {
-        let mut next = situation.copy(self.alloc)?;
+        let mut next = situation.copy(alloc)?;
         self.news.clear();
-        next.carry_out(self.scene, caller, &mut self.news)?;
+        next.carry_out(scene, caller, &mut self.news)?;
         self.explored.moves = self.explored.moves.saturating_add(1);
-        for position in 0..self.news.len() {
-            let news = self.news[position];
-            let line = line_of(self.scene, &next, caller_of(&news));
-            self.explored.note_news(news, line, layer, node, caller)?;
+        for news in self.news.iter() {
+            let line = line_of(scene, &next, caller_of(news));
+            self.explored.note_news(news, line, place, caller)?;
         }
-        self.note_invariants(&next, layer, node, Some(caller))?;
+        self.note_invariants(&next, place, Some(caller))?;
         Ok(next)
     }
 
-    /// Looks at a situation of this layer, which this many orders lead to: adds those that follow to the next layer.
+    /// Looks at a situation: adds those that follow to the next layer.
     fn look_at(
         &mut self,
+        alloc: Global,
+        scene: &Scene,
         situation: &Situation,
-        layer: usize,
-        node: usize,
-        orders: u128,
+        place: Place,
         following: &mut Layer,
-    ) -> Result<(), AllocError> {
+    ) -> Result<(), Stop> {
         let mut can_go_on = false;
-        for caller in 0..self.scene.callers.len() as u16 {
-            if situation.next_of(self.scene, caller).is_none() {
-                continue;
+        for caller in 0..scene.callers.len() as u16 {
+            if situation.next_of(scene, caller).is_some() {
+                can_go_on = true;
+                let next = self.follow(alloc, scene, situation, place, caller)?;
+                add(following, key_of(alloc, &next)?, place, caller)?;
             }
-            can_go_on = true;
-            let next = self.follow(situation, layer, node, caller)?;
-            let key = key_of(self.alloc, &next)?;
-            if let Some(reached) = following.get_mut(&key) {
-                reached.orders = reached.orders.saturating_add(orders);
-                continue;
-            }
-            let reached = Reached {
-                node: Node {
-                    parent: node,
-                    caller,
-                },
-                orders,
-            };
-            following.insert(key, reached)?;
         }
         if !can_go_on {
-            self.end(situation, layer, node, orders)?;
+            self.explored.end(situation, place)?;
         }
         Ok(())
     }
+}
 
-    /// Notes a situation in which no caller can make a command.
-    fn end(
-        &mut self,
-        situation: &Situation,
-        layer: usize,
-        node: usize,
-        orders: u128,
-    ) -> Result<(), AllocError> {
-        self.explored.ends += 1;
-        self.explored.orders = self.explored.orders.saturating_add(orders);
-        if !situation.has_waiting() {
-            return Ok(());
-        }
-        self.explored.stuck += 1;
-        self.explored.note(Finding {
-            kind: Kind::Stuck,
-            line: 0,
-            layer,
-            node,
-            caller: None,
+/// Returns whether the object's invariant holds.
+fn holds(situation: &Situation, object: usize, op: u16) -> bool {
+    let Some(core) = situation.cores.get(object) else {
+        return true;
+    };
+    match core.function(op, Values::new([0; 8])) {
+        Ok(Ok(value)) => value.cells[0] != 0,
+        Ok(Err(_)) => false,
+        Err(_) => true,
+    }
+}
+
+/// Adds a situation to the next layer, or the orders that lead to it.
+fn add(
+    following: &mut Layer,
+    key: Vec<i128>,
+    place: Place,
+    caller: u16,
+) -> Result<(), Stop> {
+    if let Some(reached) = following.get_mut(&key) {
+        reached.orders = reached.orders.saturating_add(place.orders);
+        return Ok(());
+    }
+    let reached = Reached {
+        node: Node {
+            parent: place.node,
+            caller,
+        },
+        orders: place.orders,
+    };
+    following.insert(key, reached)?;
+    Ok(())
+}
+
+/// A search at work.
+#[derive(Drop)]
+struct Search {
+    alloc: Global,
+    notes: Notes,
+    walk: Walk,
+    /// By node of the latest layer: in how many orders it is reached.
+    orders: Vec<u128>,
+}
+
+impl Search {
+    /// Returns a search that has looked at no situation.
+    fn new(alloc: Global, scene: &Scene) -> Result<Search, Stop> {
+        let root = Node {
+            parent: 0,
+            caller: 0,
+        };
+        let first = Situation::new(alloc, scene)?;
+        let mut notes = Notes::new(alloc, scene)?;
+        notes.explored.layers.push(Vec::from_elem(alloc, root, 1)?)?;
+        notes.explored.situations = 1;
+        let place = Place {
+            layer: 0,
+            node: 0,
+            orders: 1,
+        };
+        notes.note_invariants(&first, place, None)?;
+        Ok(Search {
+            alloc,
+            notes,
+            walk: Walk::new(alloc, first)?,
+            orders: Vec::from_elem(alloc, 1u128, 1)?,
         })
     }
+
+    /// Looks at the situations of the latest layer, and returns the next one. It is `None` if there are too many situations.
+    fn look_at_layer(&mut self, scene: &Scene, limits: Limits) -> Result<Option<Layer>, Stop> {
+        let mut following = IndexMap::new(self.alloc);
+        let layer = self.notes.explored.layers.len() - 1;
+        for (node, orders) in self.orders.iter().enumerate() {
+            let layers = self.notes.explored.layers.as_slice();
+            let situation = self.walk.go_to(self.alloc, scene, layers, layer, node)?;
+            let place = Place {
+                layer,
+                node,
+                orders: *orders,
+            };
+            self.notes
+                .look_at(self.alloc, scene, situation, place, &mut following)?;
+            if self.notes.explored.situations + following.len() > limits.most {
+                return Ok(None);
+            }
+        }
+        Ok(Some(following))
+    }
+
+    /// Makes this layer the latest one.
+    fn take_layer(&mut self, following: &Layer) -> Result<(), AllocError> {
+        let mut nodes = Vec::with_capacity(self.alloc, following.len())?;
+        self.orders.clear();
+        for reached in following.values() {
+            nodes.push(reached.node)?;
+            self.orders.push(reached.orders)?;
+        }
+        self.notes.explored.situations += following.len();
+        self.notes.explored.layers.push(nodes)?;
+        Ok(())
+    }
+}
+
+/// Returns how many commands all callers have together.
+fn command_count(scene: &Scene) -> usize {
+    let mut count = 0usize;
+    for caller in scene.callers.iter() {
+        count = count.saturating_add(caller.commands.len());
+    }
+    count
 }
 
 /// Looks at every situation of the scene, the nearest first.
 pub fn explore(alloc: Global, scene: &Scene, limits: Limits) -> Result<Explored, Stop> {
-    let mut invariants = Vec::new(alloc);
-    for object in scene.objects.iter() {
-        invariants.push(invariant_of(&object.names))?;
-    }
-    let mut search = Search {
-        alloc,
-        scene,
-        explored: Explored::new(alloc, scene)?,
-        invariants,
-        news: Vec::new(alloc),
-    };
-    let first = Situation::new(alloc, scene)?;
-    let mut orders = Vec::from_elem(alloc, 1u128, 1)?;
-    let mut layers: Vec<Vec<Node>> = Vec::new(alloc);
-    let root = Node {
-        parent: 0,
-        caller: 0,
-    };
-    layers.push(Vec::from_elem(alloc, root, 1)?)?;
-    search.note_invariants(&first, 0, 0, None)?;
-    let mut walk = Walk::new(alloc, first)?;
-    let mut situations = 1;
-    for layer in 0.. {
-        let mut following: Layer = IndexMap::new(alloc);
-        for node in 0..layers[layer].len() {
-            let situation = walk.go_to(alloc, scene, layers.as_slice(), layer, node)?;
-            search.look_at(situation, layer, node, orders[node], &mut following)?;
-            if situations + following.len() >= limits.most {
-                search.explored.layers = layers;
-                search.explored.situations = situations + following.len();
-                return Ok(search.explored);
+    let mut search = Search::new(alloc, scene)?;
+    for _ in 0..=command_count(scene) {
+        match search.look_at_layer(scene, limits)? {
+            Some(following) if following.is_empty() => {
+                search.notes.explored.is_complete = true;
+                break;
             }
+            Some(following) => search.take_layer(&following)?,
+            None => break,
         }
-        if following.is_empty() {
-            break;
-        }
-        situations += following.len();
-        let mut nodes = Vec::with_capacity(alloc, following.len())?;
-        orders = Vec::with_capacity(alloc, following.len())?;
-        for reached in following.values() {
-            nodes.push(reached.node)?;
-            orders.push(reached.orders)?;
-        }
-        layers.push(nodes)?;
     }
-    search.explored.layers = layers;
-    search.explored.situations = situations;
-    search.explored.is_complete = true;
-    Ok(search.explored)
+    Ok(search.notes.explored)
 }

@@ -74,7 +74,7 @@ impl Situation {
     pub fn copy(&self, alloc: Global) -> Result<Situation, AllocError> {
         let mut cores = Vec::with_capacity(alloc, self.cores.len())?;
         for core in self.cores.iter() {
-            cores.push(core.copy(alloc)?)?;
+            cores.push(core.copy()?)?;
         }
         Ok(Situation {
             cores,

@@ -11,7 +11,7 @@ use po_ada_script::{RunFault, fault_at};
 use po_language::FaultKind;
 use po_language::parse::{Verb, is_comment};
 use po_language::words::{cut_word, is_name, number};
-use std::alloc::{AllocError, AllocFailed, Global};
+use std::alloc::{AllocError, Global};
 
 /// A scene has at most this many objects.
 pub const MOST_OBJECTS: usize = 16;
@@ -104,7 +104,7 @@ fn name_alone<'a>(alloc: Global, expected: &str, words: &'a [u8]) -> Result<&'a 
 }
 
 /// Returns the names of all callers of the scene, in the order of their lines.
-fn caller_names(alloc: Global, text: &[u8]) -> Result<Vec<String>, AllocFailed<String>> {
+fn caller_names(alloc: Global, text: &[u8]) -> Result<Vec<String>, Stop> {
     let mut names = Vec::new(alloc);
     let mut rest = text;
     while !rest.is_empty() {
