@@ -10,8 +10,8 @@ pub enum Kind {
     Raised(u32),
     /// The call of a caller's command ends by Program_Error, since a barrier raised an exception or the object was finalized.
     ProgramError,
-    /// The function Invariant of the object with this position is False, or raises an exception.
-    Invariant(u16),
+    /// The function Invariant of this object, by their positions, is False or raises an exception.
+    Invariant { object: u16, function: u16 },
 }
 
 /// What was found first in this situation: the one that the node of this layer stands for, after one more command of a caller, if

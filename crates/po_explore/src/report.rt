@@ -2,25 +2,35 @@
 //! Writes what was found.
 
 use crate::finding::{Finding, Kind};
-use crate::search::Explored;
-use crate::walk::callers_to;
+use crate::replay::replay;
+use crate::search::{Explored, Node};
+use crate::situation::{line_of, waits};
+use po_ada_language::Stop;
 use po_ada_script::push_exception;
 use po_scene::{Action, Command, Scene};
 use std::alloc::{AllocError, Global};
 use std::fmt::Write;
 
+/// Returns the node of a layer.
+fn node_at(explored: &Explored, layer: usize, node: usize) -> Option<Node> {
+    Some(*explored.layers.get(layer)?.get(node)?)
+}
+
 /// Returns the callers whose commands lead to the finding, in order.
 fn order_of(alloc: Global, explored: &Explored, finding: &Finding) -> Result<Vec<u16>, AllocError> {
-    let mut callers = callers_to(
-        alloc,
-        explored.layers.as_slice(),
-        finding.layer,
-        finding.node,
-    )?;
+    let mut order = Vec::new(alloc);
     if let Some(caller) = finding.caller {
-        callers.push(caller)?;
+        order.push(caller)?;
     }
-    Ok(callers)
+    let mut at = finding.node;
+    for layer in (1..=finding.layer).rev() {
+        if let Some(node) = node_at(explored, layer, at) {
+            order.push(node.caller)?;
+            at = node.parent;
+        }
+    }
+    order.reverse();
+    Ok(order)
 }
 
 /// Adds the lines that make the objects.
@@ -102,26 +112,50 @@ fn push_kind(text: &mut String, scene: &Scene, finding: &Finding) -> Result<(), 
             push_raised(text, scene, finding.line, exception)
         }
         Kind::ProgramError => write!(text, "'{line}' ends by Program_Error"),
-        Kind::Invariant(object) => {
+        Kind::Invariant { object, .. } => {
             let name = scene.objects[usize::from(object)].name.as_str();
             write!(text, "Invariant of {name} doesn't hold")
         }
     }
 }
 
-/// Adds a finding, with its script.
+/// Adds who waits at the end, and for what.
+fn push_waiting(
+    text: &mut String,
+    scene: &Scene,
+    situation: &[u32],
+) -> Result<(), AllocError> {
+    for (position, caller) in scene.callers.iter().enumerate() {
+        if waits(situation, position as u16)
+            && let Some(line) = line_of(scene, situation, position as u16)
+            && let Some(line) = scene.lines.get(line)
+        {
+            let (name, line) = (caller.name.as_str(), line.as_str());
+            write!(text, "    # {name} waits: {line}\n")?;
+        }
+    }
+    Ok(())
+}
+
+/// Adds a finding, with its script. One that the script doesn't lead to isn't added.
 fn push_finding(
     alloc: Global,
     text: &mut String,
     scene: &Scene,
     explored: &Explored,
     finding: &Finding,
-) -> Result<(), AllocError> {
+) -> Result<(), Stop> {
     let order = order_of(alloc, explored, finding)?;
+    let replayed = replay(alloc, scene, order.as_slice())?;
+    if !replayed.shows(scene, finding) {
+        return Ok(());
+    }
     push_kind(text, scene, finding)?;
     let commands = order.len();
     write!(text, ", after {commands} commands:\n")?;
-    push_script(alloc, text, scene, order.as_slice())
+    push_script(alloc, text, scene, order.as_slice())?;
+    push_waiting(text, scene, replayed.situation.as_slice())?;
+    Ok(())
 }
 
 /// Adds the lines whose calls are completed in no order.
@@ -145,7 +179,7 @@ fn push_unserved(text: &mut String, scene: &Scene, explored: &Explored) -> Resul
 }
 
 /// Returns the report of a search: each finding with its script, and how much was looked at.
-pub fn report(alloc: Global, scene: &Scene, explored: &Explored) -> Result<String, AllocError> {
+pub fn report(alloc: Global, scene: &Scene, explored: &Explored) -> Result<String, Stop> {
     let mut text = String::new(alloc);
     for finding in explored.findings.iter() {
         push_finding(alloc, &mut text, scene, explored, finding)?;
@@ -154,7 +188,8 @@ pub fn report(alloc: Global, scene: &Scene, explored: &Explored) -> Result<Strin
         push_unserved(&mut text, scene, explored)?;
     }
     let (situations, moves, orders) = (explored.situations, explored.moves, explored.orders);
-    write!(text, "{situations} states, {moves} moves, ")?;
+    let states = explored.states;
+    write!(text, "{situations} situations, {moves} moves, {states} states of objects, ")?;
     if explored.is_complete {
         write!(text, "{orders} orders: complete\n")?;
     } else {

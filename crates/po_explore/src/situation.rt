@@ -1,261 +1,161 @@
 // SPDX-License-Identifier: MIT
-//! How far a scene is: its objects, and what each caller has done.
+//! How far a scene is: what each caller has done, and the state of each object.
 
 use crate::news::News;
-use po_ada_language::{Operation, Stop, no_object};
-use po_ada_script::{failed_precondition, shape_of, smaller};
-use po_ada_unit::{AdaUnit, Values};
-use po_core::{BoundedCore, Core, Deadline, MakeError, Refusal, Start, Ticket};
-use po_scene::{Action, Scene, SceneObject};
-use po_unit::{EntryRef, Unit};
+use crate::states::Store;
+use po_ada_language::{Operation, Stop};
+use std::ops::Range;
+use po_scene::{Action, Scene};
 use std::alloc::{AllocError, Global};
 
-/// The fault of a text whose names don't fit its program.
-const MISMATCH: &str = "the names of the entries don't fit the program";
+/// How far a scene is: for each caller, twice the number of its commands, and 1 more if its call waits; then for each object, the
+/// number of its state.
+pub(crate) type Situation = Vec<u32>;
 
-/// A call that waits.
-#[derive(Clone, Copy, Debug, PartialEq, Eq)]
-pub(crate) struct Waiting {
-    /// The position of its object.
-    pub(crate) object: u16,
-    pub(crate) ticket: Ticket,
+/// Returns how the scene begins.
+pub(crate) fn beginning(alloc: Global, scene: &Scene) -> Result<Situation, AllocError> {
+    Vec::from_elem(alloc, 0u32, scene.callers.len() + scene.objects.len())
 }
 
-/// What a caller has done.
-#[derive(Clone, Copy, Debug, PartialEq, Eq)]
-pub(crate) struct Progress {
-    /// How many of its commands it has made.
-    pub(crate) made: u16,
-    /// Its call, if that waits.
-    pub(crate) waiting: Option<Waiting>,
+/// Returns how many commands the caller has made.
+pub(crate) fn made(situation: &[u32], caller: u16) -> usize {
+    match situation.get(usize::from(caller)) {
+        Some(progress) => (*progress / 2) as usize,
+        None => 0,
+    }
 }
 
-/// How far a scene is: its objects, and what each caller has done.
-#[derive(Drop)]
-pub struct Situation {
-    pub(crate) cores: Vec<BoundedCore<AdaUnit>>,
-    pub(crate) callers: Vec<Progress>,
+/// Returns whether a call of the caller waits.
+pub(crate) fn waits(situation: &[u32], caller: u16) -> bool {
+    match situation.get(usize::from(caller)) {
+        Some(progress) => *progress % 2 == 1,
+        None => false,
+    }
 }
 
-/// Makes an object of the scene, for at most `most` calls at once.
-fn core_of(alloc: Global, object: &SceneObject, most: usize) -> Result<BoundedCore<AdaUnit>, Stop> {
-    let shape = shape_of(alloc, object.names.entries.as_slice())?;
-    let start = Start {
-        first_number: 1,
-        first_place: 0,
-        max_queue: smaller(object.names.max_queue, object.max_queue),
+/// Returns the next command of the caller, unless its call waits or it has made all.
+pub(crate) fn next_of(scene: &Scene, situation: &[u32], caller: u16) -> Option<Action> {
+    if waits(situation, caller) {
+        return None;
+    }
+    let commands = &scene.callers.get(usize::from(caller))?.commands;
+    Some(commands.get(made(situation, caller))?.action)
+}
+
+/// Returns the line of the latest command of the caller, if it has made one.
+pub(crate) fn line_of(scene: &Scene, situation: &[u32], caller: u16) -> Option<usize> {
+    let last = made(situation, caller).checked_sub(1)?;
+    let commands = &scene.callers.get(usize::from(caller))?.commands;
+    Some(commands.get(last)?.line)
+}
+
+/// Returns the positions of all callers.
+pub(crate) fn callers(scene: &Scene) -> Range<u16> {
+    0..scene.callers.len() as u16
+}
+
+/// Returns whether no caller can make a command.
+pub(crate) fn is_over(scene: &Scene, situation: &[u32]) -> bool {
+    callers(scene).all(|caller| next_of(scene, situation, caller).is_none())
+}
+
+/// Returns whether no caller can make a command, and some wait.
+pub(crate) fn is_stuck(scene: &Scene, situation: &[u32]) -> bool {
+    is_over(scene, situation) && callers(scene).any(|caller| waits(situation, caller))
+}
+
+/// Returns the object that the latest command of the caller was on, if it was an operation.
+fn object_of(scene: &Scene, situation: &[u32], caller: u16) -> Option<u16> {
+    let last = made(situation, caller).checked_sub(1)?;
+    let commands = &scene.callers.get(usize::from(caller))?.commands;
+    match commands.get(last)?.action {
+        Action::Operate { object, .. } => Some(object),
+        Action::Abort(_) | Action::Tick(_) => None,
+    }
+}
+
+/// What a caller does to an object.
+#[derive(Clone, Copy)]
+enum Deed {
+    Operate(Operation<po_ada_unit::Values>),
+    Abort(u16),
+}
+
+/// Has a caller do something to an object, and adds what that brings about.
+fn act<S: Store>(
+    alloc: Global,
+    scene: &Scene,
+    states: &mut S,
+    situation: &mut [u32],
+    object: u16,
+    caller: u16,
+    deed: Deed,
+    news: &mut Vec<News>,
+) -> Result<(), Stop> {
+    let place = scene.callers.len() + usize::from(object);
+    let Some(named) = scene.objects.get(usize::from(object)) else {
+        return Ok(());
     };
-    match Core::with_capacity(alloc, object.unit.copy()?, shape, object.order, start, most) {
-        Ok(core) => Ok(core),
-        Err(MakeError::OutOfMemory) => Err(Stop::OutOfMemory),
-        Err(MakeError::ShapeMismatch) => Err(no_object(alloc, MISMATCH)),
+    let Some(number) = situation.get(place) else {
+        return Ok(());
+    };
+    let Some(state) = states.get(object, *number) else {
+        return Ok(());
+    };
+    let mut next = state.copy(alloc)?;
+    match deed {
+        Deed::Operate(operation) => next.operate(&named.names, caller, operation, news)?,
+        Deed::Abort(other) => next.abort(other, news)?,
+    }
+    for other in callers(scene) {
+        if object_of(scene, situation, other) == Some(object) {
+            mark(situation, other, next.has_call_of(other));
+        }
+    }
+    situation[place] = states.keep(alloc, object, next)?;
+    Ok(())
+}
+
+/// Notes whether the caller's call waits.
+fn mark(situation: &mut [u32], caller: u16, waits: bool) {
+    if let Some(progress) = situation.get_mut(usize::from(caller)) {
+        *progress = *progress / 2 * 2 + u32::from(waits);
     }
 }
 
-impl Situation {
-    /// Returns how a scene begins: no caller has made a command.
-    pub fn new(alloc: Global, scene: &Scene) -> Result<Situation, Stop> {
-        let most = scene.callers.len();
-        let mut cores = Vec::with_capacity(alloc, scene.objects.len())?;
-        for object in scene.objects.iter() {
-            cores.push(core_of(alloc, object, most)?)?;
-        }
-        let begun = Progress {
-            made: 0,
-            waiting: None,
-        };
-        Ok(Situation {
-            cores,
-            callers: Vec::from_elem(alloc, begun, most)?,
-        })
+/// Has the caller make its next command, if it can, and adds what that brings about.
+pub(crate) fn carry_out<S: Store>(
+    alloc: Global,
+    scene: &Scene,
+    states: &mut S,
+    situation: &mut [u32],
+    caller: u16,
+    news: &mut Vec<News>,
+) -> Result<(), Stop> {
+    let Some(action) = next_of(scene, situation, caller) else {
+        return Ok(());
+    };
+    if let Some(progress) = situation.get_mut(usize::from(caller)) {
+        *progress = progress.saturating_add(2);
     }
-
-    /// Returns the same situation once more.
-    pub fn copy(&self, alloc: Global) -> Result<Situation, AllocError> {
-        let mut cores = Vec::with_capacity(alloc, self.cores.len())?;
-        for core in self.cores.iter() {
-            cores.push(core.copy()?)?;
+    match action {
+        Action::Operate { object, operation } => {
+            let deed = Deed::Operate(operation);
+            act(alloc, scene, states, situation, object, caller, deed, news)
         }
-        Ok(Situation {
-            cores,
-            callers: Vec::from_slice(alloc, self.callers.as_slice())?,
-        })
-    }
-
-    /// Returns the next command of the caller, unless its call waits or it has made all.
-    pub fn next_of(&self, scene: &Scene, caller: u16) -> Option<Action> {
-        let progress = self.callers.get(usize::from(caller))?;
-        if progress.waiting.is_some() {
-            return None;
-        }
-        let commands = &scene.callers.get(usize::from(caller))?.commands;
-        Some(commands.get(usize::from(progress.made))?.action)
-    }
-
-    /// Returns whether a call of the caller waits.
-    pub fn waits(&self, caller: u16) -> bool {
-        match self.callers.get(usize::from(caller)) {
-            Some(progress) => progress.waiting.is_some(),
-            None => false,
-        }
-    }
-
-    /// Returns whether any call waits.
-    pub fn has_waiting(&self) -> bool {
-        self.callers.iter().any(|progress| progress.waiting.is_some())
-    }
-
-    /// Tells how the calls ended that the latest command on the object has ended, and collects them.
-    fn tell_ended(&mut self, object: u16, news: &mut Vec<News>) -> Result<(), AllocError> {
-        let Some(core) = self.cores.get_mut(usize::from(object)) else {
-            return Ok(());
-        };
-        let first = news.len();
-        for ended in core.ended_now() {
-            news.push(News::Ended {
-                caller: ended.owner,
-                end: ended.end,
-            })?;
-        }
-        for told in news[first..].iter() {
-            if let News::Ended { caller, .. } = told
-                && let Some(progress) = self.callers.get_mut(usize::from(*caller))
-                && let Some(waiting) = progress.waiting.take()
-            {
-                let _end = core.collect(waiting.ticket);
+        Action::Abort(other) => match object_of(scene, situation, other) {
+            Some(object) if waits(situation, other) => {
+                let deed = Deed::Abort(other);
+                act(alloc, scene, states, situation, object, caller, deed, news)
             }
-        }
-        Ok(())
-    }
-
-    /// Issues a call.
-    fn call(
-        &mut self,
-        object: u16,
-        caller: u16,
-        entry: EntryRef,
-        value: Values,
-        deadline: Deadline,
-    ) -> Result<(), Refusal> {
-        let Some(core) = self.cores.get_mut(usize::from(object)) else {
-            return Err(Refusal::NoSuchOperation);
-        };
-        let ticket = core.issue(caller, entry, value, deadline)?;
-        if let Some(progress) = self.callers.get_mut(usize::from(caller)) {
-            progress.waiting = Some(Waiting { object, ticket });
-        }
-        Ok(())
-    }
-
-    /// Calls a procedure or a function.
-    fn reply(
-        &mut self,
-        object: u16,
-        caller: u16,
-        operation: Operation<Values>,
-    ) -> Result<Option<Result<Values, u32>>, Refusal> {
-        let Some(core) = self.cores.get_mut(usize::from(object)) else {
-            return Err(Refusal::NoSuchOperation);
-        };
-        match operation {
-            Operation::Procedure { op, value } => Ok(Some(core.procedure(caller, op, value)?)),
-            Operation::Function { op, value } => Ok(Some(core.function(op, value)?)),
-            Operation::Finalize => {
-                core.finalize()?;
-                Ok(None)
+            _ => Ok(()),
+        },
+        Action::Tick(time) => {
+            for object in 0..scene.objects.len() as u16 {
+                let deed = Deed::Operate(Operation::Tick(time));
+                act(alloc, scene, states, situation, object, caller, deed, news)?;
             }
-            _ => Ok(None),
-        }
-    }
-
-    /// Carries out an operation on an object.
-    fn operate(
-        &mut self,
-        scene: &Scene,
-        object: u16,
-        caller: u16,
-        operation: Operation<Values>,
-        news: &mut Vec<News>,
-    ) -> Result<(), AllocError> {
-        if let Some(core) = self.cores.get(usize::from(object))
-            && let Some(named) = scene.objects.get(usize::from(object))
-            && let Some(exception) = failed_precondition(core, &named.names, &operation)
-        {
-            news.push(News::Failed { caller, exception })?;
-            return Ok(());
-        }
-        let done = match operation {
-            Operation::Call {
-                entry,
-                value,
-                deadline,
-            } => match self.call(object, caller, entry, value, deadline) {
-                Ok(()) => Ok(None),
-                Err(refusal) => Err(refusal),
-            },
-            other => self.reply(object, caller, other),
-        };
-        match done {
-            Ok(Some(reply)) => news.push(News::Replied { caller, reply })?,
-            Ok(None) => (),
-            Err(refusal) => {
-                news.push(News::Refused { caller, refusal })?;
-                return Ok(());
-            }
-        }
-        match operation {
-            Operation::Function { .. } => Ok(()),
-            _ => self.tell_ended(object, news),
-        }
-    }
-
-    /// Tries to cancel the call of the caller with this position, if that waits.
-    fn abort(&mut self, caller: u16, news: &mut Vec<News>) -> Result<(), AllocError> {
-        let Some(progress) = self.callers.get(usize::from(caller)) else {
-            return Ok(());
-        };
-        let Some(waiting) = progress.waiting else {
-            return Ok(());
-        };
-        let Some(core) = self.cores.get_mut(usize::from(waiting.object)) else {
-            return Ok(());
-        };
-        match core.cancel(waiting.ticket) {
-            Ok(_) => self.tell_ended(waiting.object, news),
-            Err(_) => Ok(()),
-        }
-    }
-
-    /// Raises the clock of all objects.
-    fn tick(&mut self, time: u64, news: &mut Vec<News>) -> Result<(), AllocError> {
-        for object in 0..self.cores.len() {
-            if let Some(core) = self.cores.get_mut(object)
-                && core.tick(time).is_ok()
-            {
-                self.tell_ended(object as u16, news)?;
-            }
-        }
-        Ok(())
-    }
-
-    /// Carries out the next command of the caller, if it can make one, and adds what that brings about.
-    pub fn carry_out(
-        &mut self,
-        scene: &Scene,
-        caller: u16,
-        news: &mut Vec<News>,
-    ) -> Result<(), AllocError> {
-        let Some(action) = self.next_of(scene, caller) else {
-            return Ok(());
-        };
-        if let Some(progress) = self.callers.get_mut(usize::from(caller)) {
-            progress.made += 1;
-        }
-        match action {
-            Action::Operate { object, operation } =>
-                self.operate(scene, object, caller, operation, news),
-            Action::Abort(other) => self.abort(other, news),
-            Action::Tick(time) => self.tick(time, news),
+            Ok(())
         }
     }
 }

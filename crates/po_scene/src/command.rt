@@ -72,7 +72,7 @@ fn split_time(verb: Verb, words: &[u8]) -> (&[u8], &[u8]) {
 }
 
 /// Returns the words of an operation, and the object that it is of. If there is one object, its name can be left out.
-fn addressed(
+fn operation_words(
     alloc: Global,
     objects: &[SceneObject],
     verb: Verb,
@@ -131,7 +131,7 @@ pub(crate) fn addressed_of(
             object: 0,
             words: joined(alloc, &[], words, &[])?,
         }),
-        _ => addressed(alloc, objects, verb, words),
+        _ => operation_words(alloc, objects, verb, words),
     }
 }
 
@@ -140,16 +140,16 @@ pub(crate) fn action_of(
     alloc: Global,
     objects: &[SceneObject],
     verb: Verb,
-    addressed: &Addressed,
+    words: &Addressed,
 ) -> Result<Action, Stop> {
-    let Some(object) = objects.get(usize::from(addressed.object)) else {
+    let Some(object) = objects.get(usize::from(words.object)) else {
         return Err(bad_argument(alloc, OBJECT, None));
     };
-    let operation = operation_of::<AdaUnit>(alloc, &object.names, verb, addressed.words.as_slice())?;
+    let operation = operation_of::<AdaUnit>(alloc, &object.names, verb, words.words.as_slice())?;
     match operation {
         Operation::Tick(time) => Ok(Action::Tick(time)),
         operation => Ok(Action::Operate {
-            object: addressed.object,
+            object: words.object,
             operation,
         }),
     }
