@@ -5,6 +5,7 @@ pub mod CallPlaces
 pub mod CallReads
 pub mod CallSteps
 pub mod CallWalks
+pub mod Copies
 pub mod Held
 pub mod KeptSteps
 pub mod Lists
@@ -14,6 +15,7 @@ pub mod Owed
 pub mod Owing
 pub mod PlaceSteps
 pub mod Places
+pub mod QueueWalks
 pub mod ServiceSteps
 pub mod Sums
 pub mod TicketCounts

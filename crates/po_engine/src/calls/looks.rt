@@ -1,7 +1,8 @@
 // SPDX-License-Identifier: MIT
 //! What can be read off the calls of an object.
 
-ghost use Rattle.std.specs.Prelude.{◌≡◌, ◌<◌, map, length, count_by, nat_lt, Some, None, true, IfOk, IfSome, find, option_map, drop};
+ghost use Rattle.std.specs.Prelude.{◌≡◌, ◌<◌, map, length, count_by, nat_lt, Some, None, true, IfOk, IfSome, OnOk, find, option_map, drop};
+ghost use Rattle.std.specs.List.{filter};
 ghost use Rattle.po_engine.specs.WaitingCalls.{is_on, is_of, is_due, counts_of};
 ghost use Rattle.po_engine.specs.Tickets.{status_among, waiting_among, is_live, uncollected};
 ghost use Rattle.po_calls.specs.declared.call.Call.{Call};
@@ -117,6 +118,25 @@ impl<V: Copy> Calls<V> {
             next = self.queues.next(key);
         }
         Ok(list)
+    }
+
+    /// Replaces the contents of the list by the calls that wait on the entry, in the order of its queue.
+    ///
+    /// Fails only if memory runs out. Takes time that grows with how many calls wait on the entry.
+    pub fn queued_on(&self, entry: u16, calls: &mut Vec<Call<V>>) -> Result<(), AllocError>
+        requires { entry < self.now.total }
+        ensures { OnOk result (calls.new.items ≡ filter (is_on entry) self.now.waiting) }
+    {
+        self.queues.recall_invariant();
+        calls.clear();
+        let mut next = self.queues.first_on(entry);
+        while let Some(key) = next {
+            if let Some(call) = self.table.at(key) {
+                calls.push(*call)?;
+            }
+            next = self.queues.after(key);
+        }
+        Ok(())
     }
 
     /// Returns each entry's queue, of keys in the order of the waiting calls.
