@@ -18,8 +18,8 @@ use std::marker::Model;
 
 /// The calls of an object that aren't collected, each found by its ticket.
 ///
-/// A ticket is `Unknown` if its key holds no call, or one with another number. Only `with_capacity`, `copy` and `reserve_one` take
-/// memory.
+/// A ticket is `Unknown` if its key holds no call, or one with another number. Only `with_capacity`, `copy` and `reserve_one`
+/// take memory.
 #[derive(Drop)]
 pub struct Table<V: Copy> {
     calls: Slab<Kept<V>>,

@@ -1,10 +1,11 @@
 // SPDX-License-Identifier: MIT
 //! A protected object between two protected actions: its core, which carries out every operation on it.
 
-ghost use Rattle.std.specs.Prelude.{◌≡◌, ◌∷◌, ◌++◌, [], slice_index, find, option_map, None, Some, Option, true, IfOk, IfErr, IfNone, IfSome, is_some, OnSome, MatchResult, OnOk, OnErr};
-ghost use Rattle.po_unit.specs.Numbering.{flat_number, is_public};
+ghost use Rattle.std.specs.Prelude.{◌≡◌, ◌<◌, ◌∷◌, ◌++◌, [], slice_index, find, option_map, None, Some, Option, true, IfOk, IfErr, IfNone, IfSome, is_some, OnSome, MatchResult, OnOk, OnErr};
+ghost use Rattle.std.specs.List.{filter};
+ghost use Rattle.po_unit.specs.Numbering.{flat_number, entry_count, is_public};
 ghost use Rattle.po_engine.specs.Tickets.{number_at, is_live, SetsTicket};
-ghost use Rattle.po_engine.specs.WaitingCalls.{has_number, is_of};
+ghost use Rattle.po_engine.specs.WaitingCalls.{has_number, is_of, is_on};
 ghost use Rattle.po_engine.specs.ObjectState.{counts_in};
 ghost use Rattle.po_core.specs.View.{ended_now, next_place};
 ghost use Rattle.po_core.specs.ProtectedAction.{IsProtectedAction, IsAttemptOf, after_action, after_attempt, attempt_answer};
@@ -26,6 +27,7 @@ use po_engine::Ended;
 use po_history::Event;
 use po_queues::Order;
 use po_unit::{EntryRef, Shape, Unit};
+use std::alloc::AllocError;
 use std::marker::Model;
 
 /// The core of a protected object (9.4), with a record of what has happened: in memory, or for proofs alone.
@@ -275,6 +277,19 @@ impl<U: Unit, R: Record<U>> Core<U, R> {
         let e = self.in_action.setup().shape().flat(entry)?;
         self.in_action.recall_invariant();
         Ok(self.in_action.state().count(e))
+    }
+
+    /// Replaces the contents of the list by the calls that are queued on the entry with this flat number, in the order of its
+    /// queue (9.5.3, D.4). Private entries have a queue too.
+    ///
+    /// The entries are the numbers below `shape().total()`. Fails only if memory runs out. Takes time that grows with how many
+    /// calls are queued on the entry.
+    pub fn queued_on(&self, e: u16, calls: &mut Vec<Call<U::Value>>) -> Result<(), AllocError>
+        requires { e < entry_count self.now.object.setup.shape }
+        ensures { OnOk result (calls.new.items ≡ filter (is_on e) self.now.object.state.waiting) }
+    {
+        self.in_action.recall_invariant();
+        self.in_action.state().queued_on(e, calls)
     }
 
     /// Returns the calls that were ended by the last command that wasn't refused, in the order in which they ended.

@@ -26,8 +26,9 @@ module _ {V : Type 0} (first next : ℕ) (serving : Option ℕ) (most : ℕ) (fi
   }
 
   -- they see no room
-  pub same_seen : (table now : CallTable V) (queues later : EntryQueuesView) (keys keys' : List ℕ) (ended ended' before before' : List (Ended V)) (capacity reserved : ℕ)
-      → now ≡ record table { calls = record table.calls { capacity = capacity } } → later ≡ record queues { reserved = reserved }
-      → keys' ≡ keys → ended' ≡ ended → before' ≡ before → seen_of now later keys' ended' before' ≡ seen_of table queues keys ended before
-  same_seen table now queues later keys keys' ended ended' before before' capacity reserved its_table its_queues its_keys its_ended its_before =
-      rw (its_table, its_queues, its_keys, its_ended, its_before) refl
+  pub same_seen : (table now seen : CallTable V) (queues copy later shown : EntryQueuesView) (keys keys' : List ℕ) (ended ended' before before' : List (Ended V))
+      → seen ≡ now → now ≡ record table { calls = record table.calls { capacity = now.calls.capacity } }
+      → shown ≡ later → later ≡ record copy { reserved = later.reserved } → copy ≡ queues
+      → keys' ≡ keys → ended' ≡ ended → before' ≡ before → seen_of seen shown keys' ended' before' ≡ seen_of table queues keys ended before
+  same_seen table now seen queues copy later shown keys keys' ended ended' before before' its_view its_table its_view' its_room its_queues its_keys its_ended its_before =
+      rw (its_view, its_table, its_view', its_room, its_queues, its_keys, its_ended, its_before) refl

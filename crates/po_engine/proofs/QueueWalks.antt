@@ -1,9 +1,9 @@
 -- SPDX-License-Identifier: MIT
 -- A walk over the queue of one entry: the queued items of the entry are such a list as those of all entries.
-use Rattle.std.proofs.Common.{◌≡◌, ◌==◌, ℕ, true, false, eqb, List, [], ◌∷◌, map, Option, Some, None, refl, sym, ap, ◌∙◌, inl, inr}
+use Rattle.std.proofs.Common.{◌≡◌, ◌==◌, ℕ, true, false, eqb, List, [], ◌∷◌, Option, Some, None, refl, ap, ◌∙◌, inl, inr}
 use Rattle.std.specs.List.{filter, cons_option}
 use Rattle.std.proofs.lemmas.Bool.{cases_Bool}
-use Rattle.po_queues.specs.QueuedKeys.{occurs, first_key, keys_on, AreDistinct}
+use Rattle.po_queues.specs.QueuedKeys.{occurs, first_key, key_after, keys_on, AreDistinct}
 use Rattle.po_queues.specs.Arrived.{Arrived, all_queued, arrived_keys}
 use Rattle.po_calls.specs.declared.call.Call.{Call}
 use Rattle.po_engine.specs.Finding.{IsFound}
@@ -17,7 +17,7 @@ abbrev pub items_on : ℕ → List Arrived → List Arrived
 items_on e items = filter (λ i. i.entry == e) items
 
 -- their keys are those of the entry
-pub keys_on_entry : (e : ℕ) (items : List Arrived) → keys_on e (all_queued items) ≡ arrived_keys (items_on e items)
+keys_on_entry : (e : ℕ) (items : List Arrived) → keys_on e (all_queued items) ≡ arrived_keys (items_on e items)
 keys_on_entry e [] = refl
 keys_on_entry e (i ∷ is) = elim (cases_Bool (eqb i.entry e)) [
   | inl equal ↦ simp equal (ap (λ l. i.key ∷ l) (keys_on_entry e is))
@@ -42,12 +42,23 @@ distinct_on e (i ∷ is) d = elim (cases_Bool (eqb i.entry e)) [
 ]
 
 -- a key at which the walk stands is one of the list
-pub stands_in : (k : ℕ) (items : List Arrived) → first_key (arrived_keys (left_from (Some k) items)) ≡ Some k → occurs k (arrived_keys items) ≡ true
+stands_in : (k : ℕ) (items : List Arrived) → first_key (arrived_keys (left_from (Some k) items)) ≡ Some k → occurs k (arrived_keys items) ≡ true
 stands_in k [] h = let bad : None ≡ Some k = h in absurd (cc)
 stands_in k (i ∷ is) h = elim (cases_Bool (eqb i.key k)) [
   | inl equal ↦ simp equal refl
   | inr differ ↦ simp differ (stands_in k is (simp differ at h))
 ]
+
+-- the first key of the entry begins the list
+pub first_here : (e : ℕ) (items : List Arrived) (o : Option ℕ) → o ≡ first_key (keys_on e (all_queued items)) → o ≡ first_key (arrived_keys (items_on e items))
+first_here e items o is = rw (← keys_on_entry e items) is
+
+-- the key after one on the entry is the one after it in the list
+pub after_here : (e k : ℕ) (items : List Arrived) (o : Option ℕ) → (occurs k (keys_on e (all_queued items)) ≡ true → o ≡ key_after k (keys_on e (all_queued items)))
+    → first_key (arrived_keys (left_from (Some k) (items_on e items))) ≡ Some k → o ≡ key_after k (arrived_keys (items_on e items))
+after_here e k items o is here =
+    let has : occurs k (keys_on e (all_queued items)) ≡ true = rw (keys_on_entry e items) (stands_in k (items_on e items) here) in
+    rw (← keys_on_entry e items) (is has)
 
 module _ {V : Type 0} (call : ℕ → Option (Call V)) (index : ℕ → Option ℕ) where
   -- and queued

@@ -150,6 +150,20 @@ impl<U: Unit + Drop> State<U> {
 }
 
 impl<U: Unit> State<U> {
+    /// Makes an equal state, with memory for as many calls. Fails only if memory runs out.
+    pub fn copy(&self) -> Result<State<U>, AllocError>
+        ensures { IfOk result (λ copy. copy ≡ self.now) }
+    {
+        let calls = self.calls.copy()?;
+        let unit = self.unit.copy()?;
+        Ok(State {
+            unit,
+            calls,
+            finalized: self.finalized,
+            owed: self.owed,
+        })
+    }
+
     /// Makes room for one more call if there is none.
     pub fn reserve(&mut self) -> Result<(), AllocError>
         requires { self.old.is_fixed ≡ false }
@@ -178,19 +192,5 @@ impl<U: Unit> State<U> {
         ensures leads { (k n : ℕ) → number_at self.now.tickets k ≡ Some n → key_of self.now.first self.now.keys n ≡ Some k }
     {
         self.calls.recall_invariant();
-    }
-}
-
-impl<U: Unit + Drop> State<U> {
-    pub fn copy(&self) -> Result<State<U>, AllocError> {
-        Ok(State {
-            unit: self.unit.copy()?,
-            calls: self.calls.copy()?,
-            finalized: self.finalized,
-            owed: self.owed,
-        })
-    }
-    pub fn queued_on(&self, entry: u16, calls: &mut Vec<Call<U::Value>>) -> Result<(), AllocError> {
-        self.calls.queued_on(entry, calls)
     }
 }

@@ -1,7 +1,8 @@
 // SPDX-License-Identifier: MIT
 //! What can be read off the state of an object, and which event comes next.
 
-ghost use Rattle.std.specs.Prelude.{◌≡◌, ◌↔◌, ◌<◌, ◌≤◌, [], true, slice_index, map, All, drop, nat_lt, Option, None, Some, IsTrue, IfOk, IfNone, IfSome, IsSome, find, option_map};
+ghost use Rattle.std.specs.Prelude.{◌≡◌, ◌↔◌, ◌<◌, ◌≤◌, [], true, slice_index, map, All, drop, nat_lt, Option, None, Some, IsTrue, IfOk, IfNone, IfSome, IsSome, OnOk, find, option_map};
+ghost use Rattle.std.specs.List.{filter};
 ghost use Rattle.po_engine.specs.WaitingCalls.{is_on, is_of, is_due};
 ghost use Rattle.po_engine.specs.ObjectState.{counts_in};
 ghost use Rattle.po_engine.specs.Pick.{event_of, next_turn, pick, owed};
@@ -180,6 +181,16 @@ impl<U: Unit> State<U> {
         ensures places { IfOk result (λ list. map (λ a. a.place) list.items ≡ self.now.places) }
     {
         self.calls.arrivals()
+    }
+
+    /// Replaces the contents of the list by the calls that are queued on the entry, in the order of its queue.
+    ///
+    /// Fails only if memory runs out. Takes time that grows with how many calls are queued on the entry.
+    pub fn queued_on(&self, e: u16, calls: &mut Vec<Call<U::Value>>) -> Result<(), AllocError>
+        requires { e < U.meaning.entries self.now.state.unit }
+        ensures { OnOk result (calls.new.items ≡ filter (is_on e) self.now.state.waiting) }
+    {
+        self.calls.queued_on(e, calls)
     }
 
     /// Returns whether the call of the ticket waits, has ended or is unknown.

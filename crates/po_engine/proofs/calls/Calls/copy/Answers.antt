@@ -1,6 +1,5 @@
 -- What is kept is the same, with as much room or more.
-use Rattle.std.proofs.Common.{◌∙◌, ap, arith}
-use Rattle.po_queues.specs.Arrived.{EntryQueuesView}
+use Rattle.std.proofs.Common.{arith}
 use Rattle.po_engine.proofs.CallSteps.{with_room, reserved_below}
 use Rattle.po_engine.proofs.Copies.{same_seen}
 use Rattle.po_engine.proofs.calls.Calls.copy.Goals as goal
@@ -21,8 +20,7 @@ invariant_of-result-3 g c =
 pub returns : goal.returns
 returns g c =
     let s = c.self.inside in
-    let room = ap (λ (q : EntryQueuesView). record q { reserved = c.reserve_below.new.queues.reserved }) c.in_ok-queues.ensures in
     rw (← c.self.view_is)
-    (same_seen s.first s.next s.serving s.most s.is_fixed s.table _ s.queues _ s.keys.items _ s.ended.items _ s.before.items _ _ _
-    (c.table.view_is ∙ c.in_ok-table.ensures.same) (c.queues.view_is ∙ c.reserve_below.ensures.only_room ∙ room)
+    (same_seen s.first s.next s.serving s.most s.is_fixed s.table c.in_ok-table.table _ s.queues c.in_ok-queues.queues c.reserve_below.new.queues _ s.keys.items _ s.ended.items _ s.before.items _
+    c.table.view_is c.in_ok-table.ensures.same c.queues.view_is c.reserve_below.ensures.only_room c.in_ok-queues.ensures
     c.copy-3.ensures c.copy-4.ensures c.copy-5.ensures)

@@ -1,10 +1,10 @@
 -- The walk appends each call that waits on the entry to the list.
-use Rattle.std.proofs.Common.{◌≡◌, ◌∙◌, ◌++◌, ℕ, sym, ap, ap₂, append-nil}
-use Rattle.po_queues.specs.QueuedKeys.{occurs, first_key, key_after}
+use Rattle.std.proofs.Common.{◌∙◌, ◌++◌, sym, ap, ap₂, append-nil}
+use Rattle.po_queues.specs.QueuedKeys.{first_key, key_after}
 use Rattle.po_queues.specs.Arrived.{arrived_keys}
 use Rattle.po_engine.specs.Calls.{call_at, key_of, waiting_in}
 use Rattle.po_engine.proofs.CallWalks.{left_from, left_first, none_left, meets, calls_at, begins_at, no_gap, fewer_left}
-use Rattle.po_engine.proofs.QueueWalks.{items_on, keys_on_entry, distinct_on, stands_in, queued_on, calls_on}
+use Rattle.po_engine.proofs.QueueWalks.{items_on, first_here, after_here, distinct_on, queued_on, calls_on}
 use Rattle.po_engine.proofs.calls.Calls.queued_on.Goals as goal
 use Rattle.po_engine.proofs.calls.Calls.queued_on.Goals.{in-Some-at+in_ok-push, in_default-at}
 
@@ -13,7 +13,7 @@ loop-next-init g c =
     let s = c.self.inside in
     let queue = items_on c.args.entry s.queues.items in
     let f = call_at s.table.calls in
-    let next : c.first_on-next.result ≡ first_key (arrived_keys queue) = c.first_on-next.ensures ∙ ap first_key (keys_on_entry c.args.entry s.queues.items) in
+    let next = first_here c.args.entry s.queues.items c.first_on-next.result c.first_on-next.ensures in
     rw next (record {
       begins = ap (λ l. first_key (arrived_keys l)) (left_first queue);
       calls = ap₂ (λ a l. a ++ waiting_in f l) c.clear.ensures.items (left_first queue);
@@ -28,8 +28,7 @@ loop-next-smaller g c =
     let queue = items_on e s.queues.items in
     let begins = rw (c.in-Some.is) at c.loop-next.invariant.begins in
     let m = meets (call_at s.table.calls) ix k queue (distinct_on e s.queues.items c.recall_invariant.ensures.distinct) (queued_on (call_at s.table.calls) ix e s.queues.items c.self.invariant.queued.queued) begins in
-    let keys = keys_on_entry e s.queues.items in
-    let next : c.after-next.result ≡ key_after k (arrived_keys queue) = c.after-next.ensures.on_entry e (ap (occurs k) keys ∙ stands_in k queue begins) ∙ ap (key_after k) keys in
+    let next = after_here e k s.queues.items c.after-next.result (c.after-next.ensures.on_entry e) begins in
     rw (c.in-Some.is, next) (fewer_left k queue m.stand)
 
 pub loop-next-preserved : goal.loop-next-preserved
@@ -42,8 +41,7 @@ loop-next-preserved g c =
     let queue = items_on e s.queues.items in
     let was = rw (c.in-Some.is) at c.loop-next.invariant in
     let m = meets f ix k queue (distinct_on e s.queues.items c.recall_invariant.ensures.distinct) (queued_on f ix e s.queues.items c.self.invariant.queued.queued) was.begins in
-    let keys = keys_on_entry e s.queues.items in
-    let next : c.after-next.result ≡ key_after k (arrived_keys queue) = c.after-next.ensures.on_entry e (ap (occurs k) keys ∙ stands_in k queue was.begins) ∙ ap (key_after k) keys in
+    let next = after_here e k s.queues.items c.after-next.result (c.after-next.ensures.on_entry e) was.begins in
     let left = left_from (key_after k (arrived_keys queue)) queue in
     let before = c.loop-next.calls.items in
     rw next (record {
