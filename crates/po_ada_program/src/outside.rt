@@ -1,7 +1,7 @@
 // SPDX-License-Identifier: MIT
 //! What a text has outside of the protected unit. A declaration there that isn't in the subset is no fault unless the unit uses it.
 
-use crate::making::Making;
+use crate::making::{Making, told};
 use po_ada_tree::Stop;
 use po_ada_tree::tree::{Body, Content, Declaration, Variables};
 use po_ada_types::Meaning;
@@ -9,21 +9,21 @@ use po_ada_types::Meaning;
 impl<'a> Making<'a> {
     /// A declaration outside of the protected unit. If it is faulty, the unit may not use its names.
     pub fn outer_declared(&mut self, declaration: &'a Declaration) -> Result<(), Stop> {
-        let told = self.lowering.known.faults.len();
+        let before = told(&self.lowering.known);
         self.declared(declaration, false)?;
         match declaration {
             Declaration::Type(name, _) | Declaration::Subtype(name, _) => self
                 .lowering
                 .known
-                .excuse(told, &[*name]),
+                .excuse(before, &[*name]),
             Declaration::Variables(variables) => self
                 .lowering
                 .known
-                .excuse(told, variables.names.as_slice()),
+                .excuse(before, variables.names.as_slice()),
             Declaration::Numbers(names, _) | Declaration::Exceptions(names) => self
                 .lowering
                 .known
-                .excuse(told, names.as_slice()),
+                .excuse(before, names.as_slice()),
             Declaration::Pragma(_) => Ok(()),
         }
     }
@@ -38,10 +38,10 @@ impl<'a> Making<'a> {
 
     /// An operation outside of the protected unit. If it is faulty, the unit may not call it.
     pub fn outer_operation(&mut self, body: &'a Body) -> Result<(), Stop> {
-        let told = self.lowering.known.faults.len();
+        let before = told(&self.lowering.known);
         let done = self.note_outer(body);
         self.keep_on(done)?;
-        self.lowering.known.excuse(told, &[body.profile.name])
+        self.lowering.known.excuse(before, &[body.profile.name])
     }
 
     /// Declares an operation outside of the protected unit, unless that was done, and notes its body.

@@ -2,7 +2,7 @@
 //! The preconditions of entries (6.1.1). A precondition is checked before the protected action of a call, so it is a function of the
 //! entry's parameters, constants and functions that stand before the object.
 
-use crate::making::Making;
+use crate::making::{Making, told};
 use po_ada_tree::Stop;
 use po_ada_tree::tree::{Expression, Kind};
 use po_ada_types::{Meaning, Symbol};
@@ -65,15 +65,15 @@ impl<'a> Making<'a> {
     ) -> Result<Operation, Stop> {
         let scope = self.lowering.known.scope.len();
         self.begin_frame(number);
-        let before = self.lowering.begin_list();
-        let told = self.lowering.known.faults.len();
+        let list = self.lowering.begin_list();
+        let before = told(&self.lowering.known);
         let done = match self.precondition_code(number, condition) {
-            Err(Stop::Fault) if !doubtful && self.lowering.known.faults.len() == told => Err(
+            Err(Stop::Fault) if !doubtful && told(&self.lowering.known) == before => Err(
                 self.lowering.known.refuse(place, INSIDE),
             ),
             done => done,
         };
-        self.ended_operation(scope, before, done)
+        self.ended_operation(scope, list, done)
     }
 
     /// Gives slot 0 the value of a precondition.

@@ -143,7 +143,7 @@ fn shown(alloc: Global, item: &Item) -> Result<String, AllocError> {
 }
 
 /// The tree of a text as a line, but for its places. Its strings stand in these bytes.
-pub fn likeness(alloc: Global, text: &Text, bytes: &[u8]) -> Result<Vec<u8>, AllocError> {
+pub fn line_of(alloc: Global, text: &Text, bytes: &[u8]) -> Result<Vec<u8>, AllocError> {
     let mut made = Likeness {
         names: &text.names,
         bytes,

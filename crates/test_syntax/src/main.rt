@@ -18,7 +18,7 @@ mod whole;
 
 use crate::mutation::{Lot, mutant};
 use crate::outcome::{Counts, Outcome};
-use crate::reading::{round_trip, written};
+use crate::reading::{read_and_written, round_trip};
 use crate::whole::whole_way;
 use anyhow::Result;
 use std::alloc::Global;
@@ -101,7 +101,7 @@ fn write_bytes(rt: &impl Print, bytes: &[u8]) -> Result<()> {
 /// Writes a text that isn't read as it should be, and what its tree is written as.
 fn write_wrong(rt: &(impl Print + AllocGlobal), bytes: &[u8]) -> Result<()> {
     write_bytes(rt, bytes)?;
-    if let Ok(found) = written(rt.alloc(), bytes)? {
+    if let Ok(found) = read_and_written(rt.alloc(), bytes)? {
         write_bytes(rt, found.text.as_slice())?;
     }
     Ok(())

@@ -2,7 +2,7 @@
 //! Reads a text, writes its tree as a text, and reads that again.
 
 use crate::items::printed;
-use crate::likeness::likeness;
+use crate::likeness::line_of;
 use crate::outcome::{Outcome, faulty};
 use anyhow::{Result, bail};
 use po_ada_text::parse;
@@ -27,11 +27,11 @@ fn tree(alloc: Global, bytes: &[u8]) -> Result<Result<Text, usize>> {
 }
 
 /// What the tree of these bytes is written as, or how many faults they have.
-pub fn written(alloc: Global, bytes: &[u8]) -> Result<Result<Written, usize>> {
+pub fn read_and_written(alloc: Global, bytes: &[u8]) -> Result<Result<Written, usize>> {
     match tree(alloc, bytes)? {
         Ok(read) => Ok(Ok(Written {
             text: printed(alloc, &read, bytes)?,
-            likeness: likeness(alloc, &read, bytes)?,
+            likeness: line_of(alloc, &read, bytes)?,
         })),
         Err(count) => Ok(Err(count)),
     }
@@ -39,11 +39,11 @@ pub fn written(alloc: Global, bytes: &[u8]) -> Result<Result<Written, usize>> {
 
 /// Reads a text, writes its tree, reads that again and compares.
 pub fn round_trip(alloc: Global, bytes: &[u8]) -> Result<Outcome> {
-    let first = match written(alloc, bytes)? {
+    let first = match read_and_written(alloc, bytes)? {
         Ok(found) => found,
         Err(count) => return Ok(faulty(count)),
     };
-    let Ok(second) = written(alloc, first.text.as_slice())? else {
+    let Ok(second) = read_and_written(alloc, first.text.as_slice())? else {
         return Ok(Outcome::Unread);
     };
     let is_same = first.likeness.as_slice() == second.likeness.as_slice()
