@@ -193,7 +193,7 @@ impl Object {
         let mut key = Vec::from_slice(alloc, self.core.unit().cells())?;
         key.push(i128::from(self.core.clock()))?;
         let mut calls = Vec::new(alloc);
-        for e in 0..self.core.unit().entries() {
+        for e in 0..self.core.shape().total() {
             self.core.queued_on(e, &mut calls)?;
             key.push(calls.len() as i128)?;
             for call in calls.iter() {
