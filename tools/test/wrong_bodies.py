@@ -84,7 +84,8 @@ def split_parameters(text):
 
 def name_of_type(head):
     """How a check names the type of an `impl` with this head: followed by its trait, or by the arguments for its parameters."""
-    parameters, rest = split_parameters(re.sub(r"^(unsafe )?impl\s*", "", head.replace("->", "")))
+    without_lifetimes = re.sub(r"'\w+(, *)?", "", head.replace("->", ""))
+    parameters, rest = split_parameters(re.sub(r"^(unsafe )?impl\s*", "", without_lifetimes))
     trait, _, of = rest.rpartition(" for ")
     names = re.findall(r"\w+", of)
     if trait:
@@ -206,14 +207,20 @@ def settled(said, names):
     return {name for name in names if not by_name[name] and any(f"::{it}".endswith(f"::{name}") for it in wrong)}
 
 
+def check_functions(crate, texts, names):
+    """The status of a check of these functions with these texts, and what it said. It is one of whole modules if there are none."""
+    status, said = check(crate, texts, only(names or modules(texts)))
+    if status == 2 and names:
+        # (the check has another name for one of them)
+        return check(crate, texts, only(modules(texts)))
+    return status, said
+
+
 def check_together(edits, names, crate):
     """Those of the edits that one check of all of them refuses for sure. The names are those of the functions that each edit is
     in."""
     texts = edited(edits, crate)
-    status, said = check(crate, texts, only(names))
-    if status == 2:
-        # (the check has another name for one of them)
-        status, said = check(crate, texts, only(modules(texts)))
+    status, said = check_functions(crate, texts, names)
     if status != 1 or any(unread(line, texts) for line in complaints(said)):
         return []
     refused = settled(said, names)
@@ -244,7 +251,7 @@ def fault_of(edit, crate):
     """What is wrong with an edit, tried alone in the copy of its crate, or None if the prover refuses it as it should."""
     try:
         texts = edited([edit], crate)
-        status, said = check(crate, texts, only(modules(texts)))
+        status, said = check_functions(crate, texts, functions(crate, edit))
     except (OSError, ValueError) as fault:
         return f"FAILED: not tried: {fault}"
     if not says_refused(status, said):

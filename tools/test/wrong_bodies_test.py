@@ -111,6 +111,17 @@ class WrongBodies(unittest.TestCase):
         self.assertEqual(results, [False])
         self.assertIn("FAILED: sample/first: not tried: its old text is in src/shape.rt 0 times", line)
 
+    def test_the_name_of_a_type(self):
+        names = {
+            "impl Shape {": "Shape",
+            "impl<'a> Reader<'a> {": "Reader",
+            "impl<'a, T: Copy> Cell<'a, T> {": "Cell",
+            "impl<U: Unit> Unit for Object<U> {": "ObjectUnit",
+            "impl<'a> Display for Line<'a> {": "LineDisplay",
+        }
+        for head, name in names.items():
+            self.assertEqual(wrong_bodies.name_of_type(head), name)
+
 
 if __name__ == "__main__":
     counted.main()

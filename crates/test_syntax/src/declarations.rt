@@ -34,11 +34,7 @@ impl<'a> Printer<'a> {
     }
 
     /// Writes `A, B : T := V`, with a word before the subtype.
-    pub fn variables(
-        &mut self,
-        variables: &'a Variables,
-        word: &'static str,
-    ) -> Result<(), AllocError> {
+    pub fn variables(&mut self, variables: &'a Variables, word: &'a str) -> Result<(), AllocError> {
         self.name_list(variables.names.as_slice())?;
         self.put(" : ")?;
         self.put(word)?;
@@ -123,7 +119,7 @@ impl<'a> Printer<'a> {
     }
 
     /// Writes words, a name and `is`.
-    pub fn heading(&mut self, words: &'static str, name: Name) -> Result<(), AllocError> {
+    pub fn heading(&mut self, words: &'a str, name: Name) -> Result<(), AllocError> {
         self.put(words)?;
         self.name(name)?;
         self.put(" is ")

@@ -137,7 +137,7 @@ impl<'a> Printer<'a> {
     fn member(
         &mut self,
         operand: &'a Expression,
-        words: &'static str,
+        words: &'a str,
         choices: &'a Vec<Choice>,
     ) -> Result<(), AllocError> {
         self.expression(operand, SUM)?;

@@ -201,12 +201,21 @@ fn nested(alloc: Global, text: &[u8], word: Part, lot: &mut Lot) -> Result<Vec<u
     spliced(alloc, text, word, &[middle.as_slice()])
 }
 
+/// The text of the reserved word that comes after this many others.
+fn reserved_text(number: usize) -> &'static str {
+    let mut left = number;
+    for (text, _) in RESERVED.iter() {
+        if left == 0 {
+            return *text;
+        }
+        left -= 1;
+    }
+    ""
+}
+
 /// The text with a reserved word in the place of a word, or before it.
 fn reworded(alloc: Global, text: &[u8], word: Part, lot: &mut Lot) -> Result<Vec<u8>, AllocError> {
-    let reserved = match RESERVED.get(lot.below(RESERVED.len())) {
-        Some((found, _)) => *found,
-        None => "",
-    };
+    let reserved = reserved_text(lot.below(RESERVED.len()));
     if lot.below(2) == 0 {
         return spliced(alloc, text, word, &[reserved.as_bytes()]);
     }
