@@ -21,7 +21,8 @@ minutes_of() {
   case $* in
     pobj_run) echo "10 to 20" ;;
     pobj_check) echo "15 to 25" ;;
-    pobj_stress | pobj_text) echo "20 to 40" ;;
+    pobj_stress) echo "20 to 40" ;;
+    *pobj_text*) echo "60 to 120" ;;
     *) echo "25 to 45" ;;
   esac
 }
