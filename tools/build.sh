@@ -278,10 +278,10 @@ build() {
   local program programs=() words
   case "$*" in
     "") words=run ;;
-    run | check | stress | text) words=$1 ;;
-    all) words="run check stress text" ;;
+    run | check | stress | text | explore) words=$1 ;;
+    all) words="run check stress text explore" ;;
     *)
-      say "build takes run, check, stress, text or all; without a word it builds run"
+      say "build takes run, check, stress, text, explore or all; without a word it builds run"
       exit 2
       ;;
   esac

@@ -6,7 +6,7 @@
 program_of() {
   case "${1-} ${2-}" in
     "run --unit"* | "check --unit"*) program=pobj_text ;;
-    "check "* | "stress "*) program=pobj_$1 ;;
+    "check "* | "stress "* | "explore "*) program=pobj_$1 ;;
     *) program=pobj_run ;;
   esac
 }
@@ -22,7 +22,7 @@ minutes_of() {
     pobj_run) echo "10 to 20" ;;
     pobj_check) echo "15 to 25" ;;
     pobj_stress) echo "20 to 40" ;;
-    *pobj_text*) echo "60 to 120" ;;
+    *pobj_text* | *pobj_explore*) echo "60 to 120" ;;
     *) echo "25 to 45" ;;
   esac
 }

@@ -5,7 +5,7 @@
 set -eu
 here=$(cd "$(dirname "$(readlink -f "$0")")" && pwd)
 parts=$here/../share/pobj
-commands="run check picture stress ada trace"
+commands="run check explore picture stress ada trace"
 targets=""
 of_target=""
 if [ -f "$parts/TARGET" ]; then

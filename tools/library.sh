@@ -180,7 +180,7 @@ say_filled() {
 put_programs() {
   local to=$1 word
   mkdir -p "$to/bin" "$to/share/pobj/picture"
-  for word in run check stress text; do
+  for word in run check stress text explore; do
     cp "$top/crates/pobj_$word/out/pobj_$word" "$to/bin/"
   done
   cp "$top"/tools/picture/{picture,story,timeline,marks,svg}.py "$to/share/pobj/picture/"

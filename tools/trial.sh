@@ -37,26 +37,52 @@ keep_input() {
 }
 
 # Hands the file with this path over to the trial: under the same path, if that leads below this folder, else under its own name.
-keep_text() {
-  local name=$1
+# Sets `name` to that.
+keep_file() {
+  name=$1
   case /$name/ in
     //* | */../*) name=${name##*/} ;;
   esac
-  data=(--data "$name=$(readlink -f "$1")")
+  data+=(--data "$name=$(readlink -f "$1")")
+}
+
+# Hands over the file that the third word names.
+keep_text() {
+  local name
+  keep_file "${words[2]}"
   words[2]=$name
 }
 
+# Hands over the files of a scene: each that a word names, and the Ada texts that such a file names.
+keep_scene() {
+  local position path name
+  for ((position = 1; position < ${#words[@]}; position++)); do
+    path=${words[position]}
+    if [ -f "$path" ]; then
+      keep_file "$path"
+      words[position]=$name
+      while read -r path; do
+        [ ! -f "$path" ] || keep_file "$path"
+      done < <(texts_in "$path")
+    fi
+  done
+}
+
+# Prints the names of the Ada texts that a scene names.
+texts_in() { sed -n 's/^[^#"]* file "\([^"]*\)".*/\1/p' "$1" | sort -u; }
+
 # Keeps the input of the program that carries out `words`: of `check FILE` the script, which the program then reads on standard
-# input; of `--unit FILE` the Ada text.
+# input; of `--unit FILE` the Ada text; of `explore` the scene.
 keep_input_of_words() {
   : >"$room/input"
   case "${#words[@]} ${words[*]}" in
     "3 run --unit "* | "4 check --unit "*" -")
       [ ! -t 0 ] || refuse_trial "the script is typed"
       keep_input
-      keep_text "${words[2]}"
+      keep_text
       ;;
-    "3 check --unit "*) keep_text "${words[2]}" ;;
+    "3 check --unit "*) keep_text ;;
+    *" explore "*) keep_scene ;;
     "1 run" | "1 check")
       [ ! -t 0 ] || refuse_trial "the script is typed"
       keep_input

@@ -12,6 +12,7 @@ all_rows() {
   run [--unit TEXT] [FILE]      Carries out a script, on one of eight units or on the protected object of an Ada text
   check [--unit TEXT] [FILE]    Explains each fault of a script, and carries out nothing
   check --unit TEXT             Explains each fault of an Ada text
+  explore [--unit TEXT] SCENE   Tries every order of the callers of a scene, and finds what can go wrong
   picture [FILE] [-o PICTURE]   Draws what a script does as a time line, in SVG
   stress --unit NAME ..         Has threads share an object, and compares each answer with its history
   ada DEST [--target TARGET]    Makes a runtime folder for Ada programs of GNAT
@@ -21,7 +22,7 @@ all_rows() {
   c DEST [--target TARGET]      Makes a folder with the library for C, its headers and examples
   c DEST --bare [--target ..]   Makes one for programs without an operating system, with an example
   trace [--all|--waits] FILE    Shows what the objects of an Ada program did, or only what waits
-  build [PROGRAM|all]           Proves and builds run, check, stress or text; until then a trial answers, in a minute
+  build [PROGRAM|all]           Proves and builds run, check, stress, text or explore; until then a trial answers, in a minute
   dist [--target TARGET]        Makes an archive of everything, for machines without the toolchain
 ROWS
 }
@@ -64,10 +65,11 @@ The statuses:
   0  a good end
   1  the script is faulty, or `check` finds something
   2  the words of the command line are refused
-  3  `stress` finds answers that differ from the history
+  3  `stress` finds answers that differ from the history, or `explore` finds something
   4  memory runs out, or a file, a read, a write or GNAT fails
   5  a build fails, or a trial gives no answer
   6  the toolchain or Python isn't there
+  7  `explore` finds nothing, but didn't try all orders
 
 docs/SCRIPTS.md describes scripts; docs/ADA.md and docs/C.md are for programs in Ada and C.
 REST
@@ -126,7 +128,7 @@ answer_words() {
   esac
   is_command "$1" || refuse_word "$1"
   case "$1 ${2-}" in
-    "run "* | "check "* | "picture "* | "stress "*) ;;
+    "run "* | "check "* | "explore "* | "picture "* | "stress "*) ;;
     *" -h" | *" --help")
       say_help_of "$1"
       exit

@@ -40,7 +40,7 @@ COMMANDS = {
 # The types whose views say how contracts see a core, with a record or without one; and the ghost items that say it.
 VIEWED = ("Core", "Recorded", "Unrecorded")
 VIEWS = ("Value", "view", "base", "events")
-PROGRAMS = ("pobj_run", "pobj_check", "pobj_stress", "po_c")
+PROGRAMS = ("pobj_run", "pobj_check", "pobj_stress", "pobj_text", "pobj_explore", "po_c")
 
 
 def rested_on(crate, file, method):

@@ -60,7 +60,7 @@ broken() {
 # Whether the programs are built of the sources as they are. If one isn't, `pobj` would try the sources.
 are_built() {
   local program crates=()
-  for program in pobj_run pobj_check pobj_stress pobj_text; do
+  for program in pobj_run pobj_check pobj_stress pobj_text pobj_explore; do
     list_crates "$program"
     if ! is_fresh "$program"; then
       fail "$program isn't built"
@@ -133,6 +133,47 @@ lay_out_texts() {
   done < <(text_cases)
 }
 
+# The paths of all scenes, without their endings. NAME.out has what `explore` answers, and NAME.status its status; NAME.err, if it is
+# there, has the errors.
+all_scenes() {
+  local file
+  for file in examples/scenes/*.scene cases/*.scene; do
+    echo "${file%.scene}"
+  done
+}
+
+# Explores each scene by the built program.
+scenes_by_program() {
+  local base path got
+  path_of pobj_explore
+  for base in $(all_scenes); do
+    "$path" explore "$base.scene" >"$scratch/out" 2>"$scratch/err"
+    got=$?
+    : >"$scratch/want"
+    [ ! -f "$base.err" ] || cp "$base.err" "$scratch/want"
+    if [ "$got" -eq "$(cat "$base.status")" ] && cmp -s "$scratch/err" "$scratch/want" && cmp -s "$scratch/out" "$base.out"; then
+      pass
+    else
+      fail "$base.scene: status $got: $(diff "$scratch/want" "$scratch/err") $(diff "$base.out" "$scratch/out")"
+    fi
+  done
+}
+
+# Lays out the scenes as a trial takes them, but those of over 9,999 situations, which take a trial minutes.
+lay_out_scenes() {
+  local base name
+  mkdir -p "$scratch/$1/cases"
+  for base in $(all_scenes); do
+    if ! grep -qE '^[0-9]{5,} situations' "$base.out"; then
+      name=scene-${base##*/}
+      : >"$scratch/$1/cases/$name"
+      cp "$base.out" "$scratch/$1/cases/$name.stdout"
+      printf '%s\n' explore "$base.scene" >"$scratch/$1/cases/$name.args"
+      cp "$base.status" "$scratch/$1/$name.want"
+    fi
+  done
+}
+
 # Draws the pages' pictures from the built program's answers.
 pictures_by_programs() {
   local file script
@@ -180,13 +221,18 @@ lay_out_pictures() {
 scripts() {
   local file name data=()
   lay_out_cases "$1"
-  [ "$1" != pobj_run ] || lay_out_pictures "$1"
-  if [ "$1" = pobj_text ]; then
-    lay_out_texts "$1"
-    for file in examples/ada/*.adb cases/*.adb; do
-      data+=(--data "$file=$top/$file")
-    done
-  fi
+  case $1 in
+    pobj_run) lay_out_pictures "$1" ;;
+    pobj_text) lay_out_texts "$1" ;;
+    pobj_explore) lay_out_scenes "$1" ;;
+  esac
+  case $1 in
+    pobj_text | pobj_explore)
+      for file in examples/ada/*.adb examples/scenes/*.adb examples/scenes/*.scene cases/*.adb cases/*.scene; do
+        data+=(--data "$file=$top/$file")
+      done
+      ;;
+  esac
   steps_in "$(find "$scratch/$1" -maxdepth 1 -name '*.want' | wc -l)" "$scratch/$1/said"
   (cd "crates/$1" && rt try --seconds 120 "${data[@]}" --cases "$scratch/$1/cases") >"$scratch/$1/said" 2>&1
   for file in "$scratch/$1"/*.want; do

@@ -159,8 +159,8 @@ picture_in_file() {
 make_packed() {
   local work=$scratch/build program
   cp -r LICENSE README.md bindings docs examples include "$work/"
-  printf '%s\n' pobj_run: pobj_check: pobj_stress: pobj_text: po_c: >"$work/crates.txt"
-  for program in pobj_run pobj_check pobj_stress pobj_text; do
+  printf '%s\n' pobj_run: pobj_check: pobj_stress: pobj_text: pobj_explore: po_c: >"$work/crates.txt"
+  for program in pobj_run pobj_check pobj_stress pobj_text pobj_explore; do
     mkdir -p "$work/crates/$program/src"
     echo >"$work/crates/$program/src/main.rt"
   done
@@ -204,7 +204,7 @@ packs_there() {
   same "$("$to/bin/pobj" --version)" "pobj $(cat VERSION)" "the packed version"
   same "$(sed -n 's/^Version: //p' "$to/lib/pkgconfig/pobj.pc")" "$(cat VERSION)" "the version for pkg-config"
   same "$("$to/bin/pobj" --help | awk '/^Commands/ { on = 1 } /^Options/ { on = 0 } on && NF > 1 { print $1 }' | uniq | tr '\n' ' ')" \
-    "run check picture stress ada trace help " "the packed commands"
+    "run check explore picture stress ada trace help " "the packed commands"
   same "$("$to/bin/pobj" tarce 2>&1)" "pobj: no command 'tarce'; did you mean 'trace'?" "the packed answer to a mistyped word"
   same "$("$to/bin/pobj" run "$to/VERSION")" "pobj_run run"$'\n'"$(cat VERSION)" "the packed program's input"
   same "$("$to/bin/pobj" run --unit "$to/VERSION" "$to/VERSION")" "pobj_text run --unit $to/VERSION"$'\n'"$(cat VERSION)" "the packed program for Ada texts"

@@ -91,7 +91,7 @@ fn stop_at(alloc: Global, kind: FaultKind, expected: &str, word: Option<&[u8]>) 
 }
 
 /// Returns why an operation isn't carried out, in whose line this word, or none, stands where something else was expected.
-pub(crate) fn bad_argument(alloc: Global, expected: &str, word: Option<&[u8]>) -> Stop {
+pub fn bad_argument(alloc: Global, expected: &str, word: Option<&[u8]>) -> Stop {
     stop_at(alloc, FaultKind::BadArgument, expected, word)
 }
 

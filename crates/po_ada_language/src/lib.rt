@@ -19,11 +19,11 @@ pub mod unit_line;
 pub mod values;
 
 pub use crate::arguments::push_cells;
-pub use crate::fault::{LineFault, Stop, bad_unit, fault_of, no_object, push_word};
+pub use crate::fault::{LineFault, Stop, bad_argument, bad_unit, fault_of, no_object, push_word};
 pub use crate::interpreter::Interpreter;
 pub use crate::operation::Operation;
 pub use crate::operation_line::operation_of;
 pub use crate::text_unit::{Cells, TextUnit};
 pub use crate::texts::{FileChoice, ScriptedObject, Settings, Texts};
-pub use crate::unit_line::settings_of;
+pub use crate::unit_line::{choice_of, settings_of};
 pub use crate::values::{push_formed, push_value, value_before};

@@ -42,7 +42,7 @@ fn quoted(bytes: &[u8]) -> Option<(&[u8], &[u8])> {
 }
 
 /// Returns the file that the words after `unit` choose, and the words after those that do.
-pub(crate) fn choice_of(alloc: Global, words: &[u8]) -> Result<(FileChoice<'_>, &[u8]), Stop> {
+pub fn choice_of(alloc: Global, words: &[u8]) -> Result<(FileChoice<'_>, &[u8]), Stop> {
     let Some((word, rest)) = cut_word(words) else {
         return Err(bad_unit(alloc, NAME, None));
     };

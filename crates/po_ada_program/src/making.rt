@@ -5,7 +5,6 @@ ghost use Rattle.std.specs.Prelude.{◌+◌, ◌≤◌, IfOk};
 
 use crate::queue_limits::QueueLimit;
 use po_ada_tree::{Faults, Names, Stop};
-use po_ada_types::Known;
 use po_ada_values::Lowering;
 use std::alloc::Global;
 
@@ -39,11 +38,6 @@ pub struct Making<'a> {
     pub limits: Vec<QueueLimit>,
     /// The greatest length of all queues.
     pub max_queue: Option<u64>,
-}
-
-/// How many faults were told.
-pub(crate) fn told(known: &Known<'_>) -> usize {
-    known.faults.len()
 }
 
 impl<'a> Making<'a> {

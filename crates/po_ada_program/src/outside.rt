@@ -1,7 +1,7 @@
 // SPDX-License-Identifier: MIT
 //! What a text has outside of the protected unit. A declaration there that isn't in the subset is no fault unless the unit uses it.
 
-use crate::making::{Making, told};
+use crate::making::Making;
 use po_ada_tree::Stop;
 use po_ada_tree::tree::{Body, Content, Declaration, Variables};
 use po_ada_types::Meaning;
@@ -9,7 +9,7 @@ use po_ada_types::Meaning;
 impl<'a> Making<'a> {
     /// A declaration outside of the protected unit. If it is faulty, the unit may not use its names.
     pub fn outer_declared(&mut self, declaration: &'a Declaration) -> Result<(), Stop> {
-        let before = told(&self.lowering.known);
+        let before = self.lowering.known.told();
         self.declared(declaration, false)?;
         match declaration {
             Declaration::Type(name, _) | Declaration::Subtype(name, _) => self
@@ -38,7 +38,7 @@ impl<'a> Making<'a> {
 
     /// An operation outside of the protected unit. If it is faulty, the unit may not call it.
     pub fn outer_operation(&mut self, body: &'a Body) -> Result<(), Stop> {
-        let before = told(&self.lowering.known);
+        let before = self.lowering.known.told();
         let done = self.note_outer(body);
         self.keep_on(done)?;
         self.lowering.known.excuse(before, &[body.profile.name])

@@ -2,7 +2,7 @@
 //! The preconditions of entries (6.1.1). A precondition is checked before the protected action of a call, so it is a function of the
 //! entry's parameters, constants and functions that stand before the object.
 
-use crate::making::{Making, told};
+use crate::making::Making;
 use po_ada_tree::Stop;
 use po_ada_tree::tree::{Expression, Kind};
 use po_ada_types::{Meaning, Symbol};
@@ -66,9 +66,9 @@ impl<'a> Making<'a> {
         let scope = self.lowering.known.scope.len();
         self.begin_frame(number);
         let list = self.lowering.begin_list();
-        let before = told(&self.lowering.known);
+        let before = self.lowering.known.told();
         let done = match self.precondition_code(number, condition) {
-            Err(Stop::Fault) if !doubtful && told(&self.lowering.known) == before => Err(
+            Err(Stop::Fault) if !doubtful && self.lowering.known.told() == before => Err(
                 self.lowering.known.refuse(place, INSIDE),
             ),
             done => done,

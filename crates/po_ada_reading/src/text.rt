@@ -1,7 +1,7 @@
 // SPDX-License-Identifier: MIT
 //! Reads a text, and makes the program of one of its protected units.
 
-ghost use Rattle.std.specs.Prelude.{◌≡◌, vec_len, IfOk, OnOk};
+ghost use Rattle.std.specs.Prelude.{◌≡◌, ◌≤◌, vec_len, Ok, IfOk, IfErr, OnOk};
 
 use po_ada_lint::hints;
 use po_ada_names::Heading;
@@ -120,7 +120,9 @@ fn outcome<T: Drop>(
     made: Result<T, Stop>,
     faults: Faults,
 ) -> Result<Result<T, Vec<Fault>>, AllocError>
-    ensures { IfOk result (λ told. OnOk told (vec_len faults.items ≡ 0)) }
+    ensures none { IfOk result (λ told. OnOk told (vec_len faults.items ≡ 0)) }
+    ensures made { IfOk result (λ told. IfOk told (λ value. made ≡ Ok value)) }
+    ensures few { IfOk result (λ told. IfErr told (λ list. vec_len list ≤ 20)) }
 {
     match made {
         Ok(value) if faults.is_empty() => Ok(Ok(value)),
@@ -142,7 +144,9 @@ pub fn read(
 }
 
 /// The names of a text's protected units, at least one, or a stop.
-fn names_in(alloc: Global, bytes: &[u8], faults: &mut Faults) -> Result<Vec<String>, Stop> {
+fn names_in(alloc: Global, bytes: &[u8], faults: &mut Faults) -> Result<Vec<String>, Stop>
+    ensures { IfOk result (λ names. 1 ≤ vec_len names) }
+{
     let text = parse(alloc, bytes, faults)?;
     let mut list = Vec::new(alloc);
     for item in text.items.iter() {
@@ -161,7 +165,10 @@ fn names_in(alloc: Global, bytes: &[u8], faults: &mut Faults) -> Result<Vec<Stri
 pub fn unit_names(
     alloc: Global,
     bytes: &[u8],
-) -> Result<Result<Vec<String>, Vec<Fault>>, AllocError> {
+) -> Result<Result<Vec<String>, Vec<Fault>>, AllocError>
+    ensures names { IfOk result (λ told. IfOk told (λ names. 1 ≤ vec_len names)) }
+    ensures faults { IfOk result (λ told. IfErr told (λ list. vec_len list ≤ 20)) }
+{
     let mut faults = Faults::new(alloc);
     let names = names_in(alloc, bytes, &mut faults);
     outcome(names, faults)

@@ -14,6 +14,7 @@ use Rattle.po_ada_language.specs.declared.operation.Operation.{Operation}
 use Rattle.po_ada_language.specs.declared.operation.Operation.TheVariants.{Call, Procedure, Function, Cancel, Tick, Finalize, Show}
 use Rattle.po_ada_script.specs.Operations.{after_operation}
 
+-- the number of the function that is the precondition of an entry, if there is the entry and it has one
 abbrev pub stated : Option Entry → Option ℕ
 stated None = None
 stated (Some entry) = entry.precondition

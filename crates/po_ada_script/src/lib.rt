@@ -15,5 +15,6 @@ mod replies;
 pub mod run;
 
 pub use crate::exceptions::push_exception;
-pub use crate::object::TextObject;
+pub use crate::object::{TextObject, shape_of, smaller};
+pub use crate::preconditions::failed_precondition;
 pub use crate::run::{Answers, RunFault, answer_lines, fault_at};

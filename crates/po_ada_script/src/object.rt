@@ -57,7 +57,7 @@ fn declarations(alloc: Global, entries: &[Entry]) -> Result<Vec<Decl>, AllocErro
 }
 
 /// Makes the shape of the entries (9.5.2).
-fn shape_of(alloc: Global, entries: &[Entry]) -> Result<Shape, Stop> {
+pub fn shape_of(alloc: Global, entries: &[Entry]) -> Result<Shape, Stop> {
     let declarations = declarations(alloc, entries)?;
     match Shape::new(alloc, declarations.as_slice()) {
         Ok(shape) => Ok(shape),
@@ -67,7 +67,7 @@ fn shape_of(alloc: Global, entries: &[Entry]) -> Result<Shape, Stop> {
 }
 
 /// Returns the smaller of two limits, if there is one.
-fn smaller(limit: Option<u64>, other: Option<u64>) -> Option<u64>
+pub fn smaller(limit: Option<u64>, other: Option<u64>) -> Option<u64>
     ensures { result ≡ least limit other }
 {
     match (limit, other) {

@@ -7,7 +7,7 @@ ghost use Rattle.po_ada_script.specs.Preconditions.{asked as answer_of, call_fai
 
 use po_ada_language::{Operation, TextUnit};
 use po_ada_names::ObjectNames;
-use po_core::Core;
+use po_core::{Core, Record};
 use po_program::ASSERTION_ERROR;
 use po_unit::{EntryRef, Unit};
 
@@ -22,7 +22,7 @@ fn precondition(names: &ObjectNames, declaration: u16) -> Option<u16>
 }
 
 /// Returns whether the entry can be called from outside: it is declared in the visible part, and has this index.
-fn is_callable<U: Unit>(core: &Core<U>, entry: EntryRef) -> bool
+fn is_callable<U: Unit, R: Record<U>>(core: &Core<U, R>, entry: EntryRef) -> bool
     ensures { IsTrue result ↔ (entry_refusal core.now.object.setup.shape entry None ≡ None) }
 {
     match core.shape().decl(entry.declaration) {
@@ -48,7 +48,7 @@ fn failure<U: TextUnit>(replied: Result<U::Value, u32>) -> Option<u32>
 }
 
 /// Returns the exception that the function with this number, a precondition, raises for a call with this value.
-fn asked<U: TextUnit>(core: &Core<U>, op: u16, value: U::Value) -> Option<u32>
+fn asked<U: TextUnit, R: Record<U>>(core: &Core<U, R>, op: u16, value: U::Value) -> Option<u32>
     ensures { result ≡ answer_of U.meaning U.parameters core.now.object value (Some op) }
 {
     match core.function(op, value) {
@@ -58,8 +58,8 @@ fn asked<U: TextUnit>(core: &Core<U>, op: u16, value: U::Value) -> Option<u32>
 }
 
 /// Returns the exception that the precondition of an entry raises for a call with this value. A call that is refused isn't asked.
-fn call_failure<U: TextUnit>(
-    core: &Core<U>,
+fn call_failure<U: TextUnit, R: Record<U>>(
+    core: &Core<U, R>,
     names: &ObjectNames,
     entry: EntryRef,
     value: U::Value,
@@ -76,8 +76,8 @@ fn call_failure<U: TextUnit>(
 }
 
 /// Returns the exception that the precondition of a call raises, if the operation is a call. Nothing changes.
-pub(crate) fn failed_precondition<U: TextUnit>(
-    core: &Core<U>,
+pub fn failed_precondition<U: TextUnit, R: Record<U>>(
+    core: &Core<U, R>,
     names: &ObjectNames,
     operation: &Operation<U::Value>,
 ) -> Option<u32>

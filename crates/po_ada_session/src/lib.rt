@@ -16,4 +16,4 @@ mod texts;
 pub use crate::checking::hints_on;
 pub use crate::file::TextFile;
 pub use crate::session::{Check, Run, Session};
-pub use crate::texts::TextFiles;
+pub use crate::texts::{NO_FILE, NOT_TEXT, TextFiles, unit_of_file};

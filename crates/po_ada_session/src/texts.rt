@@ -16,10 +16,10 @@ use std::alloc::{AllocError, Global};
 use std::sync::Arc;
 
 /// The fault of a name that isn't text.
-const NOT_TEXT: &str = "the name of the file isn't UTF-8";
+pub const NOT_TEXT: &str = "the name of the file isn't UTF-8";
 
 /// The fault of a name for the file of the command line, if there is none.
-const NO_FILE: &str =
+pub const NO_FILE: &str =
     "expected 'file' and the name of a file, since the command line names none by --unit";
 
 /// The files whose Ada texts a script can have.
@@ -72,6 +72,23 @@ fn unit_of(alloc: Global, made: Made) -> Result<(AdaUnit, ObjectNames), Stop> {
     }
 }
 
+/// Makes the unit of the file's text, as the words state it. Returns its names and the words' settings too.
+pub fn unit_of_file(
+    alloc: Global,
+    file: &TextFile,
+    choice: FileChoice<'_>,
+    words: &[u8],
+) -> Result<(AdaUnit, ObjectNames, Settings), Stop> {
+    let text = match choice {
+        FileChoice::Given(Some(word)) => text_called(alloc, file, word)?,
+        FileChoice::Given(None) | FileChoice::Named(_) => file.text(alloc, None)?,
+    };
+    let settings = settings_of(alloc, text.heading(), words)?;
+    let made = file.program(alloc, &text, settings.discriminants.as_slice())?;
+    let (unit, names) = unit_of(alloc, made)?;
+    Ok((unit, names, settings))
+}
+
 impl TextFiles {
     /// Returns the files of a script: that of the command line, if it names one.
     pub fn new(given: Option<TextFile>) -> TextFiles {
@@ -111,15 +128,7 @@ impl TextFiles {
         choice: FileChoice<'_>,
         words: &[u8],
     ) -> Result<(AdaUnit, ObjectNames, Settings), Stop> {
-        let file = self.chosen(alloc, choice)?;
-        let text = match choice {
-            FileChoice::Given(Some(word)) => text_called(alloc, file, word)?,
-            FileChoice::Given(None) | FileChoice::Named(_) => file.text(alloc, None)?,
-        };
-        let settings = settings_of(alloc, text.heading(), words)?;
-        let made = file.program(alloc, &text, settings.discriminants.as_slice())?;
-        let (unit, names) = unit_of(alloc, made)?;
-        Ok((unit, names, settings))
+        unit_of_file(alloc, self.chosen(alloc, choice)?, choice, words)
     }
 }
 

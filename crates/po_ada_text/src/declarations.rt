@@ -4,7 +4,7 @@
 use crate::lexer::Element;
 use crate::reader::{MOST_LEVELS, Reader};
 use crate::sign::Sign;
-use crate::statements::go_on;
+use crate::statements::{before, both, go_on};
 use po_ada_tree::fault::Stop;
 use po_ada_tree::reserved::Reserved;
 use po_ada_tree::tree::{
@@ -146,20 +146,16 @@ impl<'a> Reader<'a> {
             return Err(self.no_colon(names.as_slice()));
         }
         if self.takes(Reserved::Exception) {
-            self.semicolon()?;
-            return Ok(Declaration::Exceptions(names));
+            return before(Declaration::Exceptions(names), self.semicolon());
         }
         self.takes(Reserved::Aliased);
         let constant = self.takes(Reserved::Constant);
         if constant && self.takes_sign(Sign::Becomes) {
-            let value = self.expression(MOST_LEVELS)?;
-            self.semicolon()?;
-            return Ok(Declaration::Numbers(names, value));
+            let (names, value) = both(names, self.expression(MOST_LEVELS))?;
+            return before(Declaration::Numbers(names, value), self.semicolon());
         }
         let variables = self.typed(names, constant)?;
-        self.ignored_aspects()?;
-        self.semicolon()?;
-        Ok(Declaration::Variables(variables))
+        before(Declaration::Variables(variables), self.declaration_end())
     }
 
     /// The fault of names without a colon after them.
@@ -172,15 +168,8 @@ impl<'a> Reader<'a> {
 
     /// Reads a subtype and a value for names.
     pub fn typed(&mut self, names: Vec<Name>, constant: bool) -> Result<Variables, Stop> {
-        let subtype = self.subtype()?;
-        if self.sees(Reserved::Renames) {
-            let place = self.place();
-            return Err(self.refuse(
-                place,
-                "renaming isn't in this subset: use the first name (8.5)",
-            ));
-        }
-        let value = self.initial_value()?;
+        let (names, subtype) = both(names, self.subtype())?;
+        let ((names, subtype), value) = both((names, subtype), self.value_of_variables())?;
         Ok(Variables {
             names,
             constant,
@@ -189,14 +178,30 @@ impl<'a> Reader<'a> {
         })
     }
 
+    /// Reads the initial value of variables, if they have one.
+    fn value_of_variables(&mut self) -> Result<Option<Expression>, Stop> {
+        if self.sees(Reserved::Renames) {
+            let place = self.place();
+            return Err(self.refuse(
+                place,
+                "renaming isn't in this subset: use the first name (8.5)",
+            ));
+        }
+        self.initial_value()
+    }
+
     fn subtype_declaration(&mut self) -> Result<Declaration, Stop> {
         self.step();
         let name = self.name("a subtype's name")?;
         self.needs(Reserved::Is)?;
         let subtype = self.subtype()?;
+        before(Declaration::Subtype(name, subtype), self.declaration_end())
+    }
+
+    /// Reads aspects that change no meaning, if they come next, and the semicolon of a declaration.
+    fn declaration_end(&mut self) -> Result<(), Stop> {
         self.ignored_aspects()?;
-        self.semicolon()?;
-        Ok(Declaration::Subtype(name, subtype))
+        self.semicolon()
     }
 
     /// Reads a declaration of a type, or of a generic formal type.

@@ -19,14 +19,6 @@ pub const MOST_BYTES: usize = 16_777_216;
 /// For each element of a text, this many are looked at to find protected units in main programs.
 const MOST_LOOKS: usize = 16;
 
-/// A copy of the fault before which this many were told, if there is one.
-fn fault_at(alloc: Global, faults: &Faults, told: usize) -> Result<Option<Fault>, AllocError> {
-    match faults.items.get(told) {
-        Some(fault) => Ok(Some(fault.copy(alloc)?)),
-        None => Ok(None),
-    }
-}
-
 impl<'a> Reader<'a> {
     /// Reads a text's items. After a fault, goes on at the next item.
     fn items(&mut self) -> Result<Vec<Item>, Stop> {
@@ -93,7 +85,7 @@ impl<'a> Reader<'a> {
 
     /// An item of this name that isn't read, since a fault was told after this many.
     fn unread_item(&self, name: Name, told: usize) -> Result<Item, AllocError> {
-        let fault = fault_at(self.alloc, self.faults, told)?;
+        let fault = self.faults.nth(self.alloc, told)?;
         Ok(Item::Unread(Unread { name, fault }))
     }
 

@@ -83,6 +83,23 @@ pub fn go_on(stop: Stop) -> Result<(), Stop> {
     }
 }
 
+/// Both, if the second was read. What was read before a step that can fail goes through here, so that the prover meets one place
+/// that lets it go.
+pub fn both<A: Drop, B>(first: A, second: Result<B, Stop>) -> Result<(A, B), Stop> {
+    match second {
+        Ok(second) => Ok((first, second)),
+        Err(stop) => Err(stop),
+    }
+}
+
+/// The value, if what has to come after it was read.
+pub fn before<A: Drop>(value: A, after: Result<(), Stop>) -> Result<A, Stop> {
+    match after {
+        Ok(()) => Ok(value),
+        Err(stop) => Err(stop),
+    }
+}
+
 impl<'a> Reader<'a> {
     /// An expression that stands for one that was faulty.
     fn faulty(&self) -> Expression {

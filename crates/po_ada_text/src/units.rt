@@ -4,7 +4,7 @@
 use crate::lexer::Element;
 use crate::reader::{MOST_LEVELS, Reader};
 use crate::sign::Sign;
-use crate::statements::go_on;
+use crate::statements::{before, go_on};
 use po_ada_tree::fault::Stop;
 use po_ada_tree::reserved::Reserved;
 use po_ada_tree::tree::{
@@ -284,8 +284,7 @@ impl<'a> Reader<'a> {
             return Ok(self.declaration()?.map(Part::Declaration));
         }
         let profile = self.profile()?;
-        self.semicolon()?;
-        Ok(Some(Part::Operation(profile)))
+        before(Some(Part::Operation(profile)), self.semicolon())
     }
 
     /// Reads a protected unit's body after `protected body` (9.4).

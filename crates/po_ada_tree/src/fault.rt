@@ -1,7 +1,7 @@
 // SPDX-License-Identifier: MIT
 //! What is wrong with a text, and where.
 
-ghost use Rattle.std.specs.Prelude.{◌≡◌, ◌+◌, ◌≤◌, ◌↔◌, IsTrue, take, vec_len, IfOk, OnOk};
+ghost use Rattle.std.specs.Prelude.{◌≡◌, ◌+◌, ◌≤◌, ◌↔◌, IsTrue, take, vec_len, string_bytes, IfOk, OnOk};
 
 use std::alloc::{AllocError, AllocFailed, Global};
 
@@ -19,7 +19,8 @@ pub struct Fault {
 impl Fault {
     /// Returns a copy.
     pub fn copy(&self, alloc: Global) -> Result<Fault, AllocError>
-        ensures { IfOk result (λ copy. copy.place ≡ self.now.place) }
+        ensures place { IfOk result (λ copy. copy.place ≡ self.now.place) }
+        ensures message { IfOk result (λ copy. string_bytes copy.message ≡ string_bytes self.now.message) }
     {
         let message = String::from_str(alloc, self.message.as_str())?;
         Ok(Fault {
@@ -86,6 +87,14 @@ impl Faults {
         ensures { result.items ≡ self.items.items }
     {
         self.items
+    }
+
+    /// Returns a copy of the fault before which this many were told, if there is one.
+    pub fn nth(&self, alloc: Global, number: usize) -> Result<Option<Fault>, AllocError> {
+        match self.items.get(number) {
+            Some(fault) => Ok(Some(fault.copy(alloc)?)),
+            None => Ok(None),
+        }
     }
 
     /// Forgets all faults but the first ones.

@@ -1,6 +1,8 @@
 // SPDX-License-Identifier: MIT
 //! What is known of a text: types, the meanings of names, and the faults that were told.
 
+ghost use Rattle.std.specs.Prelude.{◌≡◌, vec_len};
+
 use crate::types::{Kind, Meaning, Symbol};
 use po_ada_tree::tree::{Name, Unread};
 use po_ada_tree::{Fault, Faults, Names, Stop};
@@ -39,14 +41,6 @@ fn turned(
     Ok(turned)
 }
 
-/// A copy of the fault before which this many were told, if there is one.
-fn fault_at(alloc: Global, faults: &Faults, told: usize) -> Result<Option<Fault>, AllocError> {
-    match faults.items.get(told) {
-        Some(fault) => Ok(Some(fault.copy(alloc)?)),
-        None => Ok(None),
-    }
-}
-
 impl<'a> Known<'a> {
     /// Nothing is known yet.
     pub fn new(alloc: Global, names: &'a Names, faults: &'a mut Faults) -> Known<'a> {
@@ -59,6 +53,13 @@ impl<'a> Known<'a> {
             literals: Vec::new(alloc),
             reasons: Vec::new(alloc),
         }
+    }
+
+    /// Returns how many faults were told.
+    pub fn told(&self) -> usize
+        ensures { result ≡ vec_len self.now.faults.now.items }
+    {
+        self.faults.len()
     }
 
     /// Tells a fault.
@@ -107,7 +108,7 @@ impl<'a> Known<'a> {
 
     /// If a fault was told after this many, forgets what was told since. These names may not be used, then.
     pub fn excuse(&mut self, told: usize, names: &[Name]) -> Result<(), Stop> {
-        let Some(fault) = fault_at(self.alloc, self.faults, told)? else {
+        let Some(fault) = self.faults.nth(self.alloc, told)? else {
             return Ok(());
         };
         self.faults.truncate(told);

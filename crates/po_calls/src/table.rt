@@ -18,8 +18,8 @@ use std::marker::Model;
 
 /// The calls of an object that aren't collected, each found by its ticket.
 ///
-/// A ticket is `Unknown` if its key holds no call, or one with another number. Only `with_capacity` and `reserve_one` take
-/// memory.
+/// A ticket is `Unknown` if its key holds no call, or one with another number. Only `with_capacity`, `copy` and `reserve_one`
+/// take memory.
 #[derive(Drop)]
 pub struct Table<V: Copy> {
     calls: Slab<Kept<V>>,
@@ -63,6 +63,23 @@ impl<V: Copy> Table<V> {
     {
         let calls = Slab::with_capacity(alloc, most)?;
         Ok(Table { calls, last: None })
+    }
+
+    /// Makes a table that keeps the same calls under the same keys, and has room for `most` calls, those that are kept included.
+    ///
+    /// Fails only if memory runs out. The next key of the copy is that of this table.
+    pub fn copy(&self, most: usize) -> Result<Table<V>, AllocError>
+        ensures same { IfOk result (λ copy. copy ≡ record self.now {
+          calls = record self.now.calls { capacity = copy.calls.capacity };
+        }) }
+        ensures room { IfOk result (λ copy. most ≤ copy.calls.capacity) }
+    {
+        let mut calls = self.calls.clone()?;
+        calls.reserve(most.saturating_sub(self.calls.len()))?;
+        Ok(Table {
+            calls,
+            last: self.last,
+        })
     }
 
     /// Makes room for one more call. No room is lost, even if this fails.

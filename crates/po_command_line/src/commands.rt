@@ -23,6 +23,9 @@ pub const CHECK: &str = "check";
 /// The word that asks for a run of many threads.
 pub const STRESS: &str = "stress";
 
+/// The word that asks for all orders of a scene.
+pub const EXPLORE: &str = "explore";
+
 /// The message for words that aren't text.
 const NOT_TEXT: &str = "the words of the command line aren't UTF-8";
 
@@ -97,6 +100,13 @@ pub fn check_command<'a>(alloc: Global) -> Command<'a> {
 pub fn stress_command<'a>(alloc: Global, name: &'a str) -> Command<'a> {
     Command::new(alloc, name).about(
         "Has many threads call one object, and compares their answers with its history",
+    )
+}
+
+/// Returns the command `explore`, without what may follow it.
+pub fn explore_command<'a>(alloc: Global) -> Command<'a> {
+    Command::new(alloc, EXPLORE).about(
+        "Tries every order of the callers of a scene, and finds what can go wrong",
     )
 }
 

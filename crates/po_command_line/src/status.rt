@@ -18,8 +18,14 @@ pub const FINDINGS: u8 = 1;
 /// The status if the words of the command line are refused.
 pub(crate) const USAGE: u8 = 2;
 
+/// The status if a search finds an order in which something goes wrong.
+pub const FOUND: u8 = 3;
+
 /// The status if memory ran out, or a read or a write failed.
 pub const NO_MEANS: u8 = 4;
+
+/// The status if a search finds nothing, but didn't look at everything.
+pub const CUT_OFF: u8 = 7;
 
 /// Returns the status of a fault.
 pub(crate) fn status_of(fault: &RunError) -> u8

@@ -1,5 +1,5 @@
 // SPDX-License-Identifier: MIT
-//! A core that takes all its memory when it is made: how it is made, and how many calls were issued.
+//! A core that takes all its memory when it is made: how it is made and copied, and how many calls were issued.
 
 ghost use Rattle.std.specs.Prelude.{◌≡◌, ◌≢◌, ◌+◌, [], ◌↔◌, count_by, Some, IfOk};
 ghost use Rattle.po_unit.specs.Numbering.{entry_count};
@@ -14,7 +14,7 @@ use crate::{MakeError, Setup, Start};
 use po_engine::State;
 use po_queues::Order;
 use po_unit::{Shape, Unit};
-use std::alloc::Global;
+use std::alloc::{AllocError, Global};
 
 impl<U: Unit + Drop> Core<U, Unrecorded<U>> {
     /// Makes an object with this unit, from the given numbers, with all memory for `most` uncollected calls at once.
@@ -53,6 +53,36 @@ impl<U: Unit + Drop> Core<U, Unrecorded<U>> {
         let state = State::with_capacity(alloc, now, setup.first_number(), most)?;
         Ok(Core {
             in_action: CoreInAction::new(setup, state, Unrecorded::new()),
+        })
+    }
+
+    /// Makes an equal core: an object in the same state, after the same history. Tickets of calls of this core are good for the
+    /// same calls of the copy.
+    ///
+    /// Takes all memory for as many uncollected calls as this core has memory for, and fails only if memory runs out. From then
+    /// on nothing that is done with one of the two changes the other.
+    pub fn copy(&self) -> Result<Core<U, Unrecorded<U>>, AllocError>
+        ensures { IfOk result (λ copy. copy ≡ self.now) }
+    {
+        Ok(Core {
+            in_action: self.in_action.copy()?,
+        })
+    }
+}
+
+impl<U: Unit + Drop> CoreInAction<U, Unrecorded<U>> {
+    /// Makes an equal object, with memory for as many calls. Fails only if memory runs out.
+    fn copy(&self) -> Result<CoreInAction<U, Unrecorded<U>>, AllocError>
+        ensures { IfOk result (λ copy. copy ≡ self.now) }
+    {
+        let setup = self.setup.copy()?;
+        let state = self.state.copy()?;
+        Ok(CoreInAction {
+            setup,
+            state,
+            kept: self.kept.copy(),
+            place: self.place,
+            last: self.last,
         })
     }
 }

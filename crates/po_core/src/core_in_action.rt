@@ -357,6 +357,13 @@ impl<U: Unit, R: Record<U>> CoreInAction<U, R> {
         self.place
     }
 
+    /// Returns the entry that servicing served last, if it has served one.
+    pub(crate) fn last_served(&self) -> Option<u16>
+        ensures { result ≡ last_served self.now.object }
+    {
+        self.last
+    }
+
     /// Returns the calls that the last command ended.
     pub(crate) fn ended_now(&self) -> &[Ended<U::Value>]
         ensures { result.now ≡ ended_now self.now.object }

@@ -1,12 +1,12 @@
 // SPDX-License-Identifier: MIT
 //! A protected object between two protected actions: its core, which carries out every operation on it.
 
-ghost use Rattle.std.specs.Prelude.{◌≡◌, ◌∷◌, ◌++◌, [], slice_index, find, option_map, None, Some, Option, true, IfOk, IfErr, IfNone, IfSome, is_some, OnSome, MatchResult, OnOk, OnErr};
+ghost use Rattle.std.specs.Prelude.{◌≡◌, ◌∷◌, ◌++◌, [], map, slice_index, find, option_map, None, Some, Option, true, IfOk, IfErr, IfNone, IfSome, is_some, OnSome, MatchResult, OnOk, OnErr};
 ghost use Rattle.po_unit.specs.Numbering.{flat_number, is_public};
 ghost use Rattle.po_engine.specs.Tickets.{number_at, is_live, SetsTicket};
 ghost use Rattle.po_engine.specs.WaitingCalls.{has_number, is_of};
 ghost use Rattle.po_engine.specs.ObjectState.{counts_in};
-ghost use Rattle.po_core.specs.View.{ended_now, next_place};
+ghost use Rattle.po_core.specs.View.{ended_now, last_served, next_place};
 ghost use Rattle.po_core.specs.ProtectedAction.{IsProtectedAction, IsAttemptOf, after_action, after_attempt, attempt_answer};
 ghost use Rattle.po_core.specs.Commands.{entry_of, issue_of, reply_of};
 ghost use Rattle.po_core.specs.Headline.{Headline};
@@ -22,10 +22,11 @@ use crate::recorded::Recorded;
 use crate::refusal::Refusal;
 use crate::unrecorded::Unrecorded;
 use po_calls::{Call, CallStatus, Deadline, End, Ticket};
-use po_engine::Ended;
+use po_engine::{Arrival, Ended};
 use po_history::Event;
 use po_queues::Order;
 use po_unit::{EntryRef, Shape, Unit};
+use std::alloc::AllocError;
 use std::marker::Model;
 
 /// The core of a protected object (9.4), with a record of what has happened: in memory, or for proofs alone.
@@ -277,6 +278,13 @@ impl<U: Unit, R: Record<U>> Core<U, R> {
         Ok(self.in_action.state().count(e))
     }
 
+    /// Returns the queued calls with the places at which they were queued, in order of arrival. Fails only if memory runs out.
+    pub fn arrivals(&self) -> Result<Vec<Arrival<U::Value>>, AllocError>
+        ensures { IfOk result (λ list. map (λ a. a.call) list.items ≡ self.now.object.state.waiting) }
+    {
+        self.in_action.state().arrivals()
+    }
+
     /// Returns the calls that were ended by the last command that wasn't refused, in the order in which they ended.
     pub fn ended_now(&self) -> &[Ended<U::Value>]
         ensures { result.now ≡ ended_now self.now.object }
@@ -312,6 +320,20 @@ impl<U: Unit, R: Record<U>> Core<U, R> {
         ensures { result ≡ self.now.object.state.clock }
     {
         self.in_action.state().clock()
+    }
+
+    /// Returns whether the object is finalized (9.4).
+    pub fn is_finalized(&self) -> bool
+        ensures { result ≡ self.now.object.state.finalized }
+    {
+        self.in_action.state().is_finalized()
+    }
+
+    /// Returns the entry that servicing served last, if it has served one. The `Rotating` order goes on after it.
+    pub fn last_served(&self) -> Option<u16>
+        ensures { result ≡ last_served self.now.object }
+    {
+        self.in_action.last_served()
     }
 
     /// Returns the unit as the object was made with it.

@@ -1,12 +1,13 @@
 // SPDX-License-Identifier: MIT
 //! What an object was made with.
 
-ghost use Rattle.std.specs.Prelude.{◌≡◌};
+ghost use Rattle.std.specs.Prelude.{◌≡◌, IfOk};
 
 use crate::start::Start;
 use po_engine::Queueing;
 use po_queues::Order;
 use po_unit::{Shape, Unit};
+use std::alloc::AllocError;
 use std::marker::Model;
 
 /// What an object was made with. Nothing changes it.
@@ -51,6 +52,20 @@ impl<U: Unit> Setup<U> {
             order,
             start,
         }
+    }
+
+    /// Makes an equal setup. Fails only if memory runs out.
+    pub(crate) fn copy(&self) -> Result<Setup<U>, AllocError>
+        ensures { IfOk result (λ copy. copy ≡ self.now) }
+    {
+        let shape = self.shape.copy()?;
+        let opening = self.opening.copy()?;
+        Ok(Setup {
+            opening,
+            shape,
+            order: self.order,
+            start: self.start,
+        })
     }
 
     /// Returns the data.

@@ -28,6 +28,15 @@ impl<U: Unit> Unrecorded<U> {
             events: Trace::new(),
         }
     }
+
+    /// Makes an equal record.
+    pub(crate) fn copy(&self) -> Unrecorded<U>
+        ensures { result.events.items ≡ self.now.events.items }
+    {
+        Unrecorded {
+            events: self.events.copy(),
+        }
+    }
 }
 
 impl<U: Unit> Record<U> for Unrecorded<U> {

@@ -157,14 +157,14 @@ module _ {V : Type 0} where
     for_all = capacity;
   }
 
-  -- More room changes nothing of what is kept.
-  pub with_more_room : {B : Type 0} (table : CallTable V) (queues : EntryQueuesView) (keys : List ℕ) (ended before : List (Ended V)) (now wider : Vec (Ended V) B) (first next : ℕ) (serving : Option ℕ)
-      (most more : ℕ) (fixed : Bool) (capacity reserved : ℕ) → fixed ≡ false → most ≤ more → more ≤ capacity → queues.reserved ≤ reserved
-      → AreReserved false (record table.calls { capacity = capacity }) reserved more → wider.items ≡ now.items → vec_len wider ≡ vec_len now
+  -- As much room or more changes nothing of what is kept.
+  pub with_room : {B : Type 0} (table : CallTable V) (queues : EntryQueuesView) (keys : List ℕ) (ended before : List (Ended V)) (now wider : Vec (Ended V) B) (first next : ℕ) (serving : Option ℕ)
+      (most more : ℕ) (fixed : Bool) (capacity reserved : ℕ) → most ≤ more → more ≤ capacity → queues.reserved ≤ reserved
+      → AreReserved fixed (record table.calls { capacity = capacity }) reserved more → wider.items ≡ now.items → vec_len wider ≡ vec_len now
       → vec_capacity now ≤ vec_capacity wider → more ≤ vec_capacity wider
       → KeepsCalls table queues keys ended before now first next serving most fixed
       → KeepsCalls (record table { calls = record table.calls { capacity = capacity } }) (record queues { reserved = reserved }) keys ended before wider first next serving more fixed
-  with_more_room table queues keys ended before now wider first next serving most more fixed capacity reserved not_fixed le room grows all items len now_grows for_all i = record {
+  with_room table queues keys ended before now wider first next serving most more fixed capacity reserved le room grows all items len now_grows for_all i = record {
     queued = widened (call_at table.calls) (key_of first keys) (key_of first keys) queues reserved serving grows (λ n k h. h) i.queued;
     kept = record { indexed = i.kept.indexed; ends = i.kept.ends };
     last = i.last;
@@ -174,10 +174,26 @@ module _ {V : Type 0} where
     shown = i.shown ∙ ap (λ l. before ++ l) (sym items);
     few = omega (arith, i.few, le);
     room = room;
-    reserved = subst (λ b. AreReserved b (record table.calls { capacity = capacity }) reserved more) (sym not_fixed) all;
+    reserved = all;
     for_ended = omega (arith, i.for_ended, len, now_grows);
     for_all = for_all;
   }
+
+  -- More room changes nothing of what is kept.
+  pub with_more_room : {B : Type 0} (table : CallTable V) (queues : EntryQueuesView) (keys : List ℕ) (ended before : List (Ended V)) (now wider : Vec (Ended V) B) (first next : ℕ) (serving : Option ℕ)
+      (most more : ℕ) (fixed : Bool) (capacity reserved : ℕ) → fixed ≡ false → most ≤ more → more ≤ capacity → queues.reserved ≤ reserved
+      → AreReserved false (record table.calls { capacity = capacity }) reserved more → wider.items ≡ now.items → vec_len wider ≡ vec_len now
+      → vec_capacity now ≤ vec_capacity wider → more ≤ vec_capacity wider
+      → KeepsCalls table queues keys ended before now first next serving most fixed
+      → KeepsCalls (record table { calls = record table.calls { capacity = capacity } }) (record queues { reserved = reserved }) keys ended before wider first next serving more fixed
+  with_more_room table queues keys ended before now wider first next serving most more fixed capacity reserved not_fixed le room grows all items len now_grows for_all i =
+      with_room table queues keys ended before now wider first next serving most more fixed capacity reserved le room grows
+      (subst (λ b. AreReserved b (record table.calls { capacity = capacity }) reserved more) (sym not_fixed) all) items len now_grows for_all i
+
+  -- If all keys that the table may give are reserved, each can be queued.
+  pub reserved_below : (fixed : Bool) (calls : Slab (Kept V)) (reserved most : ℕ) → calls.capacity ≤ reserved → AreReserved fixed calls reserved most
+  reserved_below true calls reserved most h = h
+  reserved_below false calls reserved most h = λ lt. h
 
   -- If there is no room for a further call, a larger table and more reserved keys make none.
   pub none_reserved : (calls : Slab (Kept V)) (fixed : Bool) (capacity reserved more most : ℕ) → fixed ≡ false → most ≤ slab_len calls → AreReserved fixed calls reserved most

@@ -5,6 +5,7 @@ pub mod CallPlaces
 pub mod CallReads
 pub mod CallSteps
 pub mod CallWalks
+pub mod Copies
 pub mod Held
 pub mod KeptSteps
 pub mod Lists

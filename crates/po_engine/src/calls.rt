@@ -1,7 +1,7 @@
 // SPDX-License-Identifier: MIT
 //! The calls of an object: those that wait, on their queues, and those that have just ended.
 
-ghost use Rattle.std.specs.Prelude.{◌≡◌, ◌<◌, ◌≤◌, ◌+◌, [], ℕ, map, length, Some, None, true, false, IfOk, IsOk, OnOk, OnErr, find};
+ghost use Rattle.std.specs.Prelude.{◌≡◌, ◌<◌, ◌≤◌, ◌+◌, [], ℕ, map, length, Some, None, true, false, IfOk, IsOk, OnOk, OnErr, find, vec_len, vec_capacity};
 ghost use Rattle.slab.specs.Slab.{slab_len};
 ghost use Rattle.po_engine.specs.WaitingCalls.{has_number};
 ghost use Rattle.po_engine.specs.Tickets.{number_at, uncollected};
@@ -108,6 +108,17 @@ fn room_left<V: Copy>(most: usize, table: &Table<V>, queues: &EntryQueues) -> us
     }
 }
 
+/// Makes a list of the same calls, with room for as many.
+fn copied<V: Copy>(ended: &Vec<Ended<V>>) -> Result<Vec<Ended<V>>, AllocError>
+    ensures same { IfOk result (λ copy. copy.items ≡ ended.now.items) }
+    ensures len { IfOk result (λ copy. vec_len copy ≡ vec_len ended.now) }
+    ensures room { IfOk result (λ copy. vec_capacity ended.now ≤ vec_capacity copy) }
+{
+    let mut copy = Vec::with_capacity(*ended.allocator(), ended.capacity())?;
+    copy.extend_from_slice(ended.as_slice())?;
+    Ok(copy)
+}
+
 impl<V: Copy> Calls<V> {
     /// Makes empty queues for `total` entries, at clock 0. The first call will have the number `first`. There is room for no
     /// call yet.
@@ -181,6 +192,28 @@ impl<V: Copy> Calls<V> {
             serving: None,
             most,
             is_fixed: true,
+        })
+    }
+
+    /// Makes equal calls, with memory for as many. Fails only if memory runs out.
+    pub fn copy(&self) -> Result<Calls<V>, AllocError>
+        ensures { IfOk result (λ copy. copy ≡ self.now) }
+    {
+        let table = self.table.copy(self.most)?;
+        let mut queues = self.queues.copy()?;
+        reserve_below(&mut queues, table.capacity())?;
+        Ok(Calls {
+            table,
+            queues,
+            keys: self.keys.copy(),
+            ended: self.ended.copy(),
+            before: self.before.copy(),
+            ended_now: copied(&self.ended_now)?,
+            first: self.first,
+            next: self.next,
+            serving: self.serving,
+            most: self.most,
+            is_fixed: self.is_fixed,
         })
     }
 

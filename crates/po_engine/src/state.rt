@@ -150,6 +150,20 @@ impl<U: Unit + Drop> State<U> {
 }
 
 impl<U: Unit> State<U> {
+    /// Makes an equal state, with memory for as many calls. Fails only if memory runs out.
+    pub fn copy(&self) -> Result<State<U>, AllocError>
+        ensures { IfOk result (λ copy. copy ≡ self.now) }
+    {
+        let calls = self.calls.copy()?;
+        let unit = self.unit.copy()?;
+        Ok(State {
+            unit,
+            calls,
+            finalized: self.finalized,
+            owed: self.owed,
+        })
+    }
+
     /// Makes room for one more call if there is none.
     pub fn reserve(&mut self) -> Result<(), AllocError>
         requires { self.old.is_fixed ≡ false }

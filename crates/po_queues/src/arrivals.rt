@@ -2,10 +2,11 @@
 //! Keys in order of arrival.
 
 ghost use Rattle.std.specs.Prelude.{◌≡◌, ◌<◌, ◌≤◌, ◌+◌, ◌*◌, ◌++◌, [], ◌∷◌, length};
-ghost use Rattle.std.specs.Prelude.{max, true, false, IsOk, OnOk, OnErr};
+ghost use Rattle.std.specs.Prelude.{max, true, false, IfOk, IsOk, OnOk, OnErr};
 ghost use Rattle.po_queues.specs.QueuedKeys.{occurs, first_key, key_after, without};
 
 use crate::chain::Chain;
+use crate::copies::copied;
 use crate::neighbours::{ALONE, Neighbours};
 use crate::room::grown;
 use std::alloc::{AllocError, Global};
@@ -13,7 +14,7 @@ use std::marker::Model;
 
 /// Keys in order of arrival, each with its neighbours.
 ///
-/// Except for `new` and `reserve`, methods take no memory, and their time doesn't depend on how many keys there are.
+/// Except for `new`, `copy` and `reserve`, methods take no memory, and their time doesn't depend on how many keys there are.
 #[derive(Debug, Drop)]
 pub(crate) struct Arrivals {
     chain: Chain,
@@ -46,6 +47,19 @@ impl Arrivals {
                 last: None,
             },
         }
+    }
+
+    /// Makes an equal order, with as many keys reserved.
+    pub(crate) fn copy(&self) -> Result<Arrivals, AllocError>
+        ensures { IfOk result (λ copy. copy ≡ self.now) }
+    {
+        let neighbours = copied(&self.chain.neighbours)?;
+        let chain = Chain {
+            neighbours,
+            first: self.chain.first,
+            last: self.chain.last,
+        };
+        Ok(Arrivals { chain })
     }
 
     /// Reserves the key and all keys below it, which stay reserved.

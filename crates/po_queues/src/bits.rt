@@ -6,6 +6,7 @@ ghost use Rattle.std.specs.Prelude.{IfSome, IsNone, nat_lt};
 ghost use Rattle.std.specs.Int.{bit_at};
 ghost use Rattle.po_queues.specs.Busy.{bit_of, bit_when, IsNextBit};
 
+use crate::copies::copied;
 use std::alloc::{AllocError, Global};
 
 /// How many bits one word has.
@@ -23,6 +24,14 @@ impl Bits {
         ensures { IfOk result (λ b. b.words.items ≡ replicate (last / 64 + 1) 0) }
     {
         let words = vec![in alloc; 0; usize::from(last / WORD) + 1]?;
+        Ok(Bits { words })
+    }
+
+    /// Makes the same bits again.
+    pub(crate) fn copy(&self) -> Result<Bits, AllocError>
+        ensures { IfOk result (λ copy. copy.words.items ≡ self.now.words.items) }
+    {
+        let words = copied(&self.words)?;
         Ok(Bits { words })
     }
 

@@ -41,6 +41,17 @@ fn high_words(alloc: Global, total: u16) -> Result<Option<BusyWords>, AllocError
     Ok(Some(words))
 }
 
+/// Makes the same words again, if there are any.
+fn copied_words(high: &Option<BusyWords>) -> Result<Option<BusyWords>, AllocError>
+    ensures { IfOk result (λ copy. copy ≡ high.now) }
+{
+    let Some(words) = high else {
+        return Ok(None);
+    };
+    let copy = words.copy()?;
+    Ok(Some(copy))
+}
+
 /// Returns the first set bit of the word from this one on.
 fn next_bit(word: u64, from: u16) -> Option<u16>
     requires { from < 64 }
@@ -73,6 +84,17 @@ impl BusyEntries {
     {
         let high = high_words(alloc, total)?;
         Ok(BusyEntries { low: 0, high })
+    }
+
+    /// Makes the same bits again.
+    pub(crate) fn copy(&self) -> Result<BusyEntries, AllocError>
+        ensures { IfOk result (λ copy. copy ≡ self.now) }
+    {
+        let high = copied_words(&self.high)?;
+        Ok(BusyEntries {
+            low: self.low,
+            high,
+        })
     }
 
     /// Notes whether the entry has a queued key.

@@ -43,6 +43,16 @@ impl BusyWords {
         })
     }
 
+    /// Makes the same bits again.
+    pub(crate) fn copy(&self) -> Result<BusyWords, AllocError>
+        ensures { IfOk result (λ copy. copy ≡ self.now) }
+    {
+        Ok(BusyWords {
+            entries: self.entries.copy()?,
+            words: self.words.copy()?,
+        })
+    }
+
     /// Notes whether the entry has a queued key.
     pub(crate) fn mark(&mut self, entry: u16, busy: bool)
         requires { entry < 64 * length self.old }

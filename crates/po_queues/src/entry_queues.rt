@@ -16,7 +16,7 @@ use std::marker::Model;
 /// The entry queues of a protected object (9.5.3, FIFO_Queuing of D.4). Keys stand for calls. They are kept by entry, in order
 /// of arrival over all entries, and by the times at which their calls expire, if they do (9.7.2).
 ///
-/// Except for `new` and `reserve`, no method takes memory.
+/// Except for `new`, `copy` and `reserve`, no method takes memory.
 #[derive(Debug, Drop)]
 pub struct EntryQueues {
     /// The queue of each entry.
@@ -55,6 +55,18 @@ impl EntryQueues {
             arrivals: Arrivals::new(alloc),
             expirations: Expirations::new(alloc),
             reserved: 0,
+        })
+    }
+
+    /// Makes equal queues, with as many keys reserved. Fails only if memory runs out.
+    pub fn copy(&self) -> Result<EntryQueues, AllocError>
+        ensures { IfOk result (λ copy. copy ≡ self.now) }
+    {
+        Ok(EntryQueues {
+            by_entry: self.by_entry.copy()?,
+            arrivals: self.arrivals.copy()?,
+            expirations: self.expirations.copy()?,
+            reserved: self.reserved,
         })
     }
 

@@ -6,6 +6,7 @@ ghost use Rattle.std.specs.Prelude.{false, is_some, None, Some, option_map, IfOk
 ghost use Rattle.po_queues.specs.Arrived.{has_come};
 ghost use Rattle.po_queues.specs.Expiring.{IsFirstDue, call_of, expiration_of};
 
+use crate::copies::copied;
 use crate::expiration::Expiration;
 use crate::minima::Minima;
 use crate::room::grown;
@@ -14,9 +15,9 @@ use std::marker::Model;
 
 /// The waiting calls that may be cancelled when their time comes, and the clock (9.7.2).
 ///
-/// A key stands for a call. Times and the clock count the same unit, from the same start. Except for `new` and `reserve`, no
-/// method takes memory. The time that each takes grows with the logarithm of how many keys are reserved. That of `rise` also
-/// grows with how many calls' times come.
+/// A key stands for a call. Times and the clock count the same unit, from the same start. Except for `new`, `copy` and
+/// `reserve`, no method takes memory. The time that each takes grows with the logarithm of how many keys are reserved. That of
+/// `rise` also grows with how many calls' times come, that of `copy` with how many keys are reserved.
 #[derive(Debug, Drop)]
 pub struct Expirations {
     // By key: how its call expires, if it does.
@@ -50,6 +51,18 @@ impl Expirations {
             due: Minima::new(alloc),
             clock: 0,
         }
+    }
+
+    /// Makes equal expirations, with as many keys reserved. Fails only if memory runs out.
+    pub fn copy(&self) -> Result<Expirations, AllocError>
+        ensures { IfOk result (λ copy. copy ≡ self.now) }
+    {
+        Ok(Expirations {
+            calls: copied(&self.calls)?,
+            later: self.later.copy()?,
+            due: self.due.copy()?,
+            clock: self.clock,
+        })
     }
 
     /// Reserves the key and all keys below it, which stay reserved.

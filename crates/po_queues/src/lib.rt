@@ -4,7 +4,7 @@
 //! A key stands for a call. `EntryQueues` keeps the keys by entry and in order of arrival (9.5.3, D.4), and by the times at
 //! which their calls expire (9.7.2). It puts together `Queues`, a linked queue for each entry, and `Expirations`, which finds
 //! the calls whose time has come. `examine` evaluates barriers in a service `Order` and returns a `Selection`: which entry is
-//! serviced next. Except for `new` and `reserve`, nothing here takes memory.
+//! serviced next. Except for `new`, `copy` and `reserve`, nothing here takes memory.
 //!
 //! Begin with `entry_queues.rt` and `specs/Arrived.antt`, which says what contracts see of it; then `examination.rt` and
 //! `specs/Turns.antt`.
@@ -15,6 +15,7 @@ mod bits;
 mod busy;
 mod busy_words;
 mod chain;
+mod copies;
 mod entry_queues;
 mod examination;
 mod expiration;

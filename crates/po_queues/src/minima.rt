@@ -5,13 +5,14 @@ ghost use Rattle.std.specs.Prelude.{◌≡◌, ◌≢◌, ◌<◌, ◌≤◌, �
 ghost use Rattle.std.specs.Prelude.{None, slice_set, IfOk, IfSome, IsNone, OnOk, OnErr};
 ghost use Rattle.po_queues.specs.Least.{number_of, lesser, IsLeastAt, IsMinimum, KeepsMinima};
 
+use crate::copies::copied;
 use std::alloc::{AllocError, Global};
 use std::marker::Model;
 
 /// A number, or none, for each key: a tournament that the least number wins.
 ///
 /// A change takes time that grows with the logarithm of how many keys there are, and so does finding the key of the least
-/// number. Whether that number is at most some bound is known at once. Except for `grow`, no method takes memory.
+/// number. Whether that number is at most some bound is known at once. Except for `grow` and `copy`, no method takes memory.
 #[derive(Debug, Drop)]
 pub(crate) struct Minima {
     // The leaves, by key, and after them the nodes above. Node `leaves + m` is the lesser of nodes `2 * m` and `2 * m + 1`, so
@@ -40,6 +41,17 @@ impl Minima {
             nodes: Vec::new(alloc),
             leaves: 0,
         }
+    }
+
+    /// Makes an equal row.
+    pub(crate) fn copy(&self) -> Result<Minima, AllocError>
+        ensures { IfOk result (λ copy. copy ≡ self.now) }
+    {
+        let nodes = copied(&self.nodes)?;
+        Ok(Minima {
+            nodes,
+            leaves: self.leaves,
+        })
     }
 
     /// Makes room for `keys` keys, if there are fewer. The new ones have no number.

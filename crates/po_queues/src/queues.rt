@@ -12,6 +12,7 @@ ghost use Rattle.po_queues.specs.Busy.{IsNextBusy};
 ghost use Rattle.po_queues.specs.Links.{link_of};
 
 use crate::busy::BusyEntries;
+use crate::copies::copied;
 use crate::link::Link;
 use crate::room::grown;
 use crate::writes::{replace_if, set_after, set_before, set_first};
@@ -20,8 +21,8 @@ use std::marker::Model;
 
 /// A queue of keys for each entry, in order of arrival (9.5.3, FIFO_Queuing of D.4).
 ///
-/// A key stands for a call, and is queued on at most one entry. Except for `new` and `reserve`, methods take no memory, and
-/// their time doesn't depend on how many keys are queued.
+/// A key stands for a call, and is queued on at most one entry. Except for `new`, `copy` and `reserve`, methods take no memory,
+/// and their time doesn't depend on how many keys are queued.
 #[derive(Debug, Drop)]
 pub struct Queues {
     // By key: its link, if it is queued.
@@ -65,6 +66,20 @@ impl Queues {
             counts: vec![in alloc; 0; entries]?,
             busy: BusyEntries::new(alloc, total)?,
             queued: 0,
+        })
+    }
+
+    /// Makes equal queues, with as many keys reserved. Fails only if memory runs out.
+    pub fn copy(&self) -> Result<Queues, AllocError>
+        ensures { IfOk result (λ copy. copy ≡ self.now) }
+    {
+        Ok(Queues {
+            links: copied(&self.links)?,
+            firsts: copied(&self.firsts)?,
+            lasts: copied(&self.lasts)?,
+            counts: copied(&self.counts)?,
+            busy: self.busy.copy()?,
+            queued: self.queued,
         })
     }
 

@@ -57,6 +57,17 @@ impl Shape {
         })
     }
 
+    /// Makes an equal shape. Fails only if memory runs out.
+    pub fn copy(&self) -> Result<Shape, AllocError>
+        ensures { IfOk result (λ copy. copy ≡ self.now) }
+    {
+        Ok(Shape {
+            decls: SmallVec::from_slice(*self.decls.allocator(), self.decls.as_slice())?,
+            firsts: SmallVec::from_slice(*self.firsts.allocator(), self.firsts.as_slice())?,
+            total: self.total,
+        })
+    }
+
     /// Returns the flat number of the named entry, or the first reason why none is named (9.5.2). Takes constant time.
     pub fn flat(&self, reference: EntryRef) -> Result<u16, IndexError>
         ensures exact { result ≡ flat_number self.now reference }

@@ -1,9 +1,9 @@
 // SPDX-License-Identifier: MIT
 //! Reads an Ada text, and tells its faults, or those of a script on its object.
 
-use crate::script::{answer_script, open};
-use crate::status::print_fault;
+use crate::script::answer_script;
 use po_ada_check::Verdict;
+use po_ada_command::{open, print_fault};
 use po_ada_script::{RunFault, fault_at};
 use po_ada_session::{Check, hints_on};
 use po_command_line::{FINDINGS, GOOD};

@@ -7,7 +7,6 @@ mod asked;
 mod check;
 mod run;
 mod script;
-mod status;
 
 use asked::Asked;
 use po_command_line::CommandError;

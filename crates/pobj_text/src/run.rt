@@ -1,8 +1,8 @@
 // SPDX-License-Identifier: MIT
 //! Carries out a script from standard input on a protected object that is an Ada text.
 
-use crate::script::{answer_script, open};
-use crate::status::print_fault;
+use crate::script::answer_script;
+use po_ada_command::{open, print_fault};
 use po_ada_script::RunFault;
 use po_ada_session::{Run, TextFile};
 use po_command_line::GOOD;

@@ -1,22 +1,13 @@
 // SPDX-License-Identifier: MIT
 //! Has a session answer the script on standard input.
 
+use po_ada_command::open;
 use po_ada_script::{RunFault, answer_lines};
-use po_ada_session::{Session, TextFile};
+use po_ada_session::Session;
 use po_script::cutter::Cutter;
 use po_streams::{OverStd, Sink, Source};
-use std::fs;
-use std::io::{ErrorKind, Input, Write};
+use std::io::{Input, Write};
 use std::rt::Files;
-
-/// Reads the file of this name.
-pub(crate) fn open<R: Files + AllocGlobal>(rt: &R, name: String) -> Result<TextFile, RunFault> {
-    match fs::read(rt, name.as_str()) {
-        Ok(bytes) => Ok(TextFile { name, bytes }),
-        Err(error) if error.kind() == ErrorKind::OutOfMemory => Err(RunFault::OutOfMemory),
-        Err(_) => Err(RunFault::Unread(name)),
-    }
-}
 
 /// Answers the script that the reader gives. If the script names a file, reads that, and goes on.
 fn answer_all<R: Files + AllocGlobal, S: Session, I: Source, W: Sink>(

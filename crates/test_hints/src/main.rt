@@ -5,14 +5,12 @@
 
 use anyhow::{Result, bail};
 use po_ada_lint::hints;
+use po_ada_samples::{Sample, samples};
 use po_ada_text::parse;
 use po_ada_tree::tree::{Item, Name};
 use po_ada_tree::{Fault, Faults, Stop, Text, report};
 use std::alloc::Global;
 use std::io::{Input, Print, Read};
-
-/// What a line begins with that names the next text.
-const MARK: &[u8] = b"-- text ";
 
 /// Writes hints, or what is wrong with a text.
 fn write_faults(
@@ -59,44 +57,17 @@ fn write_text(rt: &(impl Print + AllocGlobal), name: &str, bytes: &[u8]) -> Resu
     }
 }
 
-/// The name on a line that begins a text; none on another line.
-fn named(alloc: Global, line: &[u8]) -> Result<Option<String>> {
-    let Some(rest) = line.strip_prefix(MARK) else {
-        return Ok(None);
-    };
-    let mut name = String::new(alloc);
-    for byte in rest {
-        if byte.is_ascii_graphic() {
-            name.push(char::from(*byte))?;
-        }
-    }
-    Ok(Some(name))
-}
-
 /// Writes the hints on each text.
-fn write_texts(rt: &(impl Print + AllocGlobal), bytes: &[u8]) -> Result<()> {
-    let mut name = String::new(rt.alloc());
-    let mut text = Vec::new(rt.alloc());
-    for line in bytes.split(|byte| *byte == b'\n') {
-        match named(rt.alloc(), line)? {
-            Some(next) => {
-                if !name.is_empty() {
-                    write_text(rt, name.as_str(), text.as_slice())?;
-                }
-                name = next;
-                text = Vec::new(rt.alloc());
-            }
-            None => {
-                text.extend_from_slice(line)?;
-                text.push(b'\n')?;
-            }
-        }
+fn write_texts(rt: &(impl Print + AllocGlobal), list: &[Sample]) -> Result<()> {
+    for sample in list {
+        write_text(rt, sample.name.as_str(), sample.bytes.as_slice())?;
     }
-    write_text(rt, name.as_str(), text.as_slice())
+    Ok(())
 }
 
 fn main(rt: HostRuntime) -> Result<()> {
     let mut bytes = Vec::new(rt.alloc());
     rt.reader().read_to_end(&mut bytes)?;
-    write_texts(&rt, bytes.as_slice())
+    let list = samples(rt.alloc(), bytes.as_slice())?;
+    write_texts(&rt, list.as_slice())
 }

@@ -237,8 +237,13 @@ impl<'a> Printer<'a> {
         self.put(")")
     }
 
-    /// Writes associations with commas between them (4.3, 6.4).
+    /// Writes associations with commas between them (4.3, 6.4). Only if there is one, without a name, its value can be a conditional
+    /// expression without parentheses of its own (4.5.7).
     fn associations(&mut self, list: &'a Vec<Association>) -> Result<(), AllocError> {
+        let least = match list.as_slice() {
+            [only] if only.choices.is_empty() => CONDITIONAL,
+            _ => LOGICAL,
+        };
         let mut before = "";
         for association in list.iter() {
             self.put(before)?;
@@ -246,7 +251,7 @@ impl<'a> Printer<'a> {
                 self.choices(&association.choices, LOGICAL)?;
                 self.put(" => ")?;
             }
-            self.expression(&association.value, CONDITIONAL)?;
+            self.expression(&association.value, least)?;
             before = ", ";
         }
         Ok(())

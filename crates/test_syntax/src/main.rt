@@ -16,25 +16,14 @@ mod reading;
 mod statements;
 mod whole;
 
-use crate::mutation::{Lot, mutant};
+use crate::mutation::mutant;
 use crate::outcome::{Counts, Outcome};
 use crate::reading::{read_and_written, round_trip};
 use crate::whole::whole_way;
 use anyhow::Result;
+use po_ada_samples::{Lot, Sample, argument, samples};
 use std::alloc::Global;
-use std::env;
 use std::io::{Input, Print, Read};
-use std::rt::Env;
-
-/// What a line begins with that names the next text.
-const MARK: &[u8] = b"-- text ";
-
-/// A text and its name.
-#[derive(Drop)]
-struct Sample {
-    name: String,
-    bytes: Vec<u8>,
-}
 
 /// How many texts had each outcome, as trees and as objects.
 #[derive(Clone, Copy)]
@@ -59,35 +48,6 @@ impl Tally {
     }
 }
 
-/// The name on a line that begins a text; none on another line.
-fn named(alloc: Global, line: &[u8]) -> Result<Option<String>> {
-    let Some(rest) = line.strip_prefix(MARK) else {
-        return Ok(None);
-    };
-    let mut name = String::new(alloc);
-    for byte in rest {
-        if byte.is_ascii_graphic() {
-            name.push(char::from(*byte))?;
-        }
-    }
-    Ok(Some(name))
-}
-
-/// The texts, each after a line with its name.
-fn samples(alloc: Global, bytes: &[u8]) -> Result<Vec<Sample>> {
-    let mut list = Vec::new(alloc);
-    for line in bytes.split(|byte| *byte == b'\n') {
-        if let Some(name) = named(alloc, line)? {
-            let bytes = Vec::new(alloc);
-            list.push(Sample { name, bytes })?;
-        } else if let Some(sample) = list.last_mut() {
-            sample.bytes.extend_from_slice(line)?;
-            sample.bytes.push(b'\n')?;
-        }
-    }
-    Ok(list)
-}
-
 /// Writes bytes, each as a character.
 fn write_bytes(rt: &impl Print, bytes: &[u8]) -> Result<()> {
     for byte in bytes {
@@ -107,19 +67,30 @@ fn write_wrong(rt: &(impl Print + AllocGlobal), bytes: &[u8]) -> Result<()> {
     Ok(())
 }
 
-/// Tests a text, and writes the outcome.
+/// How a text came out, as a tree and as an object.
+#[derive(Clone, Copy)]
+struct Outcomes {
+    tree: Outcome,
+    object: Outcome,
+}
+
+/// Tests a text, and counts how it came out.
+fn tested(alloc: Global, bytes: &[u8], tally: &mut Tally) -> Result<Outcomes> {
+    let tree = round_trip(alloc, bytes)?;
+    let object = whole_way(alloc, bytes)?;
+    tally.trees.add(tree);
+    tally.objects.add(object);
+    Ok(Outcomes { tree, object })
+}
+
+/// Tests a text, and writes how it came out.
 fn test_text(
     rt: &(impl Print + AllocGlobal),
     name: &str,
     bytes: &[u8],
     tally: &mut Tally,
 ) -> Result<()> {
-    let (tree, object) = (
-        round_trip(rt.alloc(), bytes)?,
-        whole_way(rt.alloc(), bytes)?,
-    );
-    tally.trees.add(tree);
-    tally.objects.add(object);
+    let Outcomes { tree, object } = tested(rt.alloc(), bytes, tally)?;
     tree.write(rt, name)?;
     if tree == object {
         return Ok(());
@@ -148,12 +119,7 @@ fn test_changed(
     bytes: &[u8],
     tally: &mut Tally,
 ) -> Result<()> {
-    let (tree, object) = (
-        round_trip(rt.alloc(), bytes)?,
-        whole_way(rt.alloc(), bytes)?,
-    );
-    tally.trees.add(tree);
-    tally.objects.add(object);
+    let Outcomes { tree, object } = tested(rt.alloc(), bytes, tally)?;
     if tree.is_right() && object.is_right() {
         return Ok(());
     }
@@ -178,14 +144,6 @@ fn test_all_changed(
         }
     }
     tally.write(rt, "changed texts")
-}
-
-/// The number that is this argument of the program; 1 if there is none.
-fn argument(rt: &(impl Env + AllocGlobal), place: usize) -> Result<usize> {
-    match env::args(rt)?.nth(place) {
-        Some(word) => Ok(word.as_str().parse::<usize>()?),
-        None => Ok(1),
-    }
 }
 
 fn main(rt: HostRuntime) -> Result<()> {

@@ -1,6 +1,7 @@
 // SPDX-License-Identifier: MIT
 //! Texts that were changed at places that are drawn by lot.
 
+use po_ada_samples::Lot;
 use po_ada_tree::reserved::RESERVED;
 use std::alloc::{AllocError, Global};
 
@@ -27,29 +28,6 @@ const NESTS: [(&str, &str); 20] = [
     ("case A is when others => ", " end case;"),
     ("for I in 1 .. 2 loop ", " end loop;"),
 ];
-
-/// Numbers drawn by lot, the same in each run (a linear congruential generator).
-#[derive(Clone, Copy)]
-pub struct Lot {
-    state: u64,
-}
-
-impl Lot {
-    /// The numbers that follow from this one.
-    pub fn new(seed: u64) -> Lot {
-        Lot { state: seed }
-    }
-
-    /// The next number, below this bound.
-    pub fn below(&mut self, bound: usize) -> usize {
-        self.state = self
-            .state
-            .wrapping_mul(6_364_136_223_846_793_005)
-            .wrapping_add(1_442_695_040_888_963_407);
-        let drawn = self.state >> 33;
-        (drawn as usize).checked_rem(bound).unwrap_or(0)
-    }
-}
 
 /// A part of a text: how many bytes come before it, and before its end.
 #[derive(Clone, Copy)]

@@ -1,5 +1,5 @@
 // SPDX-License-Identifier: MIT
-//! How a run or a check ends that doesn't end well.
+//! Tells faults.
 
 use po_ada_language::LineFault;
 use po_ada_script::RunFault;
@@ -7,7 +7,7 @@ use po_command_line::{FINDINGS, NAME, NO_MEANS};
 use po_language::RunError;
 use std::io::Eprint;
 
-/// Prints the fault of a line of the script.
+/// Prints the fault of a line.
 fn print_line<R: Eprint>(rt: &R, number: u64, fault: &LineFault) {
     let kind = fault.kind;
     let detail = fault.detail.as_str();
@@ -18,9 +18,9 @@ fn print_line<R: Eprint>(rt: &R, number: u64, fault: &LineFault) {
     }
 }
 
-/// Prints the fault of a run, and returns the status: 1 if the script or the Ada text has a fault; 4 if memory ran out, or a
-/// file, a read or a write failed.
-pub(crate) fn print_fault<R: Eprint>(rt: &R, fault: &RunFault) -> u8 {
+/// Prints a fault, and returns the status: 1 if a script, a scene or an Ada text has the fault; 4 if memory ran out, or a read or a
+/// write failed.
+pub fn print_fault<R: Eprint>(rt: &R, fault: &RunFault) -> u8 {
     let means = match fault {
         RunFault::Line { number, fault } => {
             print_line(rt, *number, fault);

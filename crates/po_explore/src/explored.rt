@@ -1,0 +1,151 @@
+// SPDX-License-Identifier: MIT
+//! What a search found.
+
+use crate::finding::{Finding, Found, Kind};
+use crate::stage::Stage;
+use po_scene::Scene;
+use std::alloc::{AllocError, Global};
+
+/// A situation as it was first reached: from which one of the layer before, and by whose command.
+#[derive(Clone, Copy, Debug)]
+pub(crate) struct Node {
+    pub(crate) parent: usize,
+    pub(crate) caller: u16,
+}
+
+/// A situation of the layer that a search looks at.
+#[derive(Clone, Copy)]
+pub(crate) struct Place {
+    /// How many commands lead to it.
+    pub(crate) layer: usize,
+    /// Its position among those of the layer.
+    pub(crate) node: usize,
+    /// How many orders lead to it.
+    pub(crate) orders: u128,
+}
+
+/// What a search found.
+#[derive(Drop)]
+pub struct Explored {
+    /// By layer: the situations to which as many commands lead.
+    pub(crate) layers: Vec<Vec<Node>>,
+    /// What was found, in the order in which the search met it: the fewest commands first.
+    pub(crate) findings: Vec<Finding>,
+    /// By line: in how many moves a call of its commands was completed.
+    pub(crate) completed: Vec<u64>,
+    /// How many states of objects there are.
+    pub states: usize,
+    /// How many situations there are.
+    pub situations: usize,
+    /// How many commands were carried out in them.
+    pub moves: u64,
+    /// How many orders there are; the greatest number if there are more.
+    pub orders: u128,
+    /// In how many situations no caller can make a command.
+    pub ends: u64,
+    /// In how many of these a call waits.
+    pub stuck: u64,
+    /// Whether the search looked at all situations.
+    pub is_complete: bool,
+}
+
+impl Explored {
+    /// Nothing has been looked at.
+    pub(crate) fn new(alloc: Global, scene: &Scene) -> Result<Explored, AllocError> {
+        Ok(Explored {
+            layers: Vec::new(alloc),
+            findings: Vec::new(alloc),
+            completed: Vec::from_elem(alloc, 0u64, scene.lines.len())?,
+            states: 0,
+            situations: 0,
+            moves: 0,
+            orders: 0,
+            ends: 0,
+            stuck: 0,
+            is_complete: false,
+        })
+    }
+
+    /// Notes what was found at this place, or after this caller's next command, unless the same was found before.
+    pub(crate) fn note(
+        &mut self,
+        found: Found,
+        place: Place,
+        caller: Option<u16>,
+    ) -> Result<(), AllocError> {
+        if self.has(found) {
+            return Ok(());
+        }
+        self.findings.push(Finding {
+            found,
+            layer: place.layer,
+            node: place.node,
+            caller,
+        })?;
+        Ok(())
+    }
+
+    /// Notes that a call of this line was completed.
+    pub(crate) fn note_completed(&mut self, line: usize) {
+        if let Some(count) = self.completed.get_mut(line) {
+            *count = count.saturating_add(1);
+        }
+    }
+
+    /// Notes a stage in which no caller can make a command.
+    pub(crate) fn note_end(
+        &mut self,
+        scene: &Scene,
+        stage: &Stage,
+        place: Place,
+    ) -> Result<(), AllocError> {
+        self.ends = self.ends.saturating_add(1);
+        self.orders = self.orders.saturating_add(place.orders);
+        if !stage.is_stuck(scene) {
+            return Ok(());
+        }
+        self.stuck = self.stuck.saturating_add(1);
+        let found = Found {
+            kind: Kind::Stuck,
+            line: None,
+        };
+        self.note(found, place, None)
+    }
+
+    /// Returns how many things were found.
+    pub fn count(&self) -> usize {
+        self.findings.len()
+    }
+
+    /// Returns whether this was found.
+    pub fn has(&self, found: Found) -> bool {
+        for finding in self.findings.iter() {
+            if finding.found == found {
+                return true;
+            }
+        }
+        false
+    }
+
+    /// Returns the callers whose commands lead to the finding, in order.
+    pub(crate) fn order_of(
+        &self,
+        alloc: Global,
+        finding: &Finding,
+    ) -> Result<Vec<u16>, AllocError> {
+        let mut order = Vec::new(alloc);
+        if let Some(caller) = finding.caller {
+            order.push(caller)?;
+        }
+        let mut at = finding.node;
+        // The situation before the first command is in a layer too.
+        for nodes in self.layers.iter().skip(1).take(finding.layer).rev() {
+            if let Some(node) = nodes.get(at) {
+                order.push(node.caller)?;
+                at = node.parent;
+            }
+        }
+        order.reverse();
+        Ok(order)
+    }
+}

@@ -1,0 +1,35 @@
+// SPDX-License-Identifier: MIT
+//! What is found.
+
+/// What can be found in a scene.
+#[derive(Clone, Copy, Debug, PartialEq, Eq)]
+pub enum Kind {
+    /// No caller can make a command, and some wait.
+    Stuck,
+    /// A caller's call or operation ends by this exception.
+    Raised(u32),
+    /// A caller's call or operation ends by Program_Error: a barrier raised an exception (9.5.3), or the object is finalized (9.4).
+    ProgramError,
+    /// The function Invariant of this object, by their positions, is False, or raises an exception.
+    Invariant { object: u16, function: u16 },
+}
+
+/// What was found.
+#[derive(Clone, Copy, Debug, PartialEq, Eq)]
+pub struct Found {
+    pub kind: Kind,
+    /// The line of the command that ends so, for an exception and Program_Error.
+    pub line: Option<usize>,
+}
+
+/// Where something was found first: in a situation of a layer, or, if there is a caller, in the one after this caller's next
+/// command.
+#[derive(Clone, Copy, Debug)]
+pub(crate) struct Finding {
+    pub(crate) found: Found,
+    /// How many commands lead to the situation.
+    pub(crate) layer: usize,
+    /// Its position among those of the layer.
+    pub(crate) node: usize,
+    pub(crate) caller: Option<u16>,
+}

@@ -1,0 +1,93 @@
+// SPDX-License-Identifier: MIT
+//! What a command brings about.
+
+ghost use Rattle.std.specs.Prelude.{IfSome, OnOk};
+ghost use Rattle.po_explore.specs.Scenes.{stage_of, Shows, AllShown, StageView};
+ghost use Rattle.po_scene.specs.declared.scene.Scene.{Scene};
+
+use crate::finding::{Found, Kind};
+use crate::stage::Stage;
+use po_ada_unit::Values;
+use po_core::{End, Refusal};
+use po_scene::Scene;
+use std::alloc::AllocError;
+
+/// What a command brings about for a caller.
+#[derive(Clone, Copy, Debug, PartialEq, Eq)]
+pub(crate) struct News {
+    /// The caller's position in the scene.
+    pub(crate) caller: u16,
+    pub(crate) event: Event,
+}
+
+/// What happened to a caller's command.
+#[derive(Clone, Copy, Debug, PartialEq, Eq)]
+pub(crate) enum Event {
+    /// Its call has ended.
+    Ended(End<Values>),
+    /// The procedure or the function has replied.
+    Replied(Result<Values, u32>),
+    /// The precondition of its call raises this exception.
+    Failed(u32),
+    /// It was refused.
+    Refused(Refusal),
+}
+
+impl Event {
+    /// Returns what this is, if it is to be told.
+    fn kind(&self) -> Option<Kind>
+        ensures { (scene : Scene) (stage : StageView) → IfSome result (λ kind. Shows scene stage kind) }
+    {
+        match self {
+            Event::Ended(End::Raised(exception))
+            | Event::Failed(exception)
+            | Event::Replied(Err(exception)) => Some(Kind::Raised(*exception)),
+            Event::Ended(End::ProgramError) | Event::Refused(_) => Some(Kind::ProgramError),
+            Event::Ended(_) | Event::Replied(Ok(_)) => None,
+        }
+    }
+
+    /// Returns whether a call was completed.
+    pub(crate) fn is_completed(&self) -> bool {
+        match self {
+            Event::Ended(End::Completed(_)) => true,
+            _ => false,
+        }
+    }
+}
+
+/// Adds what this tells that is wrong, after the command that brought it about.
+fn push_told(
+    scene: &Scene,
+    stage: &Stage,
+    told: &News,
+    list: &mut Vec<Found>,
+) -> Result<(), AllocError>
+    requires { AllShown scene.now (stage_of stage.now) list.old.items }
+    ensures { OnOk result (AllShown scene.now (stage_of stage.now) list.new.items) }
+{
+    match told.event.kind() {
+        Some(kind) => {
+            let line = stage.line_of(scene, told.caller);
+            list.push(Found { kind, line })?;
+            Ok(())
+        }
+        None => Ok(()),
+    }
+}
+
+/// Adds what the news tells that is wrong, after the command that brought it about.
+pub(crate) fn found_in(
+    scene: &Scene,
+    stage: &Stage,
+    news: &[News],
+    list: &mut Vec<Found>,
+) -> Result<(), AllocError>
+    requires { AllShown scene.now (stage_of stage.now) list.old.items }
+    ensures { OnOk result (AllShown scene.now (stage_of stage.now) list.new.items) }
+{
+    for told in news {
+        push_told(scene, stage, told, list)?;
+    }
+    Ok(())
+}

@@ -1,0 +1,244 @@
+// SPDX-License-Identifier: MIT
+//! Writes what was found.
+
+ghost use Rattle.std.specs.Prelude.{◌≡◌, IfOk, true};
+
+use crate::explored::Explored;
+use crate::finding::{Finding, Found, Kind};
+use crate::script::{line_at, push_script};
+use crate::stage::{Stage, caller_count};
+use crate::walk::{Walk, confirmed};
+use po_ada_language::{Operation, Stop};
+use po_ada_script::push_exception;
+use po_scene::{Action, Caller, Command, Scene};
+use std::alloc::{AllocError, Global};
+use std::fmt::Write;
+
+/// How a search ended.
+#[derive(Clone, Copy, Debug, PartialEq, Eq)]
+pub enum Verdict {
+    /// Something was found.
+    Found,
+    /// All situations were looked at, and nothing was found.
+    Clean,
+    /// Nothing was found, but not all situations were looked at.
+    CutOff,
+}
+
+/// What a search found, in words.
+#[derive(Drop)]
+pub struct Report {
+    /// Each finding with its script, and how much was looked at.
+    pub text: String,
+    pub verdict: Verdict,
+}
+
+/// Returns the command with this line, if it is an operation, and its object.
+fn object_at(scene: &Scene, line: usize) -> Option<u16> {
+    for caller in scene.callers.iter() {
+        for command in caller.commands.iter() {
+            if command.line == line
+                && let Action::Operate { object, .. } = command.action
+            {
+                return Some(object);
+            }
+        }
+    }
+    None
+}
+
+/// Adds the exception that an operation of the line raises, by its name in the text of the operation's object.
+fn push_raised(
+    text: &mut String,
+    scene: &Scene,
+    line: usize,
+    exception: u32,
+) -> Result<(), AllocError> {
+    match object_at(scene, line).and_then(|object| scene.objects.get(usize::from(object))) {
+        Some(object) => push_exception(text, &object.names, exception),
+        None => Ok(()),
+    }
+}
+
+/// Adds the name of an object, or `the object` if it has none.
+fn push_name(text: &mut String, scene: &Scene, object: u16) -> Result<(), AllocError> {
+    match scene.objects.get(usize::from(object)) {
+        Some(object) if !object.name.is_empty() => text.push_str(object.name.as_str()),
+        _ => text.push_str("the object"),
+    }
+}
+
+/// Adds what was found.
+fn push_kind(text: &mut String, scene: &Scene, found: Found) -> Result<(), AllocError> {
+    let number = found.line.unwrap_or(0);
+    let line = line_at(scene, number);
+    match found.kind {
+        Kind::Stuck => text.push_str("callers wait for ever"),
+        Kind::Raised(exception) => {
+            write!(text, "'{line}' raises ")?;
+            push_raised(text, scene, number, exception)
+        }
+        Kind::ProgramError => write!(text, "'{line}' ends by Program_Error"),
+        Kind::Invariant { object, .. } => {
+            text.push_str("Invariant of ")?;
+            push_name(text, scene, object)?;
+            text.push_str(" doesn't hold")
+        }
+    }
+}
+
+/// Adds who waits at the end, and for what.
+fn push_waiting(text: &mut String, scene: &Scene, stage: &Stage) -> Result<(), AllocError> {
+    for position in 0..caller_count(scene) {
+        if stage.waits(position)
+            && let Some(line) = stage.line_of(scene, position)
+            && let Some(caller) = scene.callers.get(usize::from(position))
+        {
+            let (name, line) = (caller.name.as_str(), line_at(scene, line));
+            write!(text, "    # {name} waits: {line}\n")?;
+        }
+    }
+    Ok(())
+}
+
+/// Adds a finding that was carried out anew, with its script.
+fn push_found(
+    alloc: Global,
+    text: &mut String,
+    scene: &Scene,
+    found: Found,
+    order: &[u16],
+    walk: &Walk,
+) -> Result<(), Stop> {
+    push_kind(text, scene, found)?;
+    match order.len() {
+        1 => text.push_str(", after 1 command:\n")?,
+        commands => write!(text, ", after {commands} commands:\n")?,
+    }
+    push_script(alloc, text, scene, order)?;
+    push_waiting(text, scene, &walk.stage)?;
+    Ok(())
+}
+
+/// Adds a finding with its script, if the script, carried out anew, leads to it. Returns whether it does.
+fn push_finding(
+    alloc: Global,
+    text: &mut String,
+    scene: &Scene,
+    explored: &Explored,
+    finding: &Finding,
+) -> Result<bool, Stop> {
+    let order = explored.order_of(alloc, finding)?;
+    match confirmed(alloc, scene, order.as_slice(), finding.found)? {
+        Some(walk) => {
+            push_found(alloc, text, scene, finding.found, order.as_slice(), &walk)?;
+            Ok(true)
+        }
+        None => Ok(false),
+    }
+}
+
+/// Returns whether the command is a call of an entry.
+fn is_call(command: &Command) -> bool {
+    match command.action {
+        Action::Operate {
+            operation: Operation::Call { .. },
+            ..
+        } => true,
+        _ => false,
+    }
+}
+
+/// Adds the calls of a caller that were completed in no order. Returns whether there are any.
+fn push_unserved_of(
+    text: &mut String,
+    scene: &Scene,
+    explored: &Explored,
+    caller: &Caller,
+) -> Result<bool, AllocError> {
+    let mut some = false;
+    for command in caller.commands.iter() {
+        if is_call(command) && explored.completed.get(command.line) == Some(&0) {
+            let (name, line) = (caller.name.as_str(), line_at(scene, command.line));
+            write!(text, "no order completes '{line}' of {name}\n")?;
+            some = true;
+        }
+    }
+    Ok(some)
+}
+
+/// Adds the calls that were completed in no order. Returns whether there are any.
+fn push_unserved(
+    text: &mut String,
+    scene: &Scene,
+    explored: &Explored,
+) -> Result<bool, AllocError> {
+    let mut some = false;
+    for caller in scene.callers.iter() {
+        if push_unserved_of(text, scene, explored, caller)? {
+            some = true;
+        }
+    }
+    Ok(some)
+}
+
+/// Adds all findings. Returns whether there are any.
+fn push_findings(
+    alloc: Global,
+    text: &mut String,
+    scene: &Scene,
+    explored: &Explored,
+) -> Result<bool, Stop> {
+    let mut some = false;
+    for finding in explored.findings.iter() {
+        if push_finding(alloc, text, scene, explored, finding)? {
+            some = true;
+        }
+    }
+    if explored.is_complete && push_unserved(text, scene, explored)? {
+        some = true;
+    }
+    Ok(some)
+}
+
+/// Adds how much was looked at.
+fn push_numbers(text: &mut String, explored: &Explored) -> Result<(), AllocError> {
+    let (situations, moves, states) = (explored.situations, explored.moves, explored.states);
+    write!(
+        text,
+        "{situations} situations, {moves} moves, {states} states of objects, "
+    )?;
+    let orders = explored.orders;
+    if explored.is_complete {
+        write!(text, "{orders} orders: complete\n")
+    } else {
+        text.push_str("not complete: --most says how many situations are looked at\n")
+    }
+}
+
+/// Returns how a search ended.
+fn verdict_of(is_complete: bool, found: bool) -> Verdict
+    ensures { result ≡ Verdict.Clean → is_complete ≡ true }
+{
+    if found {
+        Verdict::Found
+    } else if is_complete {
+        Verdict::Clean
+    } else {
+        Verdict::CutOff
+    }
+}
+
+/// Returns the report of a search: each finding with its script, and how much was looked at. A finding is told only if its script,
+/// carried out anew on new objects, leads to it.
+///
+/// Fails only if memory runs out.
+pub fn report_of(alloc: Global, scene: &Scene, explored: &Explored) -> Result<Report, Stop>
+    ensures { IfOk result (λ r. r.verdict ≡ Verdict.Clean → explored.now.is_complete ≡ true) }
+{
+    let mut text = String::new(alloc);
+    let found = push_findings(alloc, &mut text, scene, explored)?;
+    push_numbers(&mut text, explored)?;
+    let verdict = verdict_of(explored.is_complete, found);
+    Ok(Report { text, verdict })
+}

@@ -1,0 +1,133 @@
+// SPDX-License-Identifier: MIT
+//! What the words of the command line ask of this program.
+
+use clap::error::ErrorKind;
+use clap::{Arg, Command, Error};
+use po_command_line::{CommandError, EXPLORE, explore_command, pobj, words};
+use std::alloc::{AllocError, Global};
+use std::env::Env;
+
+/// The message for words that ask for nothing that this program does.
+const ELSEWHERE: &str = "pobj_explore carries out `explore SCENE`";
+
+/// The message for a limit that isn't one.
+const NO_LIMIT: &str = "the value of '--most' is a number of situations, from 1 on";
+
+/// A search ends when it has met more situations than these, if the words don't say how many.
+const SITUATIONS: usize = 1_000_000;
+
+/// The end of the help.
+const SCENES: &str = "\
+A scene has protected objects, each of an Ada text, and callers with the commands that each of them
+makes, one after the other:
+
+  object Left file \"fork.adb\"
+  object Right file \"fork.adb\"
+  caller Anna
+    call Left.Take
+    call Right.Take
+  caller Bert
+    call Right.Take
+    call Left.Take
+
+Each thing found is told with a script of the fewest commands that lead to it: callers that wait for
+ever, exceptions, a function Invariant that is False, calls that no order completes.
+
+The statuses: 0 if all orders were tried and nothing was found, 1 at a fault of the scene, 2 if the
+words are refused, 3 if something was found, 4 if memory runs out, or a read or a write fails, 7 if
+nothing was found, but not all orders were tried.
+
+The language is described in docs/EXPLORE.md.";
+
+/// What the words of the command line ask for.
+#[derive(Debug, Drop)]
+pub(crate) struct Asked {
+    /// The scene's file.
+    pub(crate) scene: String,
+    /// The file of the object that the scene doesn't name.
+    pub(crate) unit: Option<String>,
+    /// The search ends when it has met more situations than these.
+    pub(crate) situations: usize,
+}
+
+/// Makes the argument that names a file with an Ada text.
+fn unit<'a>(alloc: Global) -> Arg<'a> {
+    Arg::new(alloc, "unit").long("unit").value_name("FILE").help(
+        "The Ada text of the only object, if the scene has no line for it",
+    )
+}
+
+/// Makes the argument that limits the search.
+fn most<'a>(alloc: Global) -> Arg<'a> {
+    Arg::new(alloc, "most")
+        .long("most")
+        .value_name("SITUATIONS")
+        .help("Ends after this many situations; 1000000 if it is left out")
+}
+
+/// Makes the argument that names the scene.
+fn scene<'a>(alloc: Global) -> Arg<'a> {
+    Arg::new(alloc, "SCENE")
+        .required(true)
+        .help("The file of the scene")
+}
+
+/// Makes the command line.
+fn command<'a>(alloc: Global) -> Result<Command<'a>, AllocError> {
+    let explore = explore_command(alloc)
+        .after_help(SCENES)
+        .arg(scene(alloc))?
+        .arg(unit(alloc))?
+        .arg(most(alloc))?;
+    pobj(alloc).subcommand(explore)
+}
+
+/// Returns the refusal of words for this reason.
+fn refusal(alloc: Global, kind: ErrorKind, reason: &str) -> Result<Error, AllocError> {
+    command(alloc)?.error(kind, reason)
+}
+
+/// Returns how many situations the word asks for, if it is a number from 1 on.
+fn situations(word: Option<&str>) -> Option<usize> {
+    match word {
+        None => Some(SITUATIONS),
+        Some(word) => match word.parse::<usize>() {
+            Ok(0) | Err(_) => None,
+            Ok(most) => Some(most),
+        },
+    }
+}
+
+/// Returns a copy of the name, if there is one.
+fn owned(alloc: Global, name: Option<&str>) -> Result<Option<String>, AllocError> {
+    match name {
+        Some(name) => Ok(Some(String::from_str(alloc, name)?)),
+        None => Ok(None),
+    }
+}
+
+/// Returns what the words ask for. Fails if they ask for help, or are refused.
+pub(crate) fn parse<R: Env + AllocGlobal>(rt: &R) -> Result<Asked, CommandError> {
+    let alloc = rt.alloc();
+    let words = words(rt)?;
+    let matches = command(alloc)?.try_get_matches_from(words.as_slice())?;
+    let explore = matches.subcommand_matches(EXPLORE);
+    let scene = owned(alloc, explore.and_then(|matches| matches.get_str("SCENE")))?;
+    let unit = owned(alloc, explore.and_then(|matches| matches.get_str("unit")))?;
+    let most = situations(explore.and_then(|matches| matches.get_str("most")));
+    match (scene, most) {
+        (Some(scene), Some(situations)) => Ok(Asked {
+            scene,
+            unit,
+            situations,
+        }),
+        (Some(_), None) => {
+            let error = refusal(alloc, ErrorKind::InvalidValue, NO_LIMIT)?;
+            Err(CommandError::from(error))
+        }
+        (None, _) => {
+            let error = refusal(alloc, ErrorKind::InvalidSubcommand, ELSEWHERE)?;
+            Err(CommandError::from(error))
+        }
+    }
+}

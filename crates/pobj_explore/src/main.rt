@@ -1,0 +1,26 @@
+// SPDX-License-Identifier: MIT
+//! The program for `pobj explore SCENE`: it tries every order of the callers of a scene.
+#![tactic(auto)]
+
+mod asked;
+mod explored;
+mod scene;
+
+use po_command_line::CommandError;
+use std::env::Env;
+use std::io::{Eprint, Print};
+use std::process::ExitCode;
+use std::rt::Files;
+
+/// Does what the words of the command line ask for, and returns the status.
+fn start<R: Env + Print + Eprint + Files + AllocGlobal>(rt: &R) -> Result<u8, CommandError> {
+    Ok(explored::run(rt, asked::parse(rt)?))
+}
+
+fn main(rt: HostRuntime) -> ExitCode {
+    let status = match start(&rt) {
+        Ok(status) => status,
+        Err(fault) => fault.print(&rt),
+    };
+    ExitCode::from(status)
+}

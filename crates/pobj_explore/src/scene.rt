@@ -1,0 +1,51 @@
+// SPDX-License-Identifier: MIT
+//! Reads a scene, and the files that it names.
+
+use po_ada_command::open;
+use po_ada_script::RunFault;
+use po_scene::{MOST_OBJECTS, Scene, SceneFiles, read_scene};
+use std::rt::Files;
+
+/// Reads a file that the scene names.
+fn take<R: Files + AllocGlobal>(
+    rt: &R,
+    files: &mut SceneFiles,
+    name: String,
+) -> Result<(), RunFault> {
+    let file = open(rt, name)?;
+    match files.take(file) {
+        Ok(()) => Ok(()),
+        Err(_) => Err(RunFault::OutOfMemory),
+    }
+}
+
+/// Reads the scene of these bytes. If it names a file, reads that, and begins anew. A scene names at most as many files as it has
+/// objects.
+fn scene_of<R: Files + AllocGlobal>(
+    rt: &R,
+    files: &mut SceneFiles,
+    bytes: &[u8],
+) -> Result<Scene, RunFault> {
+    for _ in 0..MOST_OBJECTS {
+        match read_scene(rt.alloc(), files, bytes) {
+            Err(RunFault::Unread(name)) => take(rt, files, name)?,
+            ended => return ended,
+        }
+    }
+    read_scene(rt.alloc(), files, bytes)
+}
+
+/// Reads the scene of the file of this name. The other file, if there is one, has the object that the scene doesn't name.
+pub(crate) fn read<R: Files + AllocGlobal>(
+    rt: &R,
+    name: String,
+    unit: Option<String>,
+) -> Result<Scene, RunFault> {
+    let given = match unit {
+        Some(name) => Some(open(rt, name)?),
+        None => None,
+    };
+    let file = open(rt, name)?;
+    let mut files = SceneFiles::new(rt.alloc(), given);
+    scene_of(rt, &mut files, file.bytes.as_slice())
+}
