@@ -174,6 +174,18 @@ take_script() {
   [ -z "$text" ] || need_file "$text"
 }
 
+# Ends if a file that the words after `explore` name can't be read.
+need_scene() {
+  before=
+  for word; do
+    case "$before $word" in
+      "--most "* | *" -"*) ;;
+      *) need_file "$word" ;;
+    esac
+    before=$word
+  done
+}
+
 # Prints the name of the Ada text that the script's first command names, by `unit file "NAME"`.
 text_in() {
   [ ! -f "$1" ] || awk '

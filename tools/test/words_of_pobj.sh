@@ -99,6 +99,7 @@ texts_there() {
   answers_there 0 out "check --unit $text -" check --unit "$text" "$script"
   answers_there 0 out "check --unit $text" check --unit "$text"
   answers_there 4 err "pobj: $scratch/none can't be opened: No such file or directory" check --unit "$scratch/none"
+  answers_there 4 err "pobj: $scratch/none can't be opened: No such file or directory" explore --most 9 "$scratch/none"
 }
 
 # On a terminal a fault is shown with its line, by the built program and by a trial. If nobody reads along, standard error

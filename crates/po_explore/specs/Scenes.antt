@@ -1,6 +1,6 @@
 -- SPDX-License-Identifier: MIT
 -- What an order of the callers' commands does to the objects of a scene.
-use Rattle.std.specs.Prelude.{ℕ, suc, ◌≡◌, ◌<◌, List, [], ◌∷◌, map, length, replicate, All, Option, Some, None, Bool, true, false, ◌||◌, is_some, find, slice_get, slice_index, slice_set, if◌then◌else◌}
+use Rattle.std.specs.Prelude.{ℕ, suc, ◌≡◌, ◌<◌, List, [], ◌∷◌, map, length, replicate, All, Option, Some, None, Bool, true, false, ◌||◌, is_some, string_bytes, vec_len, find, slice_get, slice_index, slice_set, if◌then◌else◌}
 use Rattle.po_unit.specs.declared.decl.Decl.{Decl}
 use Rattle.po_engine.specs.WaitingCalls.{is_of}
 use Rattle.po_core.specs.View.{View, opening_view}
@@ -9,6 +9,7 @@ use Rattle.po_ada_unit.specs.declared.values.Values.{Values}
 use Rattle.po_ada_language.specs.declared.operation.Operation.{Operation}
 use Rattle.po_ada_language.specs.declared.operation.Operation.TheVariants.{Tick as TickOperation}
 use Rattle.po_ada_script.specs.Preconditions.{least}
+use Rattle.po_ada_names.specs.declared.names.Operation.{Operation as NamedOperation}
 use Rattle.po_scene.specs.declared.scene.Scene.{Scene}
 use Rattle.po_scene.specs.declared.scene.SceneObject.{SceneObject}
 use Rattle.po_scene.specs.declared.scene.Caller.{Caller}
@@ -17,7 +18,10 @@ use Rattle.po_scene.specs.declared.scene.Action.{Action}
 use Rattle.po_scene.specs.declared.scene.Action.TheVariants.{Operate, Abort, Tick}
 use Rattle.po_explore.specs.declared.finding.Found.{Found}
 use Rattle.po_explore.specs.declared.finding.Kind.{Kind}
-use Rattle.po_explore.specs.declared.finding.Kind.TheVariants.{Stuck, Raised, ProgramError, Invariant}
+use Rattle.po_explore.specs.declared.finding.Kind.TheVariants.{Stuck, Raised, ProgramError, Refused, Invariant}
+use Rattle.po_explore.specs.declared.invariants.TheConstants.{INVARIANT}
+use Rattle.po_explore.specs.declared.report.Verdict.{Verdict}
+use Rattle.po_explore.specs.declared.report.Verdict.TheVariants.{Found as FoundVerdict, Clean, CutOff}
 use Rattle.po_explore.specs.declared.stage.Stage.{Stage}
 use Rattle.po_explore.specs.Commands.{value_cells, no_values, after_operation, after_asking, after_abort, function_holds}
 
@@ -131,17 +135,31 @@ SomeWaits scene stage = (caller : ℕ) × (caller < length scene.callers.items) 
 abbrev pub IsStuck : Scene → StageView → Type 0
 IsStuck scene stage = IsOver scene stage × SomeWaits scene stage
 
--- The function of this object that is its invariant is False, or raises an exception.
-abbrev pub IsBroken : List ObjectView → ℕ → ℕ → Type 0
-IsBroken views object function =
-    (view : ObjectView) × (slice_get views object ≡ Some view) × (function_holds ada_meaning value_cells view function no_values ≡ false)
+-- The function is an invariant: its name is Invariant, and it has no parameters.
+abbrev pub IsInvariant : Option NamedOperation → Type 0
+IsInvariant None = ⊥
+IsInvariant (Some named) = (string_bytes named.name ≡ INVARIANT.now) × (vec_len named.parameters ≡ 0)
 
--- What is found is so. Of exceptions and of Program_Error nothing is said here.
+-- There are these names and this object, and the function with this number is its invariant, which is False or raises an exception.
+abbrev pub IsBrokenAt : Option SceneObject → Option ObjectView → ℕ → Type 0
+IsBrokenAt (Some named) (Some view) function =
+    IsInvariant (slice_get named.names.functions.items function)
+    × (function_holds ada_meaning value_cells view function no_values ≡ false)
+IsBrokenAt (Some named) None function = ⊥
+IsBrokenAt None view function = ⊥
+
+-- The object with this position has this function as its invariant, and that is False or raises an exception.
+abbrev pub IsBroken : Scene → List ObjectView → ℕ → ℕ → Type 0
+IsBroken scene views object function =
+    IsBrokenAt (slice_get scene.objects.items object) (slice_get views object) function
+
+-- What is found is so. Of exceptions, of Program_Error and of refusals nothing is said here.
 abbrev pub Shows : Scene → StageView → Kind → Type 0
 Shows scene stage Stuck = IsStuck scene stage
 Shows scene stage (Raised exception) = Unit
 Shows scene stage ProgramError = Unit
-Shows scene stage (Invariant object function) = IsBroken stage.views object function
+Shows scene stage (Refused refusal) = Unit
+Shows scene stage (Invariant object function) = IsBroken scene stage.views object function
 
 -- Each thing found is so.
 abbrev pub AllShown : Scene → StageView → List Found → Type 0
@@ -150,3 +168,9 @@ AllShown scene stage list = All (λ f. Shows scene stage f.kind) list
 -- From the scene's beginning the callers' commands in this order lead to what is found.
 abbrev pub LeadsTo : Scene → List ℕ → Kind → Type 0
 LeadsTo scene order kind = (first : StageView) × IsBeginning scene first × Shows scene (after_order scene first order) kind
+
+-- how a search ended: whether something was found, and else whether it says that it is complete
+abbrev pub verdict_by : Bool → Bool → Verdict
+verdict_by true is_complete = FoundVerdict
+verdict_by false true = Clean
+verdict_by false false = CutOff

@@ -1,6 +1,8 @@
 // SPDX-License-Identifier: MIT
 //! What is found.
 
+use po_core::Refusal;
+
 /// What can be found in a scene.
 #[derive(Clone, Copy, Debug, PartialEq, Eq)]
 pub enum Kind {
@@ -10,6 +12,8 @@ pub enum Kind {
     Raised(u32),
     /// A caller's call or operation ends by Program_Error: a barrier raised an exception (9.5.3), or the object is finalized (9.4).
     ProgramError,
+    /// A caller's call or operation is refused for another reason: no compiler would take the call, or its index is out of range.
+    Refused(Refusal),
     /// The function Invariant of this object, by their positions, is False, or raises an exception.
     Invariant { object: u16, function: u16 },
 }

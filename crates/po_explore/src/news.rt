@@ -42,7 +42,10 @@ impl Event {
             Event::Ended(End::Raised(exception))
             | Event::Failed(exception)
             | Event::Replied(Err(exception)) => Some(Kind::Raised(*exception)),
-            Event::Ended(End::ProgramError) | Event::Refused(_) => Some(Kind::ProgramError),
+            Event::Ended(End::ProgramError) | Event::Refused(Refusal::Finalized) => {
+                Some(Kind::ProgramError)
+            }
+            Event::Refused(refusal) => Some(Kind::Refused(*refusal)),
             Event::Ended(_) | Event::Replied(Ok(_)) => None,
         }
     }

@@ -2,6 +2,7 @@
 //! Writes what was found.
 
 ghost use Rattle.std.specs.Prelude.{◌≡◌, IfOk, true};
+ghost use Rattle.po_explore.specs.Scenes.{verdict_by};
 
 use crate::explored::Explored;
 use crate::finding::{Finding, Found, Kind};
@@ -79,6 +80,7 @@ fn push_kind(text: &mut String, scene: &Scene, found: Found) -> Result<(), Alloc
             push_raised(text, scene, number, exception)
         }
         Kind::ProgramError => write!(text, "'{line}' ends by Program_Error"),
+        Kind::Refused(refusal) => write!(text, "'{line}' is refused: {refusal}"),
         Kind::Invariant { object, .. } => {
             text.push_str("Invariant of ")?;
             push_name(text, scene, object)?;
@@ -218,7 +220,7 @@ fn push_numbers(text: &mut String, explored: &Explored) -> Result<(), AllocError
 
 /// Returns how a search ended.
 fn verdict_of(is_complete: bool, found: bool) -> Verdict
-    ensures { result ≡ Verdict.Clean → is_complete ≡ true }
+    ensures { result ≡ verdict_by found is_complete }
 {
     if found {
         Verdict::Found

@@ -41,6 +41,8 @@ impl Walk {
     }
 
     /// Has the caller with this position make its next command, if it can.
+    ///
+    /// Fails only if memory runs out. Nothing is said of the walk then: begin a new one.
     pub fn step(&mut self, scene: &Scene, caller: u16) -> Result<(), AllocError>
         ensures { OnOk result (stage_of self.new.stage ≡ after_command scene.now (stage_of self.old.stage) caller) }
     {
