@@ -21,7 +21,7 @@ WORDS = [
 
 # How a comment begins, by the ending of the file. A page is text throughout.
 COMMENTS = {
-    ".rt": r"//", ".c": r"//|/?\*", ".h": r"//|/?\*", ".antt": r"--", ".adb": r"--", ".ads": r"--",
+    ".rt": r"//", ".c": r"//|/?\*", ".h": r"//|/?\*", ".pml": r"//|/?\*", ".antt": r"--", ".adb": r"--", ".ads": r"--",
     ".sh": r"#", ".py": r"#|\"\"\"", ".awk": r"#", ".edit": r"#", "": r"#",
 }
 PATTERNS = [(re.compile(pattern), better) for pattern, better in WORDS]
