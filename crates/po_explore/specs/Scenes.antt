@@ -1,7 +1,6 @@
 -- SPDX-License-Identifier: MIT
 -- What an order of the callers' commands does to the objects of a scene.
 use Rattle.std.specs.Prelude.{ℕ, suc, ◌≡◌, ◌<◌, List, [], ◌∷◌, map, length, replicate, All, Option, Some, None, Bool, true, false, ◌||◌, is_some, string_bytes, vec_len, find, slice_get, slice_index, slice_set, if◌then◌else◌}
-use Rattle.po_unit.specs.declared.decl.Decl.{Decl}
 use Rattle.po_engine.specs.WaitingCalls.{is_of}
 use Rattle.po_core.specs.View.{View, opening_view}
 use Rattle.po_ada_unit.specs.Object.{Object as AdaObject, ada_meaning}
@@ -9,6 +8,7 @@ use Rattle.po_ada_unit.specs.declared.values.Values.{Values}
 use Rattle.po_ada_language.specs.declared.operation.Operation.{Operation}
 use Rattle.po_ada_language.specs.declared.operation.Operation.TheVariants.{Tick as TickOperation}
 use Rattle.po_ada_script.specs.Preconditions.{least}
+use Rattle.po_ada_script.specs.Shapes.{declaration}
 use Rattle.po_ada_names.specs.declared.names.Operation.{Operation as NamedOperation}
 use Rattle.po_scene.specs.declared.scene.Scene.{Scene}
 use Rattle.po_scene.specs.declared.scene.SceneObject.{SceneObject}
@@ -42,17 +42,17 @@ views_of stage = map (λ o. o.core.object) stage.objects.items
 abbrev pub stage_of : Stage → StageView
 stage_of stage = record { views = views_of stage; made = stage.made.items }
 
--- The object was just made: it has the data with which the text begins, no call, and the service order and the limit of queues that
--- the scene and the text say.
+-- The object was just made: it has the data with which the text begins, the text's entries, no call, and the service order and the
+-- limit of queues that the scene and the text say.
 abbrev pub IsOpening : SceneObject → ObjectView → Type 0
-IsOpening named view = (shape : List Decl) × (view ≡ opening_view (record {
+IsOpening named view = view ≡ opening_view (record {
   opening = named.unit;
-  shape = shape;
+  shape = map declaration named.names.entries.items;
   order = named.order;
   max_queue = least named.names.max_queue named.max_queue;
   first_number = 1;
   first_place = 0;
-}))
+})
 
 -- Each object was just made.
 abbrev pub AreOpening : List SceneObject → List ObjectView → Type 0

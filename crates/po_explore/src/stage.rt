@@ -109,10 +109,15 @@ impl Stage {
         command_at(scene, caller, self.made(caller))
     }
 
+    /// Returns the latest command of the caller, if it has made one.
+    pub(crate) fn latest_of(&self, scene: &Scene, caller: u16) -> Option<Command> {
+        let latest = self.made(caller).checked_sub(1)?;
+        command_at(scene, caller, latest)
+    }
+
     /// Returns the line of the latest command of the caller, if it has made one.
     pub(crate) fn line_of(&self, scene: &Scene, caller: u16) -> Option<usize> {
-        let latest = self.made(caller).checked_sub(1)?;
-        Some(command_at(scene, caller, latest)?.line)
+        Some(self.latest_of(scene, caller)?.line)
     }
 
     /// Returns whether no caller can make a command.

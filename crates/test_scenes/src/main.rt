@@ -58,7 +58,7 @@ fn compare(
 ) -> Result<()> {
     let alloc = rt.alloc();
     let scene = scene_of(alloc, samples, text)?;
-    let Ok(explored) = explore(alloc, &scene, Limits { situations: MOST }) else {
+    let Ok(explored) = explore(alloc, &scene, Limits { situations: MOST, answers: false }) else {
         bail!("this scene can't be explored");
     };
     let tried = try_every_order(alloc, &scene)?;
