@@ -1,6 +1,6 @@
 -- SPDX-License-Identifier: MIT
 -- What an order of the callers' commands does to the objects of a scene.
-use Rattle.std.specs.Prelude.{ℕ, suc, ◌≡◌, ◌<◌, List, [], ◌∷◌, map, length, replicate, All, Option, Some, None, Bool, true, false, ◌||◌, is_some, string_bytes, vec_len, find, slice_get, slice_index, slice_set, if◌then◌else◌}
+use Rattle.std.specs.Prelude.{ℕ, suc, ◌≡◌, ◌<◌, List, [], ◌∷◌, map, length, replicate, All, Option, Some, None, Bool, true, false, ◌||◌, is_some, option_map, string_bytes, vec_len, find, slice_get, slice_index, slice_set, if◌then◌else◌}
 use Rattle.po_engine.specs.WaitingCalls.{is_of}
 use Rattle.po_core.specs.View.{View, opening_view}
 use Rattle.po_ada_unit.specs.Object.{Object as AdaObject, ada_meaning}
@@ -71,6 +71,17 @@ abbrev pub waits : List ObjectView → ℕ → Bool
 waits [] caller = false
 waits (view ∷ views) caller = is_some (find (is_of caller) view.state.waiting) || waits views caller
 
+-- the first number of two, if there is one
+abbrev pub first_of : Option ℕ → Option ℕ → Option ℕ
+first_of None other = other
+first_of (Some number) other = Some number
+
+-- the number of the waiting call of this caller, if one waits
+abbrev pub number_in : List ObjectView → ℕ → Option ℕ
+number_in [] caller = None
+number_in (view ∷ views) caller =
+    first_of (option_map (λ x. x.number) (find (is_of caller) view.state.waiting)) (number_in views caller)
+
 -- the command of a caller, if there is the caller, with this position
 abbrev pub command_of : Option Caller → ℕ → Option Command
 command_of None position = None
@@ -79,6 +90,11 @@ command_of (Some caller) position = slice_get caller.commands.items position
 -- the command with this position among those of the caller with this one
 abbrev pub command_at : Scene → ℕ → ℕ → Option Command
 command_at scene caller position = command_of (slice_get scene.callers.items caller) position
+
+-- the latest command of a caller that has made this many
+abbrev pub latest_at : Scene → ℕ → ℕ → Option Command
+latest_at scene caller 0 = None
+latest_at scene caller (suc position) = command_at scene caller position
 
 -- the next command of a caller: none while its call waits
 abbrev pub next_of : Scene → StageView → ℕ → Option Command
