@@ -23,6 +23,7 @@ all_rows() {
   c DEST [--target TARGET]      Makes a folder with the library for C, its headers and examples
   c DEST --bare [--target ..]   Makes one for programs without an operating system, with an example
   trace [--all|--waits] FILE    Shows what the objects of an Ada program did, or only what waits
+  trace --scene FILE            Makes a scene for explore of what the tasks of an Ada program called
   build [PROGRAM|all]           Proves and builds run, check, stress, text or explore; until then a trial answers, in a minute
   dist [--target TARGET]        Makes an archive of everything, for machines without the toolchain
 ROWS
