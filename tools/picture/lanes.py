@@ -21,7 +21,7 @@ MOST_LETTERS, MOST_LINES, MOST_OF_ANSWER = 20, 3, 2
 # The colours of a wait that ends, of one that lasts at the end, and of one that lasts for ever; and the first words of bad answers.
 ENDS, LASTS, FOR_EVER = "c0", "c2", "c3"
 WRONG = ("raised", "program_error", "refused")
-READING = "Time goes from left to right. A column is a command, a row a caller, a bar a call that waits."
+READING = "Time goes from left to right. A column is a command, a row a caller, a bar a wait."
 
 
 def broken(name):

@@ -6,7 +6,7 @@ import re
 from dataclasses import dataclass, field
 
 INDENT = "    "
-# The comments of a script. The answer of a command comes directly after it, and a word alone names who makes the commands below.
+# The comments of a script. The answer of a command comes below it, before other words alone: these name who makes the commands below.
 ANSWER = re.compile(r"# ((?:done|value|raised|refused|clock) .+|done|cancelled|program_error|kept|final)")
 CALLER = re.compile(r"# (\w+)")
 GOES_ON = re.compile(r"# (\w+) goes on: (.+)")
@@ -102,16 +102,16 @@ class Script:
         self.finding.waits.append(Wait(caller, self.last[caller], ended, answer))
 
     def take_comment(self, line):
-        """Takes a comment that isn't the answer of the command above it. One that isn't known says nothing."""
-        self.is_answered = True
+        """Takes a comment that isn't the answer of the last command. One that isn't known says nothing."""
         if found := CALLER.fullmatch(line):
-            self.caller = found[1]
+            self.caller, self.is_answered = found[1], True
         elif found := GOES_ON.fullmatch(line):
             self.wait(found[1], len(self.finding.commands) - 1, found[2])
         elif found := WAITS.fullmatch(line):
             self.wait(found[1])
         elif found := NO_CALL.fullmatch(line):
             self.add(*found.groups())
+            self.is_answered = True
         elif found := VALUES.fullmatch(line):
             self.finding.values.append(found.groups())
 
@@ -119,7 +119,7 @@ class Script:
 def read(text):
     """Returns the findings of a report that have scripts, in order."""
     scripts = []
-    for line in text.splitlines():
+    for line in text.split("\n"):
         if not line.startswith(INDENT):
             scripts.append(Script(line.removesuffix(":")))
         elif scripts:

@@ -115,9 +115,12 @@ class Reading(unittest.TestCase):
                 self.assertEqual(text.count(" waits: "), sum(wait.ended is None for it in found for wait in it.waits))
 
     def test_answers_are_no_callers(self):
-        lines = ["# Anna", "cond Get", "# cancelled", "final", "# final", "# Bert", "# something new: that isn't known yet", "call Get"]
+        lines = ["# Anna", "cond Get", "# cancelled", "final", "# final", "# Bert", "# something new, that isn't known yet", "call Get"]
+        lines += ["# Anna", "# abort Cleo: no call waits", "proc Put 7", "# Bert goes on: done 7", "# done 3", "# done", "call Get"]
         (found,) = report.read("it:\n" + "".join(f"    {line}\n" for line in lines))
-        self.assertEqual([(it.caller, it.answer) for it in found.commands], [("Anna", "cancelled"), ("Anna", "final"), ("Bert", "")])
+        self.assertEqual([(it.caller, it.answer) for it in found.commands], [
+            ("Anna", "cancelled"), ("Anna", "final"), ("Bert", ""), ("Anna", "no call waits"), ("Anna", "done 3"), ("done", "")])
+        self.assertEqual(found.waits, [report.Wait("Bert", 2, 4, "done 7")])
 
     def test_other_texts(self):
         for text in ("", CLEAN, "    call Get\n", "no order completes 'call Get' of Anna\n" + CLEAN, "it:\n    show\n"):
