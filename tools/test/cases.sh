@@ -180,9 +180,11 @@ lay_out_scenes() {
   done
 }
 
-# Draws the pages' pictures from the built program's answers.
+# Draws the pages' pictures from the built programs' answers.
 pictures_by_programs() {
   local file script
+  ./pobj explore examples/scenes/crossed.scene --picture "$scratch/found" >/dev/null 2>&1
+  if cmp -s "$scratch/found/1.svg" docs/pictures/crossed.svg; then pass; else fail "./pobj explore --picture differs from docs/pictures/crossed.svg"; fi
   for file in docs/pictures/*.out; do
     script=$(find examples comparison/differences -name "$(basename "$file" .out).pobj")
     if ./pobj picture "$script" 2>&1 | cmp -s - "${file%.out}.svg"; then pass; else fail "./pobj picture $script differs from ${file%.out}.svg"; fi
