@@ -181,7 +181,7 @@ need_scene() {
   before=
   for word; do
     case "$before $word" in
-      "--most "* | *" -"*) ;;
+      "--most "* | "--until "* | *" -"*) ;;
       *) need_file "$word" ;;
     esac
     before=$word

@@ -33,6 +33,7 @@ makes, one after the other:
 
 Each thing found is told with a script of the fewest commands that lead to it: callers that wait for
 ever, exceptions, a function Invariant that is False, calls that no order completes.
+'pobj explore SCENE --picture DIR' draws each of them as DIR/1.svg, DIR/2.svg and so on.
 
 The statuses: 0 if all orders were tried and nothing was found, 1 at a fault of the scene, 2 if the
 words are refused, 3 if something was found, 4 if memory runs out, or a read or a write fails, 7 if
