@@ -23,6 +23,8 @@ ABORT = "        let aborted = taken.locked.cancel_seat(front, seat)?;\n        
 FINAL = "        taken.locked.finalize(front)?;\n        let sleepers = self.tell(&taken.locked, None);\n        drop(taken);\n        self.wake(&sleepers);\n"
 REPLY = "        drop(taken);\n        self.wake(&sleepers);\n        Ok(reply)\n"
 WAKE = "self.wake(&sleepers);\n"
+TICK_TO_END = f"{TICK}        drop(taken);\n        {WAKE}        Ok(clock)\n"
+ABORT_TO_END = f"{ABORT}        drop(taken);\n        {WAKE}        Ok(aborted)\n"
 NO_WAKE = "let _ = &sleepers;\n"
 MANY = "!sleepers.add(seat) {\n                there.wake(&self.steps, seat);\n"
 SLEEP = "                pass.sleep(rt, &self.steps);\n"
@@ -60,6 +62,9 @@ BUGS = [
      TICK, "        let sleepers = self.tell(&taken.locked, None);\n        let clock = taken.locked.tick(front, t)?;\n", "tick recorded"),
     ("tick doesn't tell the seat 0", "object.rt", TICK, TICK.replace("None", "Some(0)"), "tick recorded"),
     ("cancel_seat doesn't tell the seat", "object.rt", ABORT, ABORT.replace("None", "Some(seat)"), "cancel recorded"),
+    ("tick tells, and wakes nobody", "object.rt", TICK_TO_END, TICK_TO_END.replace(WAKE, NO_WAKE), "tick recorded"),
+    ("cancel_seat tells, and wakes nobody", "object.rt", ABORT_TO_END, ABORT_TO_END.replace(WAKE, NO_WAKE), "cancel recorded"),
+    ("finalize tells, and wakes nobody", "object.rt", FINAL, FINAL.replace(WAKE, NO_WAKE), "final recorded"),
     ("more sleepers than can be noted aren't woken", "object.rt",
      MANY, MANY.replace("there.wake(&self.steps, seat);", "let _ = there;"), "five recorded"),
     ("the same, bounded", "object.rt", MANY, MANY.replace("there.wake(&self.steps, seat);", "let _ = there;"), "five bounded"),

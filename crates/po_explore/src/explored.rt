@@ -97,11 +97,12 @@ impl Explored {
         Ok(())
     }
 
-    /// Returns how many answers to the command of this line are noted.
-    fn answers_of(&self, line: Option<usize>) -> usize {
+    /// Returns how many answers to the same command are noted as this one is to.
+    fn answers_like(&self, found: Found) -> usize {
         let mut count = 0usize;
         for finding in self.findings.iter() {
-            if finding.found.line == line && finding.found.kind.is_answer() {
+            let other = finding.found;
+            if other.line == found.line && other.kind.answered() == found.kind.answered() {
                 count = count.saturating_add(1);
             }
         }
@@ -115,7 +116,7 @@ impl Explored {
         place: Place,
         caller: Option<u16>,
     ) -> Result<(), AllocError> {
-        if self.answers_of(found.line) < MOST_ANSWERS {
+        if self.answers_like(found) < MOST_ANSWERS {
             self.note(found, place, caller)?;
         }
         Ok(())
@@ -123,7 +124,7 @@ impl Explored {
 
     /// Returns whether this is told: an answer only if the same command has another one.
     pub(crate) fn is_told(&self, found: Found) -> bool {
-        !found.kind.is_answer() || self.answers_of(found.line) > 1
+        found.kind.answered().is_none() || self.answers_like(found) > 1
     }
 
     /// Notes that a call of this line was completed.

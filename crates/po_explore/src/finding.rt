@@ -17,18 +17,18 @@ pub enum Kind {
     Refused(Refusal),
     /// The function Invariant of this object, by their positions, is False, or raises an exception.
     Invariant { object: u16, function: u16 },
-    /// A caller's call or operation is completed with these values, and there is another answer after another order.
-    Completed(Values),
-    /// A caller's call is cancelled, and there is another answer after another order.
-    Cancelled,
+    /// The command of a caller that has this number, counted from 1, is completed with these values.
+    Completed { number: u32, values: Values },
+    /// The call that is a caller's command with this number is cancelled.
+    Cancelled { number: u32 },
 }
 
 impl Kind {
-    /// Returns whether this is an answer, with which nothing is wrong.
-    pub(crate) fn is_answer(&self) -> bool {
+    /// Returns the number of the command, if this is an answer with which nothing is wrong.
+    pub(crate) fn answered(&self) -> Option<u32> {
         match self {
-            Kind::Completed(_) | Kind::Cancelled => true,
-            _ => false,
+            Kind::Completed { number, .. } | Kind::Cancelled { number } => Some(*number),
+            _ => None,
         }
     }
 }

@@ -50,16 +50,17 @@ impl Event {
         }
     }
 
-    /// Returns the answer that this is, if it is one with which nothing is wrong.
-    fn answer(&self) -> Option<Kind>
+    /// Returns the answer that this is to the caller's command with this number, if it is one with which nothing is wrong.
+    fn answer(&self, number: u32) -> Option<Kind>
         ensures { (scene : Scene) (stage : StageView) → IfSome result (λ kind. Shows scene stage kind) }
     {
         match self {
             Event::Ended(End::Completed(values)) | Event::Replied(Ok(values)) => {
                 // How often the call could still be requeued is no part of its answer.
-                Some(Kind::Completed(Values::new(values.cells)))
+                let values = Values::new(values.cells);
+                Some(Kind::Completed { number, values })
             }
-            Event::Ended(End::Cancelled) => Some(Kind::Cancelled),
+            Event::Ended(End::Cancelled) => Some(Kind::Cancelled { number }),
             _ => None,
         }
     }
@@ -122,7 +123,8 @@ pub(crate) fn answers_in(
     ensures { OnOk result (AllShown scene.now (stage_of stage.now) list.new.items) }
 {
     for told in news {
-        push_kind(scene, stage, told.caller, told.event.answer(), list)?;
+        let answer = told.event.answer(stage.made(told.caller));
+        push_kind(scene, stage, told.caller, answer, list)?;
     }
     Ok(())
 }

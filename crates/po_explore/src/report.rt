@@ -82,23 +82,49 @@ fn push_answer_at(
     }
 }
 
+/// Returns the name of the caller with this line.
+fn caller_at(scene: &Scene, line: usize) -> &str {
+    for caller in scene.callers.iter() {
+        for command in caller.commands.iter() {
+            if command.line == line {
+                return caller.name.as_str();
+            }
+        }
+    }
+    ""
+}
+
+/// Adds that the answer to the command of the line, which has this number among those of its caller, depends on the order.
+fn push_answered(
+    text: &mut String,
+    scene: &Scene,
+    line: usize,
+    number: u32,
+) -> Result<(), AllocError> {
+    let (caller, words) = (caller_at(scene, line), line_at(scene, line));
+    write!(text, "the answer of command {number} of {caller}, '{words}', depends on the order: ")
+}
+
 /// Adds what was found.
 fn push_kind(text: &mut String, scene: &Scene, found: Found) -> Result<(), AllocError> {
-    let number = found.line.unwrap_or(0);
-    let line = line_at(scene, number);
+    let line = found.line.unwrap_or(0);
+    let words = line_at(scene, line);
     match found.kind {
         Kind::Stuck => text.push_str("callers wait for ever"),
         Kind::Raised(exception) => {
-            write!(text, "'{line}' raises ")?;
-            push_raised(text, scene, number, exception)
+            write!(text, "'{words}' raises ")?;
+            push_raised(text, scene, line, exception)
         }
-        Kind::ProgramError => write!(text, "'{line}' ends by Program_Error"),
-        Kind::Refused(refusal) => write!(text, "'{line}' is refused: {refusal}"),
-        Kind::Completed(values) => {
-            write!(text, "the answer of '{line}' depends on the order: ")?;
-            push_answer_at(text, scene, number, Event::Replied(Ok(values)))
+        Kind::ProgramError => write!(text, "'{words}' ends by Program_Error"),
+        Kind::Refused(refusal) => write!(text, "'{words}' is refused: {refusal}"),
+        Kind::Completed { number, values } => {
+            push_answered(text, scene, line, number)?;
+            push_answer_at(text, scene, line, Event::Replied(Ok(values)))
         }
-        Kind::Cancelled => write!(text, "the answer of '{line}' depends on the order: cancelled"),
+        Kind::Cancelled { number } => {
+            push_answered(text, scene, line, number)?;
+            text.push_str("cancelled")
+        }
         Kind::Invariant { object, .. } => {
             text.push_str("Invariant of ")?;
             push_name(text, scene, object)?;

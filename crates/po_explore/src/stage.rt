@@ -67,7 +67,7 @@ impl Stage {
     }
 
     /// Returns how many commands the caller has made.
-    fn made(&self, caller: u16) -> u32
+    pub(crate) fn made(&self, caller: u16) -> u32
         ensures { result ≡ slice_index self.now.made.items caller }
     {
         match self.made.get(usize::from(caller)) {

@@ -91,7 +91,7 @@ impl Walk {
     fn shows(&self, alloc: Global, scene: &Scene, found: Found) -> Result<bool, AllocError>
         ensures { IfOk result (λ shows. IsTrue shows → Shows scene.now (stage_of self.now.stage) found.kind) }
     {
-        let list = if found.kind.is_answer() {
+        let list = if found.kind.answered().is_some() {
             self.answers(alloc, scene)?
         } else {
             self.found(alloc, scene)?
