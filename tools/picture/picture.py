@@ -140,7 +140,7 @@ def replace(output, picture):
 
 
 def write(picture):
-    """Writes the picture to standard output, without a buffer that Python would write once more at its end."""
+    """Writes the picture to standard output, without a buffer that Python would write again at its end."""
     rest = memoryview(picture.encode())
     while rest:
         rest = rest[os.write(1, rest) :]
