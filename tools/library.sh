@@ -183,7 +183,7 @@ put_programs() {
   for word in run check stress text explore; do
     cp "$top/crates/pobj_$word/out/pobj_$word" "$to/bin/"
   done
-  cp "$top"/tools/picture/{picture,story,timeline,marks,svg}.py "$to/share/pobj/picture/"
+  cp "$top"/tools/picture/{picture,story,timeline,findings,report,lanes,marks,svg}.py "$to/share/pobj/picture/"
 }
 
 # Puts into the folder the command that starts the programs; for a target without programs, only what is for Ada.

@@ -13,6 +13,7 @@ all_rows() {
   check [--unit TEXT] [FILE]    Explains each fault of a script, and carries out nothing
   check --unit TEXT             Explains each fault of an Ada text
   explore [--unit TEXT] SCENE   Tries every order of the callers of a scene, and finds what can go wrong
+  explore SCENE --picture DIR   Does the same, and draws what it finds in SVG: DIR/1.svg, DIR/2.svg and so on
   picture [FILE] [-o PICTURE]   Draws what a script does as a time line, in SVG
   stress --unit NAME ..         Has threads share an object, and compares each answer with its history
   ada DEST [--target TARGET]    Makes a runtime folder for Ada programs of GNAT
@@ -22,6 +23,7 @@ all_rows() {
   c DEST [--target TARGET]      Makes a folder with the library for C, its headers and examples
   c DEST --bare [--target ..]   Makes one for programs without an operating system, with an example
   trace [--all|--waits] FILE    Shows what the objects of an Ada program did, or only what waits
+  trace --scene FILE            Makes a scene for explore of what the tasks of an Ada program called
   build [PROGRAM|all]           Proves and builds run, check, stress, text or explore; until then a trial answers, in a minute
   dist [--target TARGET]        Makes an archive of everything, for machines without the toolchain
 ROWS
@@ -217,13 +219,33 @@ run_file() {
   exit "$status"
 }
 
-# Draws a script: draw PROGRAM WORDS... PROGRAM carries it out.
-draw() {
-  program=$1
-  shift
+# Whether one of the words asks for pictures of what is found.
+asks_pictures() {
+  for word; do
+    case $word in
+      --) return 1 ;;
+      --picture | --picture=*) return 0 ;;
+    esac
+  done
+  return 1
+}
+
+# Ends if there is no Python, which draws.
+need_python() {
   if ! command -v python3 >/dev/null; then
     say "drawing a picture needs Python 3, and the command python3 isn't found"
     exit 6
   fi
-  exec python3 "$parts/picture/picture.py" "$program" "$@"
+}
+
+# Draws a script: draw PROGRAM WORDS... PROGRAM carries it out.
+draw() {
+  need_python
+  exec python3 "$parts/picture/picture.py" "$@"
+}
+
+# Draws what is found in a scene: draw_findings PROGRAM WORDS... PROGRAM explores it, and the first of WORDS is `explore`.
+draw_findings() {
+  need_python
+  exec python3 "$parts/picture/findings.py" "$@"
 }

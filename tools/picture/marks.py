@@ -66,6 +66,11 @@ def fault(x, y):
     return path(f"M{x:.1f} {y - 9:.1f}l9 15h-18z", "alarm") + stroke
 
 
+def swatch(colour):
+    """Returns a function that draws a piece of a bar in this colour."""
+    return lambda x, y: box(x - 9, y - 6, 18.0, 12.0, f"bar {colour}", 2.0)
+
+
 OF_COMMANDS = {"proc": procedure, "func": function, "cancel": cancelled, "tick": tick, "final": final, "": fault}
 OF_ENDS = {"done": done, "raised": raised, "cancelled": cancelled, "program_error": program_error}
 # The marks with their names, in the order of the legend below a picture.

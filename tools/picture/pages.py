@@ -1,6 +1,7 @@
 # SPDX-License-Identifier: MIT
 """The pictures of the pages, docs/pictures/NAME.svg. Those of scripts are drawn from examples/NAME.pobj or
 comparison/differences/NAME.pobj, and from NAME.out beside the picture: the answers to a copy of the script that asks for the state.
+Those of findings are drawn from reports of `pobj explore`, examples/scenes/NAME.out.
 
     pages.py asking NAME          writes that copy to standard output
     pages.py draw                 draws all pictures of the pages
@@ -13,6 +14,8 @@ sys.dont_write_bytecode = True
 sys.path.insert(0, str(pathlib.Path(__file__).resolve().parent))
 
 import crates
+import lanes
+import report
 import sequence
 import story
 import timeline
@@ -20,6 +23,8 @@ import timeline
 TOP = pathlib.Path(__file__).resolve().parent.parent.parent
 PICTURES = TOP / "docs/pictures"
 SCRIPTS = (TOP / "examples", TOP / "comparison/differences")
+# The scenes of whose reports pages show the first finding.
+SCENES = ("crossed",)
 
 
 def script_of(name):
@@ -37,9 +42,15 @@ def of_script(name):
     return timeline.draw(told, file.name)
 
 
+def of_scene(name):
+    """Returns the picture of the first finding in the report of a scene."""
+    return lanes.draw(report.read((TOP / f"examples/scenes/{name}.out").read_text())[0])
+
+
 def all_pictures():
     """Returns all pictures of the pages, by their names."""
     pictures = {file.stem: of_script(file.stem) for file in sorted(PICTURES.glob("*.out"))}
+    pictures |= {name: of_scene(name) for name in SCENES}
     pictures["crates"] = crates.draw((TOP / "crates.txt").read_text())
     pictures["waiting"] = sequence.draw()
     return pictures

@@ -139,9 +139,9 @@ def replace(output, picture):
         beside.unlink(missing_ok=True)
 
 
-def write(picture):
-    """Writes the picture to standard output, without a buffer that Python would write again at its end."""
-    rest = memoryview(picture.encode())
+def write(data):
+    """Writes these bytes to standard output, without a buffer that Python would write again at its end."""
+    rest = memoryview(data)
     while rest:
         rest = rest[os.write(1, rest) :]
 
@@ -150,7 +150,7 @@ def put(picture, output):
     """Writes the picture to the file, or to standard output if none is named, and returns the status."""
     try:
         if output is None:
-            write(picture)
+            write(picture.encode())
         elif picture:
             replace(output, picture)
     except OSError as fault:

@@ -8,6 +8,8 @@ import re
 # text.
 LETTER = 6.7
 PROSE_LETTER = 6.5
+# The margin of a picture.
+MARGIN = 12
 # Characters that XML doesn't allow, and those that would change how the text beside them is shown.
 UNSHOWN = re.compile("[\x00-\x1f\x7f-\x9f\u200b-\u200f\u2028-\u202e\u2060-\u206f\ufeff\ufffe\uffff]")
 # The colours of entries. They are Paul Tol's light scheme: colour-blind readers can tell them apart, and dark text on them is
@@ -63,6 +65,18 @@ def shortened(words, most):
         return words
     kept = most - 1
     return words[: kept - kept // 2] + "…" + words[len(words) - kept // 2 :]
+
+
+def legend(items, top, width):
+    """Returns the legend, which says what marks and colours mean, and its lower edge. Each item has its room, the function that
+    draws it, its name, and the class of that."""
+    parts, x, y = [], float(MARGIN), top + 14
+    for room, form, name, kind in items:
+        if x + room > width - MARGIN and x > MARGIN:
+            x, y = float(MARGIN), y + 20
+        parts += [form(x + 9, y - 2), text(x + 23, y + 2, name, kind)]
+        x += room + 14
+    return tag("g", {"role": "graphics-object group"}, tag("title", {}, "What marks and colours mean"), *parts), y + 14
 
 
 def colours(names):

@@ -8,12 +8,12 @@ import textwrap
 
 import marks
 from story import Command
-from svg import COLOURS, LETTER, PROSE_LETTER, box, line, picture, shortened, tag, text, told
+from svg import COLOURS, LETTER, MARGIN, PROSE_LETTER, box, legend, line, picture, shortened, tag, text, told
 
-# In pixels: the greatest width of a picture with at most FEW columns, and of one with more; the least width; the margin, and the
-# room at the right for how a call ended. Then the height of a row, of a bar in it, of a line of words and of a line of the state;
-# and the greatest height of all calls at a glance.
-WIDEST, WIDEST_OF_MANY, FEW, NARROWEST, MARGIN, RIGHT = 1140, 1400, 40, 560, 12, 112
+# In pixels: the greatest width of a picture with at most FEW columns, and of one with more; the least width; and the room at the
+# right for how a call ended. Then the height of a row, of a bar in it, of a line of words and of a line of the state; and the
+# greatest height of all calls at a glance.
+WIDEST, WIDEST_OF_MANY, FEW, NARROWEST, RIGHT = 1140, 1400, 40, 560, 112
 ROW, BAR, WORDS, STATE, GLANCE = 20, 15, 13, 16, 480
 # How many letters of a word, and of a call, are shown at most. Titles have all of them.
 MOST_LETTERS, MOST_OF_CALL = 12, 30
@@ -321,25 +321,12 @@ def used_marks(whole):
     return (names | ({"call"} if calls else set())) - {"cond", "timed", "unit"}
 
 
-def swatch(colour):
-    """Returns a function that draws a piece of a bar in this colour."""
-    return lambda x, y: box(x - 9, y - 6, 18.0, 12.0, f"bar {colour}", 2.0)
-
-
-def legend(whole, top, width):
-    """Returns the legend, which says what marks and colours mean, and its lower edge."""
-    items = [(LETTER * len(it) + 30, swatch(whole.colour(it)), it, "") for it in whole.used]
+def items(whole):
+    """Returns what the legend has: the colours of entries, and the marks that the picture has."""
     used = used_marks(whole)
-    for key, (form, name) in marks.NAMES.items():
-        if key in used:
-            items.append((PROSE_LETTER * len(name) + 28, form, name, "prose"))
-    parts, x, y = [], float(MARGIN), top + 14
-    for room, form, name, kind in items:
-        if x + room > width - MARGIN and x > MARGIN:
-            x, y = float(MARGIN), y + 20
-        parts += [form(x + 9, y - 2), text(x + 23, y + 2, name, kind)]
-        x += room + 14
-    return tag("g", {"role": "graphics-object group"}, tag("title", {}, "What marks and colours mean"), *parts), y + 14
+    colours = [(LETTER * len(it) + 30, marks.swatch(whole.colour(it)), it, "") for it in whole.used]
+    forms = [it for key, it in marks.NAMES.items() if key in used]
+    return colours + [(PROSE_LETTER * len(name) + 28, form, name, "prose") for form, name in forms]
 
 
 def summary(story):
@@ -383,6 +370,6 @@ def draw(story, name):
         band = Band(whole, start, stop, y)
         parts += band.draw()
         y = band.bottom + (20 if stop < len(whole.columns) else 0)
-    part, bottom = legend(whole, y, width)
+    part, bottom = legend(items(whole), y, width)
     story_in_words = " ".join([f"The time line of a script of {unit}.", *prose])
     return picture(width, bottom, title, story_in_words, "time line", [*parts, part])

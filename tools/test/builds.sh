@@ -220,6 +220,8 @@ builds() {
   call_there 6 run
   call_there 6 picture
   wrote_there err "the command python3 isn't found"
+  call_there 6 explore it.scene --picture pictures
+  wrote_there err "the command python3 isn't found"
   act_as 'cat >/dev/null; echo tried; echo "pobj: own" >&2; echo "checked: ended" >&2; echo "run=ended status=1 proved=no" >&2; exit 1'
   call_there 1 run
   wrote_there out tried

@@ -133,8 +133,8 @@ lay_out_texts() {
   done < <(text_cases)
 }
 
-# The paths of all scenes, without their endings. NAME.out has what `explore` answers, and NAME.status its status; NAME.err, if it is
-# there, has the errors.
+# The paths of all scenes, without their endings. NAME.out has what `explore` answers, and NAME.status its status; NAME.err and
+# NAME.words, if they are there, have the errors and words that follow the scene's name.
 all_scenes() {
   local file
   for file in examples/scenes/*.scene cases/*.scene; do
@@ -142,12 +142,16 @@ all_scenes() {
   done
 }
 
+# Prints the words that follow the scene's name.
+scene_words() { [ ! -f "$1.words" ] || cat "$1.words"; }
+
 # Explores each scene by the built program.
 scenes_by_program() {
   local base path got
   path_of pobj_explore
   for base in $(all_scenes); do
-    "$path" explore "$base.scene" >"$scratch/out" 2>"$scratch/err"
+    # shellcheck disable=SC2046
+    "$path" explore "$base.scene" $(scene_words "$base") >"$scratch/out" 2>"$scratch/err"
     got=$?
     : >"$scratch/want"
     [ ! -f "$base.err" ] || cp "$base.err" "$scratch/want"
@@ -157,6 +161,7 @@ scenes_by_program() {
       fail "$base.scene: status $got: $(diff "$scratch/want" "$scratch/err") $(diff "$base.out" "$scratch/out")"
     fi
   done
+  if timeout 120 python3 tools/test/terminal.py ./pobj explore; then pass; else fail "a search that is ended by ^C"; fi
 }
 
 # Lays out the scenes as a trial takes them, except those with more than 9,999 situations, which take a trial minutes.
@@ -168,15 +173,18 @@ lay_out_scenes() {
       name=scene-${base##*/}
       : >"$scratch/$1/cases/$name"
       cp "$base.out" "$scratch/$1/cases/$name.stdout"
-      printf '%s\n' explore "$base.scene" >"$scratch/$1/cases/$name.args"
+      # shellcheck disable=SC2046
+      printf '%s\n' explore "$base.scene" $(scene_words "$base") >"$scratch/$1/cases/$name.args"
       cp "$base.status" "$scratch/$1/$name.want"
     fi
   done
 }
 
-# Draws the pages' pictures from the built program's answers.
+# Draws the pages' pictures from the built programs' answers.
 pictures_by_programs() {
   local file script
+  ./pobj explore examples/scenes/crossed.scene --picture "$scratch/found" >/dev/null 2>&1
+  if cmp -s "$scratch/found/1.svg" docs/pictures/crossed.svg; then pass; else fail "./pobj explore --picture differs from docs/pictures/crossed.svg"; fi
   for file in docs/pictures/*.out; do
     script=$(find examples comparison/differences -name "$(basename "$file" .out).pobj")
     if ./pobj picture "$script" 2>&1 | cmp -s - "${file%.out}.svg"; then pass; else fail "./pobj picture $script differs from ${file%.out}.svg"; fi
@@ -185,7 +193,7 @@ pictures_by_programs() {
 
 # Types a script at a terminal.
 typing() {
-  if timeout 120 python3 tools/test/terminal.py ./pobj; then pass; else fail "a script that is typed"; fi
+  if timeout 120 python3 tools/test/terminal.py ./pobj run; then pass; else fail "a script that is typed"; fi
 }
 
 # Lays out the cases of the program as a trial takes them, without those that have a NAME.make: their scripts are big.

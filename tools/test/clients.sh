@@ -37,8 +37,10 @@ packed_ada() {
   fi
 }
 
-# Draws a picture of a script with what is packed.
+# Draws pictures of a script and of a scene with what is packed.
 packed_picture() {
+  env -i "PATH=$2" "$1/bin/pobj" explore examples/scenes/crossed.scene --picture "$scratch/packed-found" >/dev/null 2>&1
+  if cmp -s "$scratch/packed-found/1.svg" docs/pictures/crossed.svg; then pass; else fail "the packed pobj draws another picture of a scene"; fi
   if env -i "PATH=$2" "$1/bin/pobj" picture examples/relay.pobj | cmp -s - docs/pictures/relay.svg; then pass; else fail "the packed pobj draws another picture"; fi
 }
 

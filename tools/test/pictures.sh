@@ -3,6 +3,9 @@
 # Tests of what draws the pictures, and of the pages' pictures, which have to be as they would be drawn now. Read by `test`.
 
 pictures() {
-  python3 tools/test/pictures.py >"$scratch/pictures" 2>&1 || sed '$d' "$scratch/pictures"
-  count "$scratch/pictures" "tools/test/pictures.py"
+  local name
+  for name in pictures finding_pictures; do
+    python3 "tools/test/$name.py" >"$scratch/$name" 2>&1 || sed '$d' "$scratch/$name"
+    count "$scratch/$name" "tools/test/$name.py"
+  done
 }

@@ -1,5 +1,6 @@
 # SPDX-License-Identifier: MIT
-"""Types a script at a terminal. Each answer has to come before the next line is typed, and a fault gets its message."""
+"""What a terminal shows. Of a script that is typed, each answer has to come before the next line is typed, and a fault gets its
+message. A search says how far it is, and ^C has it tell what was found so far."""
 
 import os
 import pty
@@ -9,6 +10,8 @@ import sys
 # How many seconds an answer may take.
 LIMIT = 20
 HINT = "pobj: each line is carried out when it is ended; Ctrl-D at its beginning ends the script"
+# A scene that takes seconds, and ^C.
+SCENE, INTERRUPT = "comparison/spin/six_by_five.scene", b"\x03"
 # What is typed, and what has to be shown after it.
 TYPED = [
     ("unit buffer 2\ncall Get 0\n", "#1"),
@@ -31,19 +34,44 @@ def read_until(terminal, shown, wanted):
     return shown
 
 
-def main(program):
-    """Types the script, and returns the status with which the program ends."""
-    child, terminal = pty.fork()
-    if child == 0:
-        os.execv(program, [program, "run"])
-    shown = read_until(terminal, "", HINT)
-    for line, answer in TYPED:
-        os.write(terminal, line.encode())
-        shown = read_until(terminal, shown, answer)
+def ended(child):
+    """Returns the status with which the program ends."""
     _, status = os.waitpid(child, 0)
     return os.waitstatus_to_exitcode(status)
 
 
-status = main(sys.argv[1])
-if status != 1:
-    sys.exit(f"status {status}, wanted 1")
+def at_terminal(words):
+    """Runs a program at a terminal, and returns both."""
+    child, terminal = pty.fork()
+    if child == 0:
+        os.execv(words[0], words)
+    return child, terminal
+
+
+def typed(program):
+    """Types the script, and returns the status with which the program ends."""
+    child, terminal = at_terminal([program, "run"])
+    shown = read_until(terminal, "", HINT)
+    for line, answer in TYPED:
+        os.write(terminal, line.encode())
+        shown = read_until(terminal, shown, answer)
+    return ended(child)
+
+
+def interrupted(program):
+    """Ends a search by ^C, and returns the status with which the program ends."""
+    child, terminal = at_terminal([program, "explore", SCENE, "--most", "1000000000"])
+    shown = read_until(terminal, "", "situations, ")
+    os.write(terminal, INTERRUPT)
+    read_until(terminal, shown, "not complete")
+    return ended(child)
+
+
+def main(program, what):
+    """Does what is asked for, and compares the status."""
+    status, wanted = (interrupted(program), 7) if what == "explore" else (typed(program), 1)
+    if status != wanted:
+        sys.exit(f"status {status}, wanted {wanted}")
+
+
+main(*sys.argv[1:])

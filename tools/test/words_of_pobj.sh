@@ -102,6 +102,24 @@ texts_there() {
   answers_there 4 err "pobj: $scratch/none can't be opened: No such file or directory" explore --most 9 "$scratch/none"
 }
 
+# `explore SCENE --picture DIR` has the program explore without these two words, shows its report, and draws what it found.
+findings_there() {
+  local scene=examples/scenes/crossed.scene to=$scratch/found
+  put_program pobj_explore "echo \"\$*\"; cat '$PWD/examples/scenes/crossed.out'; exit 3"
+  echo 'pobj_explore:' >>"$scratch/build/crates.txt"
+  mkdir -p "$scratch/build/crates/pobj_explore/src"
+  touch "$scratch/build/crates/pobj_explore/out/pobj_explore"
+  answers_there 3 out "callers wait for ever" explore "--picture=$to/one" "$scene"
+  answers_there 3 out "callers wait for ever" explore "$scene" --picture "$to/other"
+  same "$(head -n 1 "$scratch/out")" "explore $scene" "the words of an exploration with pictures"
+  same "$(cat "$scratch/err")" "pobj: drawn: $to/other/1.svg" "what is said of pictures"
+  if cmp -s "$to/one/1.svg" docs/pictures/crossed.svg && cmp -s "$to/other/1.svg" docs/pictures/crossed.svg; then pass; else fail "explore --picture draws another picture"; fi
+  answers_there 2 err "--picture takes a folder" explore "$scene" --picture
+  answers_there 4 err "$scratch/out is a file" explore "$scene" --picture "$scratch/out"
+  answers_there 4 err "pobj: $scratch/none can't be opened: No such file or directory" explore "$scratch/none" --picture "$to/no"
+  if [ -e "$to/no" ]; then fail "a folder is made for no picture"; else pass; fi
+}
+
 # On a terminal a fault is shown with its line, by the built program and by a trial. Elsewhere standard error
 # has only the program's own text.
 faults_there() {
@@ -209,6 +227,7 @@ packs_there() {
   same "$("$to/bin/pobj" tarce 2>&1)" "pobj: no command 'tarce'; did you mean 'trace'?" "the packed answer to a mistyped word"
   same "$("$to/bin/pobj" run "$to/VERSION")" "pobj_run run"$'\n'"$(cat VERSION)" "the packed program's input"
   same "$("$to/bin/pobj" run --unit "$to/VERSION" "$to/VERSION")" "pobj_text run --unit $to/VERSION"$'\n'"$(cat VERSION)" "the packed program for Ada texts"
+  same "$("$to/bin/pobj" explore --picture "$to/found" "$to/VERSION" </dev/null)" "pobj_explore explore $to/VERSION" "the packed program that explores"
   same "$("$to/bin/pobj" run "$to/none" 2>&1)" "pobj: $to/none can't be opened: No such file or directory" "a file that isn't there"
   if git check-ignore -q "$name.tar.gz"; then pass; else fail "git doesn't ignore $name.tar.gz"; fi
 }
@@ -323,6 +342,7 @@ words_of_pobj() {
   missing_there
   named_there
   texts_there
+  findings_there
   faults_there
   kits_there
   picture_in_file

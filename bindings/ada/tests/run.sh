@@ -148,12 +148,15 @@ refused_memory() {
     timeout 120 "${runner[@]}" "$scratch/refused_memory-linked" | diff refused_memory.out -
 }
 
-# Whether the record of a program that hangs and is killed shows what waits.
+# Whether the record of a program that hangs and is killed shows what waits, and gives a scene.
 record() {
+  local said
   linked hangs || return
   POBJ_TRACE=$scratch/record timeout -s KILL 3 "${runner[@]}" "$scratch/hangs-linked"
   ../trace.sh "$scratch/record" | diff hangs.out - || return
-  ../trace.sh --waits "$scratch/record" | sed -E 's/[0-9]+\.[0-9]{6}/TIME/g' | diff hangs.waits -
+  ../trace.sh --waits "$scratch/record" | sed -E 's/[0-9]+\.[0-9]{6}/TIME/g' | diff hangs.waits - || return
+  said=$(../trace.sh --scene "$scratch/record") || return
+  [[ $said == *$'object Buffer file "buffer.adb"\ncaller Getter\n  proc Buffer.Put\n  call Buffer.Get(2)\n'*$'\n  call Buffer.Get(2)\n  # the last call waits'* ]]
 }
 
 # Whether `pobj trace` says that there is no Python, and which words it takes.
@@ -163,7 +166,7 @@ trace_says() {
   said=$(PATH=$scratch/bare /bin/sh ../trace.sh run.sh 2>&1)
   [ $? -eq 6 ] && [[ $said == *"there is no python3"* ]] || return
   said=$(../trace.sh --wait run.sh 2>&1)
-  [ $? -eq 2 ] && [[ $said == *"--all or --waits"* ]] || return
+  [ $? -eq 2 ] && [[ $said == *"--all, --waits or --scene"* ]] || return
   said=$(../trace.sh run.sh 2>&1)
   [ $? -eq 4 ] && [[ $said == *"run.sh isn't a record"* ]]
 }

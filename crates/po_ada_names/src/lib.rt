@@ -10,5 +10,5 @@ mod names;
 
 pub use names::{
     Discriminant, Entry, Enumeration, Family, Form, Heading, Mode, ObjectNames, Operation,
-    Parameter, Subtype, Types,
+    Parameter, Subtype, Types, Variable,
 };

@@ -95,6 +95,16 @@ pub struct Entry {
     pub precondition: Option<u16>,
 }
 
+/// A variable of an object (3.3.1), or a component of one: `Count`, `Items(2)`, `Slots(1).Full`.
+#[derive(Debug, Drop)]
+pub struct Variable {
+    /// Its name, as a function of the object can write it.
+    pub name: String,
+    pub form: Form,
+    /// The position of its value among the object's data.
+    pub cell: u16,
+}
+
 /// A discriminant of a protected type (3.7).
 #[derive(Debug, Drop)]
 pub struct Discriminant {
@@ -130,6 +140,8 @@ pub struct ObjectNames {
     pub procedures: Vec<Operation>,
     /// The visible functions, in the order of their numbers in the program.
     pub functions: Vec<Operation>,
+    /// The variables in the order of their declarations. An array or a record stands for its components, if it isn't large.
+    pub variables: Vec<Variable>,
     /// The exceptions that the text declares, from the number `FIRST_DECLARED` of `po_program` on.
     pub exceptions: Vec<String>,
     /// The messages of exceptions that aren't numbers, by their positions.

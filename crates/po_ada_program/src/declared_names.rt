@@ -14,7 +14,7 @@ use std::alloc::AllocError;
 
 /// The types that were named so far, and the numbers of those that are enumerations.
 #[derive(Drop)]
-struct Table {
+pub struct Table {
     types: Types,
     enumerations: Vec<usize>,
 }
@@ -30,7 +30,8 @@ impl<'a> Making<'a> {
         }
     }
 
-    fn text(&self, name: u32) -> Result<String, AllocError> {
+    /// How the text writes a name.
+    pub fn text(&self, name: u32) -> Result<String, AllocError> {
         String::from_str(
             self.lowering.known.alloc,
             self.lowering.known.names.written(name),
@@ -48,7 +49,7 @@ impl<'a> Making<'a> {
     }
 
     /// How values of the type are written.
-    fn form(&self, table: &mut Table, kind: usize) -> Result<Form, AllocError> {
+    pub fn form(&self, table: &mut Table, kind: usize) -> Result<Form, AllocError> {
         if kind == BOOLEAN {
             return Ok(Form::Boolean);
         }
@@ -210,6 +211,7 @@ pub fn object_names(making: &Making<'_>, unit: Name) -> Result<ObjectNames, Allo
     for message in making.lowering.messages.iter() {
         messages.push(message.clone()?)?;
     }
+    let variables = making.variable_names(&mut table)?;
     let Table { types, .. } = table;
     Ok(ObjectNames {
         unit: making.text(unit.number)?,
@@ -217,6 +219,7 @@ pub fn object_names(making: &Making<'_>, unit: Name) -> Result<ObjectNames, Allo
         entries,
         procedures,
         functions,
+        variables,
         exceptions,
         messages,
         max_queue: making.max_queue,

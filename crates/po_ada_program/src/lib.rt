@@ -17,5 +17,6 @@ mod outside;
 mod preconditions;
 mod queue_limits;
 mod unit;
+mod variable_names;
 
 pub use crate::object::{Made, heading_of, object_of};

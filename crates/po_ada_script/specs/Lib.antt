@@ -2,3 +2,4 @@
 
 pub mod Operations
 pub mod Preconditions
+pub mod Shapes

@@ -1,9 +1,10 @@
 // SPDX-License-Identifier: MIT
 //! The object of a script.
 
-ghost use Rattle.std.specs.Prelude.{◌≡◌, IfOk, OnOk, OnErr, [], string_bytes};
+ghost use Rattle.std.specs.Prelude.{◌≡◌, IfOk, OnOk, OnErr, map, [], string_bytes};
 ghost use Rattle.po_script.specs.Tickets.{Knows, AreCollected};
 ghost use Rattle.po_ada_script.specs.Preconditions.{least};
+ghost use Rattle.po_ada_script.specs.Shapes.{declaration};
 
 use crate::operate::carry_out;
 use crate::preconditions::failed_precondition;
@@ -34,7 +35,9 @@ pub struct TextObject<U: TextUnit> {
 }
 
 /// Returns the declaration of the entry (9.5.2).
-fn declaration_of(entry: &Entry) -> Decl {
+fn declaration_of(entry: &Entry) -> Decl
+    ensures { result ≡ declaration entry.now }
+{
     let (low, high) = match entry.family {
         Some(family) => (family.low, family.high),
         None => (0, 0),
@@ -48,7 +51,9 @@ fn declaration_of(entry: &Entry) -> Decl {
 }
 
 /// Returns the declarations of the entries, in their order.
-fn declarations(alloc: Global, entries: &[Entry]) -> Result<Vec<Decl>, AllocError> {
+fn declarations(alloc: Global, entries: &[Entry]) -> Result<Vec<Decl>, AllocError>
+    ensures { IfOk result (λ list. list.items ≡ map declaration entries.now) }
+{
     let mut declarations = Vec::new(alloc);
     for entry in entries {
         declarations.push(declaration_of(entry))?;
@@ -57,7 +62,9 @@ fn declarations(alloc: Global, entries: &[Entry]) -> Result<Vec<Decl>, AllocErro
 }
 
 /// Makes the shape of the entries (9.5.2).
-pub fn shape_of(alloc: Global, entries: &[Entry]) -> Result<Shape, Stop> {
+pub fn shape_of(alloc: Global, entries: &[Entry]) -> Result<Shape, Stop>
+    ensures { IfOk result (λ shape. shape ≡ map declaration entries.now) }
+{
     let declarations = declarations(alloc, entries)?;
     match Shape::new(alloc, declarations.as_slice()) {
         Ok(shape) => Ok(shape),

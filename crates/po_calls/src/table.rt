@@ -52,30 +52,30 @@ impl<V: Copy> Table<V> {
         }
     }
 
-    /// Makes a table with no call, and with room for `most` of them.
-    pub fn with_capacity(alloc: Global, most: usize) -> Result<Table<V>, AllocError>
+    /// Makes a table with no call, and with room for `capacity` of them.
+    pub fn with_capacity(alloc: Global, capacity: usize) -> Result<Table<V>, AllocError>
         ensures kept { IfOk result (λ t. (ticket : Ticket) → kept t ticket ≡ None) }
         ensures vacant { IfOk result (λ t. (key : ℕ) → get t.calls key ≡ None) }
         ensures numbers { IfOk result (λ t. numbers_of t ≡ []) }
         ensures len { IfOk result (λ t. slab_len t.calls ≡ 0) }
-        ensures room { IfOk result (λ t. HasRoomFor t.calls most) }
+        ensures room { IfOk result (λ t. HasRoomFor t.calls capacity) }
         ensures last { IfOk result (λ t. t.last ≡ None) }
     {
-        let calls = Slab::with_capacity(alloc, most)?;
+        let calls = Slab::with_capacity(alloc, capacity)?;
         Ok(Table { calls, last: None })
     }
 
-    /// Makes a table that keeps the same calls under the same keys, and has room for `most` calls, those that are kept included.
+    /// Makes a table that keeps the same calls under the same keys, and has room for `capacity` calls, those that are kept included.
     ///
     /// Fails only if memory runs out. The next key of the copy is that of this table.
-    pub fn copy(&self, most: usize) -> Result<Table<V>, AllocError>
+    pub fn copy(&self, capacity: usize) -> Result<Table<V>, AllocError>
         ensures same { IfOk result (λ copy. copy ≡ record self.now {
           calls = record self.now.calls { capacity = copy.calls.capacity };
         }) }
-        ensures room { IfOk result (λ copy. most ≤ copy.calls.capacity) }
+        ensures room { IfOk result (λ copy. capacity ≤ copy.calls.capacity) }
     {
         let mut calls = self.calls.clone()?;
-        calls.reserve(most.saturating_sub(self.calls.len()))?;
+        calls.reserve(capacity.saturating_sub(self.calls.len()))?;
         Ok(Table {
             calls,
             last: self.last,

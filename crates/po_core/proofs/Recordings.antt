@@ -148,7 +148,7 @@ module _ {S V : Type 0} (m : Meaning S V) (setup : Setup S) where
 
   -- the record after room was made for a call, and after that failed
   pub recording_room : {A B : Type 0} (b : Base S V) (p q : StateView S V) (room more : ℕ) (h k : HistoryView V) (keys keys_now : Vec ℕ A) (ends ends_now : Vec (Ended V) B) (ran : ℕ)
-      → IsRecording setup (known_of p) room 0 b h keys ends ran → q ≡ record p { most = q.most }
+      → IsRecording setup (known_of p) room 0 b h keys ends ran → q ≡ record p { capacity = q.capacity }
       → k ≡ record h { owed = h.owed + more; outcomes = h.outcomes ++ None ∷ [] }
       → (keys_now.items ≡ keys.items) × (vec_len keys_now ≡ vec_len keys) → (ends_now.items ≡ ends.items) × (vec_len ends_now ≡ vec_len ends)
       → vec_len keys_now + 1 ≤ vec_capacity keys_now → vec_len keys_now + 1 ≤ vec_capacity ends_now
@@ -172,7 +172,7 @@ module _ {S V : Type 0} (m : Meaning S V) (setup : Setup S) where
       option_end n ended = option_map (λ x. x.end) (find (has_ended n) ended)
 
   pub recording_still : {A B : Type 0} (b : Base S V) (p q : StateView S V) (room : ℕ) (h : HistoryView V) (keys keys_now : Vec ℕ A) (ends ends_now : Vec (Ended V) B) (ran : ℕ)
-      → IsRecording setup (known_of p) room 0 b h keys ends ran → q ≡ record p { most = q.most }
+      → IsRecording setup (known_of p) room 0 b h keys ends ran → q ≡ record p { capacity = q.capacity }
       → (keys_now.items ≡ keys.items) × (vec_len keys_now ≡ vec_len keys) → (ends_now.items ≡ ends.items) × (vec_len ends_now ≡ vec_len ends)
       → vec_capacity ends ≤ vec_capacity ends_now
       → IsRecording setup (known_of q) room 0 b h keys_now ends_now ran

@@ -40,7 +40,7 @@ module _ {S V : Type 0} (m : Meaning S V) (setup : Setup S) where
   -- what a newly made object keeps
   pub tracked_opens : m.entries setup.opening ≡ entry_count setup.shape → setup.first_place < 18_446_744_073_709_551_616 → setup.first_number < 18_446_744_073_709_551_616
       → (s : StateView S V) (most : ℕ) (fixed : Bool)
-      → s ≡ record { state = opening_state setup.opening setup.first_number; places = []; serving = None; tickets = []; keys = []; first = setup.first_number; most = most; is_fixed = fixed; before = 0 }
+      → s ≡ record { state = opening_state setup.opening setup.first_number; places = []; serving = None; tickets = []; keys = []; first = setup.first_number; capacity = most; is_fixed = fixed; before = 0 }
       → IsTracked m setup (opening_of setup) s [] setup.first_place None
   tracked_opens shaped low_place low s most fixed is = rw is (record {
     history = history_opens m setup shaped;

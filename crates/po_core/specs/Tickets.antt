@@ -19,7 +19,7 @@ pub record CoreView (S V : Type 0) : Type 0 where
 module _ {S V : Type 0} where
   -- how many calls of an object in this state may be uncollected at once, if that number is fixed
   abbrev pub capacity_of : StateView S V → Option ℕ
-  capacity_of s = if s.is_fixed then Some s.most else None
+  capacity_of s = if s.is_fixed then Some s.capacity else None
 
   -- the status of a ticket's call
   abbrev pub status_of_ticket : CoreView S V → Ticket → CallStatus V

@@ -17,7 +17,7 @@ use po_unit::{Shape, Unit};
 use std::alloc::{AllocError, Global};
 
 impl<U: Unit + Drop> Core<U, Unrecorded<U>> {
-    /// Makes an object with this unit, from the given numbers, with all memory for `most` uncollected calls at once.
+    /// Makes an object with this unit, from the given numbers, with all memory for `capacity` uncollected calls at once.
     ///
     /// Fails if the unit and the shape have different numbers of entries, or if memory runs out.
     pub fn with_capacity(
@@ -26,7 +26,7 @@ impl<U: Unit + Drop> Core<U, Unrecorded<U>> {
         shape: Shape,
         order: Order,
         start: Start,
-        most: usize,
+        capacity: usize,
     ) -> Result<Core<U, Unrecorded<U>>, MakeError>
         ensures core { IfOk result (λ c. c ≡ record {
           object = opening_view (record {
@@ -38,7 +38,7 @@ impl<U: Unit + Drop> Core<U, Unrecorded<U>> {
             first_place = start.first_place;
           });
           tickets = [];
-          capacity = Some most;
+          capacity = Some capacity;
         }) }
         ensures mismatch { (result ≡ Err MakeError.ShapeMismatch) ↔
             (U.meaning.entries unit ≢ entry_count shape) }
@@ -50,7 +50,7 @@ impl<U: Unit + Drop> Core<U, Unrecorded<U>> {
         }
         let setup = Setup::new(unit, shape, order, start);
         let now = setup.opening().copy()?;
-        let state = State::with_capacity(alloc, now, setup.first_number(), most)?;
+        let state = State::with_capacity(alloc, now, setup.first_number(), capacity)?;
         Ok(Core {
             in_action: CoreInAction::new(setup, state, Unrecorded::new()),
         })

@@ -84,7 +84,7 @@ impl<U: Unit, R: Record<U>> CoreInAction<U, R> {
           tickets = [];
           keys = [];
           first = setup.first_number;
-          most = state.most;
+          capacity = state.capacity;
           is_fixed = state.is_fixed;
           before = 0;
         } }

@@ -45,12 +45,12 @@ pub trait Record<U: Unit> {
         rank: u8,
     ) -> Result<(), Refusal>
         requires { IsOf setup.now self.old (known_of state.old) (owed U.meaning state.old.state) 0 }
-        ensures same { state.new ≡ record state.old { most = state.new.most } }
+        ensures same { state.new ≡ record state.old { capacity = state.new.capacity } }
         ensures capacity { capacity_of state.new ≡ capacity_of state.old }
         ensures base { base setup.now self.new ≡ base setup.now self.old }
         ensures events { events self.new ≡ events self.old }
         ensures ok { OnOk result (IsOf setup.now self.new (known_of state.new) (owed U.meaning state.old.state + rank + 3) 1) }
-        ensures room { OnOk result (uncollected state.new.tickets < state.new.most) }
+        ensures room { OnOk result (uncollected state.new.tickets < state.new.capacity) }
         ensures err { OnErr result (IsOf setup.now self.new (known_of state.new) (owed U.meaning state.old.state) 0) }
         ensures allowed { OnOk result (if_full (capacity_of state.old) state.old.tickets ≡ None) }
         ensures refused { IfErr result (MayRefuse (capacity_of state.old) (if_full (capacity_of state.old) state.old.tickets)) };

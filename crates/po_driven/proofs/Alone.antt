@@ -94,7 +94,7 @@ module _ (d new : DrivenView) (a : Arriving ℕ) (alone : ArrivesAlone a d) wher
         answers = record {
           tells = resting;
           kept = tt;
-          setup = record { entries = refl; limits = refl; room = record { fixed = refl; most = λ fixed. refl }; tickets = same_tickets new.calls.object new.calls.object refl refl };
+          setup = record { entries = refl; limits = refl; room = record { fixed = refl; capacity = λ fixed. refl }; tickets = same_tickets new.calls.object new.calls.object refl refl };
           accepted = λ e q r. absurd (cc);
           refused = λ no. absurd (no a.entry refl);
           closed = λ e q. closed ∙ ap (λ k. k ∷ []) (asked_same a.entry e q);
@@ -165,7 +165,7 @@ module _ (d new : DrivenView) (a : Arriving ℕ) (alone : ArrivesAlone a d) (due
         issues = record {
           tells = refl;
           kept = tt;
-          setup = record { entries = refl; limits = refl; room = record { fixed = refl; most = λ fixed. refl }; tickets = one_issued d.calls.object queued.calls.object d.calls.object.state.next refl refl };
+          setup = record { entries = refl; limits = refl; room = record { fixed = refl; capacity = λ fixed. refl }; tickets = one_issued d.calls.object queued.calls.object d.calls.object.state.next refl refl };
           accepted = λ may e. absurd (cc);
           refused = λ no. absurd (no alone.may);
           room = λ few e. absurd (cc);
@@ -182,7 +182,7 @@ module _ (d new : DrivenView) (a : Arriving ℕ) (alone : ArrivesAlone a d) (due
         answers = record {
           tells = refl;
           kept = tt;
-          setup = record { entries = refl; limits = refl; room = record { fixed = refl; most = λ fixed. refl }; tickets = one_passed queued.calls.object ended.calls.object d.calls.object.tickets (ended_as IsCancelled away) refl refl refl };
+          setup = record { entries = refl; limits = refl; room = record { fixed = refl; capacity = λ fixed. refl }; tickets = one_passed queued.calls.object ended.calls.object d.calls.object.tickets (ended_as IsCancelled away) refl refl refl };
           accepted = λ e q r. absurd (cc);
           refused = λ no. absurd (no a.entry refl);
           closed = λ e q. ap (λ k. k ∷ []) (asked_same a.entry e q);
@@ -198,7 +198,7 @@ module _ (d new : DrivenView) (a : Arriving ℕ) (alone : ArrivesAlone a d) (due
           setup = record {
             entries = ap (λ t. t.object.state.unit) calls;
             limits = limits;
-            room = record { fixed = ap (λ t. t.object.is_fixed) calls; most = λ fixed. ap (λ t. t.object.most) calls };
+            room = record { fixed = ap (λ t. t.object.is_fixed) calls; capacity = λ fixed. ap (λ t. t.object.capacity) calls };
             tickets = same_tickets ended.calls.object new.calls.object (ap (λ t. t.object.tickets) calls) (ap (λ t. t.object.state.ended) calls);
           };
           accepted = λ waits e. absurd (cc);

@@ -67,7 +67,7 @@ pub issues_open : (d : DrivenView) (a : Arriving ℕ) → MayIssue d a.entry →
 issues_open d a may stays = record {
   tells = refl;
   kept = tt;
-  setup = record { entries = refl; limits = refl; room = record { fixed = refl; most = λ fixed. refl }; tickets = one_issued d.calls.object (in_body d.calls a).object d.calls.object.state.next refl refl };
+  setup = record { entries = refl; limits = refl; room = record { fixed = refl; capacity = λ fixed. refl }; tickets = one_issued d.calls.object (in_body d.calls a).object d.calls.object.state.next refl refl };
   accepted = λ is e. absurd (cc);
   refused = λ no. absurd (no may);
   room = λ few e. absurd (cc);
@@ -152,7 +152,7 @@ finalizes d m new step r resting is serves fresh breaks =
       setup = record {
         entries = s.setup.entries;
         limits = s.setup.limits;
-        room = record { fixed = s.setup.room.fixed; most = s.setup.room.most };
+        room = record { fixed = s.setup.room.fixed; capacity = s.setup.room.capacity };
         tickets = record { live = s.setup.tickets.live; left = s.setup.tickets.left };
       };
       accepted = λ e. s.answers;
@@ -181,7 +181,7 @@ module _ (d : DrivenView) (a : Arriving ℕ) where
   passed_setup end hs = record {
     entries = refl;
     limits = refl;
-    room = record { fixed = refl; most = λ fixed. refl };
+    room = record { fixed = refl; capacity = λ fixed. refl };
     tickets = one_ended d.calls.object (passed d.calls a end hs).object (ended_as end (new_call d.calls.object.state.next a)) refl refl;
   }
 
@@ -200,7 +200,7 @@ module _ (d : DrivenView) (a : Arriving ℕ) where
       let v = settling d completed_calls in let m = running d a in record {
         tells = s.tells;
         kept = s.proceeds m new;
-        setup = record { entries = s.setup.entries; limits = s.setup.limits; room = record { fixed = s.setup.room.fixed; most = s.setup.room.most }; tickets = left_kept v new (IsCompleted a.value) refl refl s.setup.tickets };
+        setup = record { entries = s.setup.entries; limits = s.setup.limits; room = record { fixed = s.setup.room.fixed; capacity = s.setup.room.capacity }; tickets = left_kept v new (IsCompleted a.value) refl refl s.setup.tickets };
         accepted = λ some no. s.answers;
         refused = λ none. absurd (cc);
         fresh = fresh_of r new fresh;
@@ -221,7 +221,7 @@ module _ (d : DrivenView) (a : Arriving ℕ) where
       let v = settling d left_calls in let m = running d a in record {
         tells = s.tells;
         kept = s.proceeds m new;
-        setup = record { entries = s.setup.entries; limits = s.setup.limits; room = record { fixed = s.setup.room.fixed; most = s.setup.room.most }; tickets = left_kept v new (IsCompleted a.value) refl refl s.setup.tickets };
+        setup = record { entries = s.setup.entries; limits = s.setup.limits; room = record { fixed = s.setup.room.fixed; capacity = s.setup.room.capacity }; tickets = left_kept v new (IsCompleted a.value) refl refl s.setup.tickets };
         accepted = λ some no. s.answers;
         refused = λ none. absurd (cc);
         fresh = fresh_of r new fresh;
@@ -242,7 +242,7 @@ module _ (d : DrivenView) (a : Arriving ℕ) where
       let v = settling d failed_calls in let m = running d a in record {
         tells = s.tells;
         kept = s.proceeds m new;
-        setup = record { entries = s.setup.entries; limits = s.setup.limits; room = record { fixed = s.setup.room.fixed; most = s.setup.room.most }; tickets = left_kept v new (Raised 0) refl refl s.setup.tickets };
+        setup = record { entries = s.setup.entries; limits = s.setup.limits; room = record { fixed = s.setup.room.fixed; capacity = s.setup.room.capacity }; tickets = left_kept v new (Raised 0) refl refl s.setup.tickets };
         accepted = λ some no. s.answers;
         refused = λ none. absurd (cc);
         fresh = fresh_of r new fresh;

@@ -7,7 +7,7 @@ pub setup_then : (a b c : DrivenView) → KeepsSetup a b → KeepsSetup b c → 
 setup_then a b c ab bc = record {
   entries = bc.entries ∙ ab.entries;
   limits = bc.limits ∙ ab.limits;
-  room = record { fixed = bc.room.fixed ∙ ab.room.fixed; most = λ fixed. bc.room.most (ab.room.fixed ∙ fixed) ∙ ab.room.most fixed };
+  room = record { fixed = bc.room.fixed ∙ ab.room.fixed; capacity = λ fixed. bc.room.capacity (ab.room.fixed ∙ fixed) ∙ ab.room.capacity fixed };
   tickets = kept_then a.calls.object b.calls.object c.calls.object ab.tickets bc.tickets;
 }
 
@@ -16,6 +16,6 @@ pub setup_same : (a b : DrivenView) → b.calls ≡ a.calls → b.limits ≡ a.l
 setup_same a b calls limits = record {
   entries = ap (λ t. t.object.state.unit) calls;
   limits = limits;
-  room = record { fixed = ap (λ t. t.object.is_fixed) calls; most = λ fixed. ap (λ t. t.object.most) calls };
+  room = record { fixed = ap (λ t. t.object.is_fixed) calls; capacity = λ fixed. ap (λ t. t.object.capacity) calls };
   tickets = same_tickets a.calls.object b.calls.object (ap (λ t. t.object.tickets) calls) (ap (λ t. t.object.state.ended) calls);
 }

@@ -106,7 +106,7 @@ module _ (d new : DrivenView) (a : Arriving ℕ) (r : Requeue) (may : MayServeTw
     requeues = record {
       tells = refl;
       kept = tt;
-      setup = record { entries = refl; limits = refl; room = record { fixed = refl; most = λ fixed. refl }; tickets = same_tickets (running d a).calls.object queued.calls.object refl refl };
+      setup = record { entries = refl; limits = refl; room = record { fixed = refl; capacity = λ fixed. refl }; tickets = same_tickets (running d a).calls.object queued.calls.object refl refl };
       accepted = λ some no. absurd no;
       refused = λ none. absurd (cc);
       fresh = refl;
@@ -126,7 +126,7 @@ module _ (d new : DrivenView) (a : Arriving ℕ) (r : Requeue) (may : MayServeTw
     answers = record {
       tells = refl;
       kept = tt;
-      setup = record { entries = refl; limits = refl; room = record { fixed = refl; most = λ fixed. refl }; tickets = same_tickets queued.calls.object second.calls.object refl refl };
+      setup = record { entries = refl; limits = refl; room = record { fixed = refl; capacity = λ fixed. refl }; tickets = same_tickets queued.calls.object second.calls.object refl refl };
       accepted = λ e q n. absurd (cc);
       refused = λ no. absurd (no r.target refl);
       closed = λ e q. refl;
@@ -142,7 +142,7 @@ module _ (d new : DrivenView) (a : Arriving ℕ) (r : Requeue) (may : MayServeTw
       setup = record {
         entries = ap (λ t. t.object.state.unit) calls;
         limits = limits;
-        room = record { fixed = ap (λ t. t.object.is_fixed) calls; most = λ fixed. ap (λ t. t.object.most) calls };
+        room = record { fixed = ap (λ t. t.object.is_fixed) calls; capacity = λ fixed. ap (λ t. t.object.capacity) calls };
         tickets = one_passed second.calls.object new.calls.object d.calls.object.tickets (ended_as (IsCompleted a.value) its) refl (ap (λ t. t.object.tickets) calls) (ap (λ t. t.object.state.ended) calls);
       };
       accepted = λ some no n. absurd (cc);

@@ -34,7 +34,7 @@ opening_calls entries most is_fixed = record {
     tickets = [];
     keys = [];
     first = 1;
-    most = most;
+    capacity = most;
     is_fixed = is_fixed;
     before = 0;
   };
@@ -71,7 +71,7 @@ pub record MayPass (t : DrivenCallsView) : Type 0 where
 -- One more call on this entry may be accepted: it may pass, there is memory for it, its command has begun, and the entry exists.
 pub record IsReady (t : DrivenCallsView) (e : ℕ) : Type 0 where
   pub passes : MayPass t
-  pub room : uncollected t.object.tickets < t.object.most
+  pub room : uncollected t.object.tickets < t.object.capacity
   pub begun : t.object.before ≡ length t.object.state.ended
   pub entry : e < t.object.state.unit
 
@@ -94,7 +94,7 @@ passed_twice t a end hs = record (passed t a end hs) { place = t.place + 2 }
 -- Whether the memory is fixed never changes. If it is fixed, the number of calls that it is for never changes either.
 pub record KeepsRoom (old new : StateView ℕ ℕ) : Type 0 where
   pub fixed : new.is_fixed ≡ old.is_fixed
-  pub most : old.is_fixed ≡ true → new.most ≡ old.most
+  pub capacity : old.is_fixed ≡ true → new.capacity ≡ old.capacity
 
 -- A live ticket stays live until its call has ended or was requeued elsewhere: the engine counts both as ended. No call that has
 -- ended comes back.

@@ -36,13 +36,13 @@ pub record MakesReady (old new : DrivenView) (action : Action) : Type 0 where
   pub setup : KeepsSetup old new
   pub says : SaysReady action
   pub ready : action ≡ Rest → MayServe new
-  pub roomy : action ≡ Rest → uncollected new.calls.object.tickets < new.calls.object.most
+  pub roomy : action ≡ Rest → uncollected new.calls.object.tickets < new.calls.object.capacity
   pub accepted : MayServe old → action ≢ Refused
   pub refused : (MayServe old → ⊥) → action ≡ Refused
-  pub room : uncollected old.calls.object.tickets < old.calls.object.most → action ≢ NoMemory
+  pub room : uncollected old.calls.object.tickets < old.calls.object.capacity → action ≢ NoMemory
   -- if there is room, no memory is taken
-  pub taken : uncollected old.calls.object.tickets < old.calls.object.most → new.calls.object.most ≡ old.calls.object.most
-  pub same : new ≡ record old { calls = record old.calls { object = record old.calls.object { most = new.calls.object.most; before = new.calls.object.before } } }
+  pub taken : uncollected old.calls.object.tickets < old.calls.object.capacity → new.calls.object.capacity ≡ old.calls.object.capacity
+  pub same : new ≡ record old { calls = record old.calls { object = record old.calls.object { capacity = new.calls.object.capacity; before = new.calls.object.before } } }
 
 -- The entry to which a body requeued its call within the object exists.
 abbrev pub HasTarget : DrivenView → BodyEnd → Type 0
@@ -78,7 +78,7 @@ pub record Serves (a : Arriving ℕ) (end : BodyEnd) (step : NamedCall) (old new
   pub setup : KeepsSetup old new
   pub accepted : WasServed a end old → action ≢ Refused
   pub refused : (WasServed a end old → ⊥) → action ≡ Refused
-  pub room : uncollected old.calls.object.tickets < old.calls.object.most → action ≢ NoMemory
+  pub room : uncollected old.calls.object.tickets < old.calls.object.capacity → action ≢ NoMemory
   -- only a requeue within the object takes room
   pub needs_none : IsNoRequeue end → action ≢ NoMemory
   pub through : IsTaken action → ServesBetween a end step old new action
@@ -138,7 +138,7 @@ pub record WaitsBetween (a : Arriving ℕ) (step : NamedCall) (old new : DrivenV
 pub record Waits (a : Arriving ℕ) (step : NamedCall) (old new : DrivenView) (waits : Bool) : Type 0 where
   pub kept : waits ≡ false → new ≡ old
   pub setup : KeepsSetup old new
-  pub accepted : ArrivesAlone a old → is_due_in old a ≡ false → uncollected old.calls.object.tickets < old.calls.object.most → waits ≡ true
+  pub accepted : ArrivesAlone a old → is_due_in old a ≡ false → uncollected old.calls.object.tickets < old.calls.object.capacity → waits ≡ true
   pub alone : waits ≡ true → ArrivesAlone a old
   pub stays : waits ≡ true → is_due_in old a ≡ false
   pub through : waits ≡ true → WaitsBetween a step old new

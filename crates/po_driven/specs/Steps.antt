@@ -28,7 +28,7 @@ pub record Issues (a : Arriving ℕ) (barrier : Barrier) (step : NamedCall) (old
   pub setup : KeepsSetup old new
   pub accepted : MayIssue old a.entry → action ≢ Refused
   pub refused : (MayIssue old a.entry → ⊥) → action ≡ Refused
-  pub room : uncollected old.calls.object.tickets < old.calls.object.most → action ≢ NoMemory
+  pub room : uncollected old.calls.object.tickets < old.calls.object.capacity → action ≢ NoMemory
   pub fresh : Fresh action new
   pub noted : Notes (issued action a barrier old) old new
   pub names : NamesCaller action a barrier step old

@@ -56,13 +56,13 @@ fn finish(state: &mut State<ClientUnit>, call: Call<u64>, end: End<u64>)
       state = end_call state.old.state call end;
       serving = None;
       tickets = state.new.tickets;
-      most = state.new.most;
+      capacity = state.new.capacity;
       before = length state.old.state.ended + 1;
     } }
     ensures placed { IsThereOnce state.old → IsThereOnce state.new }
     ensures tickets { HasTickets state.old → HasTickets state.new }
     ensures room { KeepsRoom state.old state.new }
-    ensures kept_room { uncollected state.old.tickets < state.old.most → state.new.most ≡ state.old.most }
+    ensures kept_room { uncollected state.old.tickets < state.old.capacity → state.new.capacity ≡ state.old.capacity }
     ensures tickets_kept { KeepsTickets state.old state.new }
 {
     state.end_collected(call, end);
@@ -77,7 +77,7 @@ fn withdraw(state: &mut State<ClientUnit>, ticket: Ticket)
       state = cancel state.old.state ticket.number (find (has_number ticket.number) state.old.state.waiting);
       places = state.new.places;
       tickets = state.new.tickets;
-      most = state.new.most;
+      capacity = state.new.capacity;
     } }
     ensures unit { state.new.state.unit ≡ state.old.state.unit }
     ensures kept { (k : ℕ) → All (λ j. j < k) state.old.places → All (λ j. j < k) state.new.places }
@@ -85,7 +85,7 @@ fn withdraw(state: &mut State<ClientUnit>, ticket: Ticket)
     ensures placed { IsThereOnce state.old → IsThereOnce state.new }
     ensures tickets { HasTickets state.old → HasTickets state.new }
     ensures room { KeepsRoom state.old state.new }
-    ensures kept_room { uncollected state.old.tickets < state.old.most → state.new.most ≡ state.old.most }
+    ensures kept_room { uncollected state.old.tickets < state.old.capacity → state.new.capacity ≡ state.old.capacity }
     ensures tickets_kept { KeepsTickets state.old state.new }
 {
     state.cancel(ticket);
@@ -162,14 +162,14 @@ impl DrivenCalls {
     pub fn make_room(&mut self) -> Result<(), AllocError>
         ensures same { self.new ≡ record self.old {
           object = record self.old.object {
-            most = self.new.object.most;
+            capacity = self.new.object.capacity;
             before = self.new.object.before;
           };
         } }
-        ensures room { OnOk result (uncollected self.new.object.tickets < self.new.object.most) }
+        ensures room { OnOk result (uncollected self.new.object.tickets < self.new.object.capacity) }
         ensures begun { OnOk result (self.new.object.before ≡ length self.new.object.state.ended) }
         ensures err { OnErr result (self.new ≡ self.old) }
-        ensures had_room { uncollected self.old.object.tickets < self.old.object.most → IsOk result × (self.new.object.most ≡ self.old.object.most) }
+        ensures had_room { uncollected self.old.object.tickets < self.old.object.capacity → IsOk result × (self.new.object.capacity ≡ self.old.object.capacity) }
         ensures room_kept { KeepsRoom self.old.object self.new.object }
         ensures tickets_kept { KeepsTickets self.old.object self.new.object }
     {
@@ -323,7 +323,7 @@ impl DrivenCalls {
         ensures serving { self.new.object.serving ≡ result }
         ensures happened { self.new.happened ≡ self.old.happened ++ Selected e ∷ [] }
         ensures room_kept { KeepsRoom self.old.object self.new.object }
-        ensures kept_room { uncollected self.old.object.tickets < self.old.object.most → self.new.object.most ≡ self.old.object.most }
+        ensures kept_room { uncollected self.old.object.tickets < self.old.object.capacity → self.new.object.capacity ≡ self.old.object.capacity }
         ensures tickets_kept { KeepsTickets self.old.object self.new.object }
     {
         let call = self.state.take_on(e);
@@ -340,7 +340,7 @@ impl DrivenCalls {
         ensures serving { self.new.object.serving ≡ None }
         ensures happened { self.new.happened ≡ self.old.happened ++ Ended end ∷ [] }
         ensures room_kept { KeepsRoom self.old.object self.new.object }
-        ensures kept_room { uncollected self.old.object.tickets < self.old.object.most → self.new.object.most ≡ self.old.object.most }
+        ensures kept_room { uncollected self.old.object.tickets < self.old.object.capacity → self.new.object.capacity ≡ self.old.object.capacity }
         ensures tickets_kept { KeepsTickets self.old.object self.new.object }
     {
         finish(&mut self.state, call, end);
@@ -356,7 +356,7 @@ impl DrivenCalls {
         ensures serving { self.new.object.serving ≡ None }
         ensures happened { self.new.happened ≡ self.old.happened ++ RequeuedElsewhere ∷ [] }
         ensures room_kept { KeepsRoom self.old.object self.new.object }
-        ensures kept_room { uncollected self.old.object.tickets < self.old.object.most → self.new.object.most ≡ self.old.object.most }
+        ensures kept_room { uncollected self.old.object.tickets < self.old.object.capacity → self.new.object.capacity ≡ self.old.object.capacity }
         ensures tickets_kept { KeepsTickets self.old.object self.new.object }
     {
         finish(&mut self.state, call, End::Completed(call.value));
@@ -400,7 +400,7 @@ impl DrivenCalls {
         ensures live { IfSome result (λ ticket. is_live self.new.object.tickets ticket ≡ true) }
         ensures full { IfNone result (is_full longest (count_by (is_on target) self.old.object.state.waiting) ≡ true) }
         ensures room_kept { KeepsRoom self.old.object self.new.object }
-        ensures kept_room { uncollected self.old.object.tickets < self.old.object.most → self.new.object.most ≡ self.old.object.most }
+        ensures kept_room { uncollected self.old.object.tickets < self.old.object.capacity → self.new.object.capacity ≡ self.old.object.capacity }
         ensures tickets_kept { KeepsTickets self.old.object self.new.object }
     {
         let queueing = Queueing {
@@ -443,7 +443,7 @@ impl DrivenCalls {
         ensures live { IfSome result (λ ticket. is_live self.new.object.tickets ticket ≡ true) }
         ensures full { IfNone result (is_full longest (count_by (is_on requeue.target) self.old.object.state.waiting) ≡ true) }
         ensures room_kept { KeepsRoom self.old.object self.new.object }
-        ensures kept_room { uncollected self.old.object.tickets < self.old.object.most → self.new.object.most ≡ self.old.object.most }
+        ensures kept_room { uncollected self.old.object.tickets < self.old.object.capacity → self.new.object.capacity ≡ self.old.object.capacity }
         ensures tickets_kept { KeepsTickets self.old.object self.new.object }
     {
         let moved = if requeue.due {
@@ -463,7 +463,7 @@ impl DrivenCalls {
         ensures none { IfNone result (self.new ≡ self.old) }
         ensures happened { self.new.happened ≡ self.old.happened ++ cancellation_of result }
         ensures room_kept { KeepsRoom self.old.object self.new.object }
-        ensures kept_room { uncollected self.old.object.tickets < self.old.object.most → self.new.object.most ≡ self.old.object.most }
+        ensures kept_room { uncollected self.old.object.tickets < self.old.object.capacity → self.new.object.capacity ≡ self.old.object.capacity }
         ensures tickets_kept { KeepsTickets self.old.object self.new.object }
     {
         let ticket = self.state.first_due()?;
@@ -483,7 +483,7 @@ impl DrivenCalls {
         ensures happened { IfSome result (λ _. self.new.happened ≡ self.old.happened ++ Broken ∷ []) }
         ensures same { IfNone result (self.new.happened ≡ self.old.happened) }
         ensures room_kept { KeepsRoom self.old.object self.new.object }
-        ensures kept_room { uncollected self.old.object.tickets < self.old.object.most → self.new.object.most ≡ self.old.object.most }
+        ensures kept_room { uncollected self.old.object.tickets < self.old.object.capacity → self.new.object.capacity ≡ self.old.object.capacity }
         ensures tickets_kept { KeepsTickets self.old.object self.new.object }
     {
         let call = self.state.take_oldest()?;
@@ -502,7 +502,7 @@ impl DrivenCalls {
         ensures serving { self.new.object.serving ≡ None }
         ensures happened { self.new.happened ≡ self.old.happened ++ Cancelled ticket.number ∷ [] }
         ensures room_kept { KeepsRoom self.old.object self.new.object }
-        ensures kept_room { uncollected self.old.object.tickets < self.old.object.most → self.new.object.most ≡ self.old.object.most }
+        ensures kept_room { uncollected self.old.object.tickets < self.old.object.capacity → self.new.object.capacity ≡ self.old.object.capacity }
         ensures tickets_kept { KeepsTickets self.old.object self.new.object }
     {
         withdraw(&mut self.state, ticket);
@@ -521,7 +521,7 @@ impl DrivenCalls {
         ensures happened { self.new.happened ≡ self.old.happened ++ Marked ticket.number ∷ [] }
         ensures rests { (closed : List ℕ) → IsAtRest self.old.object closed → IsAtRest self.new.object closed }
         ensures room_kept { KeepsRoom self.old.object self.new.object }
-        ensures kept_room { uncollected self.old.object.tickets < self.old.object.most → self.new.object.most ≡ self.old.object.most }
+        ensures kept_room { uncollected self.old.object.tickets < self.old.object.capacity → self.new.object.capacity ≡ self.old.object.capacity }
         ensures tickets_kept { KeepsTickets self.old.object self.new.object }
     {
         self.state.attempt_cancel(ticket);

@@ -84,15 +84,15 @@ impl DrivenObject {
         at_rest(alloc, calls, entries)
     }
 
-    /// Like `new`, but takes all its memory at once, for up to `most` calls that are queued or in service.
+    /// Like `new`, but takes all its memory at once, for up to `capacity` calls that are queued or in service.
     pub fn with_capacity(
         alloc: Global,
         entries: u16,
-        most: usize,
+        capacity: usize,
     ) -> Result<DrivenObject, AllocError>
-        ensures { IfOk result (λ d. d ≡ at_opening (opening_calls entries most true) entries) }
+        ensures { IfOk result (λ d. d ≡ at_opening (opening_calls entries capacity true) entries) }
     {
-        let calls = DrivenCalls::with_capacity(alloc, entries, most)?;
+        let calls = DrivenCalls::with_capacity(alloc, entries, capacity)?;
         at_rest(alloc, calls, entries)
     }
 

@@ -21,7 +21,7 @@ module _ {V : Type 0} (first next : ℕ) (serving : Option ℕ) (most : ℕ) (fi
     next = next;
     total = queues.total;
     clock = queues.clock;
-    most = most;
+    capacity = most;
     is_fixed = fixed;
   }
 

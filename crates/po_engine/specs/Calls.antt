@@ -37,7 +37,7 @@ pub record CallsView (V : Type 0) : Type 0 where
   pub total : ℕ
   pub clock : ℕ
   -- how many calls may be uncollected with the memory taken so far
-  pub most : ℕ
+  pub capacity : ℕ
   -- whether that never changes
   pub is_fixed : Bool
 

@@ -26,7 +26,7 @@ pub record StateView (S V : Type 0) : Type 0 where
   pub keys : List ℕ
   pub first : ℕ
   -- how many calls may be uncollected with the memory taken so far, and whether that never changes
-  pub most : ℕ
+  pub capacity : ℕ
   pub is_fixed : Bool
   -- how many calls had ended before the command began
   pub before : ℕ

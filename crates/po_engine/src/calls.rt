@@ -42,8 +42,8 @@ pub struct Calls<V: Copy> {
     /// The key of the call in service.
     serving: Option<usize>,
     /// How many calls may be uncollected at once.
-    most: usize,
-    /// Whether `most` never changes.
+    capacity: usize,
+    /// Whether `capacity` never changes.
     is_fixed: bool,
 }
 
@@ -66,11 +66,11 @@ impl<V: Copy> Model for Calls<V> {
       next = c.next;
       total = c.queues.total;
       clock = c.queues.clock;
-      most = c.most;
+      capacity = c.capacity;
       is_fixed = c.is_fixed;
     } };
 
-    ghost invariant = { λ c. KeepsCalls c.table c.queues c.keys.items c.ended.items c.before.items c.ended_now c.first c.next c.serving c.most c.is_fixed };
+    ghost invariant = { λ c. KeepsCalls c.table c.queues c.keys.items c.ended.items c.before.items c.ended_now c.first c.next c.serving c.capacity c.is_fixed };
 }
 
 /// Returns when a call expires, if it does. One that is queued by a requeue without abort doesn't (9.5.4, 9.7.2).
@@ -97,12 +97,12 @@ fn reserve_below(queues: &mut EntryQueues, keys: usize) -> Result<(), AllocError
 
 /// Returns how many calls there is room for after one has left the table: as many as before, if each key that the table may give can
 /// be queued, and otherwise those that are left.
-fn room_left<V: Copy>(most: usize, table: &Table<V>, queues: &EntryQueues) -> usize
-    ensures all { table.now.calls.capacity ≤ queues.now.reserved → result ≡ most }
+fn room_left<V: Copy>(capacity: usize, table: &Table<V>, queues: &EntryQueues) -> usize
+    ensures all { table.now.calls.capacity ≤ queues.now.reserved → result ≡ capacity }
     ensures none { queues.now.reserved < table.now.calls.capacity → result ≡ slab_len table.now.calls }
 {
     if table.capacity() <= queues.reserved() {
-        most
+        capacity
     } else {
         table.len()
     }
@@ -135,7 +135,7 @@ impl<V: Copy> Calls<V> {
           next = first;
           total = total;
           clock = 0;
-          most = 0;
+          capacity = 0;
           is_fixed = false;
         }) }
     {
@@ -149,17 +149,17 @@ impl<V: Copy> Calls<V> {
             first,
             next: first,
             serving: None,
-            most: 0,
+            capacity: 0,
             is_fixed: false,
         })
     }
 
-    /// Like `new`, but with all memory for `most` uncollected calls at once.
+    /// Like `new`, but with all memory for `capacity` uncollected calls at once.
     pub fn with_capacity(
         alloc: Global,
         total: u16,
         first: u64,
-        most: usize,
+        capacity: usize,
     ) -> Result<Calls<V>, AllocError>
         ensures { IfOk result (λ c. c ≡ record {
           waiting = [];
@@ -173,11 +173,11 @@ impl<V: Copy> Calls<V> {
           next = first;
           total = total;
           clock = 0;
-          most = most;
+          capacity = capacity;
           is_fixed = true;
         }) }
     {
-        let table = Table::with_capacity(alloc, most)?;
+        let table = Table::with_capacity(alloc, capacity)?;
         let mut queues = EntryQueues::new(alloc, total)?;
         reserve_below(&mut queues, table.capacity())?;
         Ok(Calls {
@@ -186,11 +186,11 @@ impl<V: Copy> Calls<V> {
             keys: Trace::new(),
             ended: Trace::new(),
             before: Trace::new(),
-            ended_now: Vec::with_capacity(alloc, most)?,
+            ended_now: Vec::with_capacity(alloc, capacity)?,
             first,
             next: first,
             serving: None,
-            most,
+            capacity,
             is_fixed: true,
         })
     }
@@ -199,7 +199,7 @@ impl<V: Copy> Calls<V> {
     pub fn copy(&self) -> Result<Calls<V>, AllocError>
         ensures { IfOk result (λ copy. copy ≡ self.now) }
     {
-        let table = self.table.copy(self.most)?;
+        let table = self.table.copy(self.capacity)?;
         let mut queues = self.queues.copy()?;
         reserve_below(&mut queues, table.capacity())?;
         Ok(Calls {
@@ -212,7 +212,7 @@ impl<V: Copy> Calls<V> {
             first: self.first,
             next: self.next,
             serving: self.serving,
-            most: self.most,
+            capacity: self.capacity,
             is_fixed: self.is_fixed,
         })
     }
@@ -220,20 +220,20 @@ impl<V: Copy> Calls<V> {
     /// Makes room for one more call if there is none. A call that is collected while there is room leaves its own to another.
     pub fn reserve(&mut self) -> Result<(), AllocError>
         requires { self.old.is_fixed ≡ false }
-        ensures same { self.new ≡ record self.old { most = self.new.most } }
-        ensures ok { OnOk result (uncollected self.new.tickets < self.new.most) }
+        ensures same { self.new ≡ record self.old { capacity = self.new.capacity } }
+        ensures ok { OnOk result (uncollected self.new.tickets < self.new.capacity) }
         ensures err { OnErr result (self.new ≡ self.old) }
-        ensures had_room { uncollected self.old.tickets < self.old.most → IsOk result × (self.new ≡ self.old) }
+        ensures had_room { uncollected self.old.tickets < self.old.capacity → IsOk result × (self.new ≡ self.old) }
     {
         if self.has_room() {
             return Ok(());
         }
         self.table.reserve_one()?;
         reserve_below(&mut self.queues, self.table.capacity())?;
-        let most = self.table.len().checked_add(1).ok_or(AllocError)?;
-        let more = most.saturating_sub(self.ended_now.len());
+        let capacity = self.table.len().checked_add(1).ok_or(AllocError)?;
+        let more = capacity.saturating_sub(self.ended_now.len());
         self.ended_now.reserve(more)?;
-        self.most = most;
+        self.capacity = capacity;
         Ok(())
     }
 
@@ -245,13 +245,13 @@ impl<V: Copy> Calls<V> {
         self.ended_now.clear();
     }
 
-    /// Recalls for proofs what always holds: waiting calls are uncollected; no more than `most` calls are uncollected; each
+    /// Recalls for proofs what always holds: waiting calls are uncollected; no more than `capacity` calls are uncollected; each
     /// accepted call waits, is in service or has ended; the number of a waiting call leads to its ticket, and that of a ticket to
     /// the ticket's key.
     pub fn recall_invariant(&self)
         ensures sound { AreCallsSound self.now }
         ensures waiting { length self.now.waiting ≤ uncollected self.now.tickets }
-        ensures most { uncollected self.now.tickets ≤ self.now.most }
+        ensures capacity { uncollected self.now.tickets ≤ self.now.capacity }
         ensures each { self.now.serving ≡ None → length self.now.ended + length self.now.waiting ≡ length self.now.keys }
         ensures tickets { (n : ℕ) (x : Call V) → find (has_number n) self.now.waiting ≡ Some x
             → HasTicket self.now.first self.now.keys self.now.tickets n }

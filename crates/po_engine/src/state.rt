@@ -58,7 +58,7 @@ impl<U: Unit> Model for State<U> {
       tickets = s.calls.tickets;
       keys = s.calls.keys;
       first = s.calls.first;
-      most = s.calls.most;
+      capacity = s.calls.capacity;
       is_fixed = s.calls.is_fixed;
       before = s.calls.ended_before;
     } };
@@ -93,7 +93,7 @@ fn opened<U: Unit>(unit: U, calls: Calls<U::Value>) -> State<U>
       tickets = calls.tickets;
       keys = calls.keys;
       first = calls.first;
-      most = calls.most;
+      capacity = calls.capacity;
       is_fixed = calls.is_fixed;
       before = calls.ended_before;
     } }
@@ -116,7 +116,7 @@ impl<U: Unit + Drop> State<U> {
           tickets = [];
           keys = [];
           first = first_number;
-          most = 0;
+          capacity = 0;
           is_fixed = false;
           before = 0;
         }) }
@@ -125,12 +125,12 @@ impl<U: Unit + Drop> State<U> {
         Ok(opened(unit, calls))
     }
 
-    /// Like `new`, but takes all memory for up to `most` uncollected calls.
+    /// Like `new`, but takes all memory for up to `capacity` uncollected calls.
     pub fn with_capacity(
         alloc: Global,
         unit: U,
         first_number: u64,
-        most: usize,
+        capacity: usize,
     ) -> Result<State<U>, AllocError>
         ensures { IfOk result (λ d. d ≡ record {
           state = opening_state unit first_number;
@@ -139,12 +139,12 @@ impl<U: Unit + Drop> State<U> {
           tickets = [];
           keys = [];
           first = first_number;
-          most = most;
+          capacity = capacity;
           is_fixed = true;
           before = 0;
         }) }
     {
-        let calls = Calls::with_capacity(alloc, unit.entries(), first_number, most)?;
+        let calls = Calls::with_capacity(alloc, unit.entries(), first_number, capacity)?;
         Ok(opened(unit, calls))
     }
 }
@@ -167,10 +167,10 @@ impl<U: Unit> State<U> {
     /// Makes room for one more call if there is none.
     pub fn reserve(&mut self) -> Result<(), AllocError>
         requires { self.old.is_fixed ≡ false }
-        ensures same { self.new ≡ record self.old { most = self.new.most } }
-        ensures ok { OnOk result (uncollected self.new.tickets < self.new.most) }
+        ensures same { self.new ≡ record self.old { capacity = self.new.capacity } }
+        ensures ok { OnOk result (uncollected self.new.tickets < self.new.capacity) }
         ensures err { OnErr result (self.new ≡ self.old) }
-        ensures had_room { uncollected self.old.tickets < self.old.most → IsOk result × (self.new ≡ self.old) }
+        ensures had_room { uncollected self.old.tickets < self.old.capacity → IsOk result × (self.new ≡ self.old) }
     {
         self.calls.reserve()
     }

@@ -1,7 +1,6 @@
 -- SPDX-License-Identifier: MIT
 -- What an order of the callers' commands does to the objects of a scene.
-use Rattle.std.specs.Prelude.{ℕ, suc, ◌≡◌, ◌<◌, List, [], ◌∷◌, map, length, replicate, All, Option, Some, None, Bool, true, false, ◌||◌, is_some, string_bytes, vec_len, find, slice_get, slice_index, slice_set, if◌then◌else◌}
-use Rattle.po_unit.specs.declared.decl.Decl.{Decl}
+use Rattle.std.specs.Prelude.{ℕ, suc, ◌≡◌, ◌<◌, List, [], ◌∷◌, map, length, replicate, All, Option, Some, None, Bool, true, false, ◌||◌, is_some, option_map, string_bytes, vec_len, find, slice_get, slice_index, slice_set, if◌then◌else◌}
 use Rattle.po_engine.specs.WaitingCalls.{is_of}
 use Rattle.po_core.specs.View.{View, opening_view}
 use Rattle.po_ada_unit.specs.Object.{Object as AdaObject, ada_meaning}
@@ -9,6 +8,7 @@ use Rattle.po_ada_unit.specs.declared.values.Values.{Values}
 use Rattle.po_ada_language.specs.declared.operation.Operation.{Operation}
 use Rattle.po_ada_language.specs.declared.operation.Operation.TheVariants.{Tick as TickOperation}
 use Rattle.po_ada_script.specs.Preconditions.{least}
+use Rattle.po_ada_script.specs.Shapes.{declaration}
 use Rattle.po_ada_names.specs.declared.names.Operation.{Operation as NamedOperation}
 use Rattle.po_scene.specs.declared.scene.Scene.{Scene}
 use Rattle.po_scene.specs.declared.scene.SceneObject.{SceneObject}
@@ -42,17 +42,17 @@ views_of stage = map (λ o. o.core.object) stage.objects.items
 abbrev pub stage_of : Stage → StageView
 stage_of stage = record { views = views_of stage; made = stage.made.items }
 
--- The object was just made: it has the data with which the text begins, no call, and the service order and the limit of queues that
--- the scene and the text say.
+-- The object was just made: it has the data with which the text begins, the text's entries, no call, and the service order and the
+-- limit of queues that the scene and the text say.
 abbrev pub IsOpening : SceneObject → ObjectView → Type 0
-IsOpening named view = (shape : List Decl) × (view ≡ opening_view (record {
+IsOpening named view = view ≡ opening_view (record {
   opening = named.unit;
-  shape = shape;
+  shape = map declaration named.names.entries.items;
   order = named.order;
   max_queue = least named.names.max_queue named.max_queue;
   first_number = 1;
   first_place = 0;
-}))
+})
 
 -- Each object was just made.
 abbrev pub AreOpening : List SceneObject → List ObjectView → Type 0
@@ -71,6 +71,17 @@ abbrev pub waits : List ObjectView → ℕ → Bool
 waits [] caller = false
 waits (view ∷ views) caller = is_some (find (is_of caller) view.state.waiting) || waits views caller
 
+-- the first number of two, if there is one
+abbrev pub first_of : Option ℕ → Option ℕ → Option ℕ
+first_of None other = other
+first_of (Some number) other = Some number
+
+-- the number of the waiting call of this caller, if one waits
+abbrev pub number_in : List ObjectView → ℕ → Option ℕ
+number_in [] caller = None
+number_in (view ∷ views) caller =
+    first_of (option_map (λ x. x.number) (find (is_of caller) view.state.waiting)) (number_in views caller)
+
 -- the command of a caller, if there is the caller, with this position
 abbrev pub command_of : Option Caller → ℕ → Option Command
 command_of None position = None
@@ -79,6 +90,11 @@ command_of (Some caller) position = slice_get caller.commands.items position
 -- the command with this position among those of the caller with this one
 abbrev pub command_at : Scene → ℕ → ℕ → Option Command
 command_at scene caller position = command_of (slice_get scene.callers.items caller) position
+
+-- the latest command of a caller that has made this many
+abbrev pub latest_at : Scene → ℕ → ℕ → Option Command
+latest_at scene caller 0 = None
+latest_at scene caller (suc position) = command_at scene caller position
 
 -- the next command of a caller: none while its call waits
 abbrev pub next_of : Scene → StageView → ℕ → Option Command

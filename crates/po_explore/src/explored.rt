@@ -2,9 +2,14 @@
 //! What a search found.
 
 use crate::finding::{Finding, Found, Kind};
+use crate::invariants::broken_invariants;
+use crate::news::{News, answers_in, found_in};
 use crate::stage::Stage;
 use po_scene::Scene;
 use std::alloc::{AllocError, Global};
+
+/// Of a command at most this many answers are told.
+const MOST_ANSWERS: usize = 8;
 
 /// A situation as it was first reached: from which one of the layer before, and by whose command.
 #[derive(Clone, Copy, Debug)]
@@ -47,11 +52,17 @@ pub struct Explored {
     pub stuck: u64,
     /// Whether the search looked at all situations.
     pub is_complete: bool,
+    /// Whether answers are noted.
+    answers: bool,
 }
 
 impl Explored {
     /// Nothing has been looked at.
-    pub(crate) fn new(alloc: Global, scene: &Scene) -> Result<Explored, AllocError> {
+    pub(crate) fn new(
+        alloc: Global,
+        scene: &Scene,
+        answers: bool,
+    ) -> Result<Explored, AllocError> {
         Ok(Explored {
             layers: Vec::new(alloc),
             findings: Vec::new(alloc),
@@ -63,11 +74,12 @@ impl Explored {
             ends: 0,
             stuck: 0,
             is_complete: false,
+            answers,
         })
     }
 
     /// Notes what was found at this place, or after this caller's next command, unless the same was found before.
-    pub(crate) fn note(
+    fn note(
         &mut self,
         found: Found,
         place: Place,
@@ -85,11 +97,102 @@ impl Explored {
         Ok(())
     }
 
+    /// Returns how many answers to the command of this line are noted.
+    fn answers_of(&self, line: Option<usize>) -> usize {
+        let mut count = 0usize;
+        for finding in self.findings.iter() {
+            if finding.found.line == line && finding.found.kind.is_answer() {
+                count = count.saturating_add(1);
+            }
+        }
+        count
+    }
+
+    /// Notes an answer, unless it or many others to the same command were noted before.
+    fn note_answer(
+        &mut self,
+        found: Found,
+        place: Place,
+        caller: Option<u16>,
+    ) -> Result<(), AllocError> {
+        if self.answers_of(found.line) < MOST_ANSWERS {
+            self.note(found, place, caller)?;
+        }
+        Ok(())
+    }
+
+    /// Returns whether this is told: an answer only if the same command has another one.
+    pub(crate) fn is_told(&self, found: Found) -> bool {
+        !found.kind.is_answer() || self.answers_of(found.line) > 1
+    }
+
     /// Notes that a call of this line was completed.
-    pub(crate) fn note_completed(&mut self, line: usize) {
+    fn note_completed(&mut self, line: usize) {
         if let Some(count) = self.completed.get_mut(line) {
             *count = count.saturating_add(1);
         }
+    }
+
+    /// Notes what is wrong in a stage, to which the caller's next command leads from the place.
+    fn note_found(
+        &mut self,
+        alloc: Global,
+        scene: &Scene,
+        stage: &Stage,
+        news: &[News],
+        place: Place,
+        caller: Option<u16>,
+    ) -> Result<(), AllocError> {
+        let mut list = Vec::new(alloc);
+        found_in(scene, stage, news, &mut list)?;
+        broken_invariants(scene, stage, &mut list)?;
+        for found in list.iter() {
+            self.note(*found, place, caller)?;
+        }
+        Ok(())
+    }
+
+    /// Notes how the commands of this news are answered, if that is asked for.
+    fn note_answers(
+        &mut self,
+        alloc: Global,
+        scene: &Scene,
+        stage: &Stage,
+        news: &[News],
+        place: Place,
+        caller: Option<u16>,
+    ) -> Result<(), AllocError> {
+        if !self.answers {
+            return Ok(());
+        }
+        let mut list = Vec::new(alloc);
+        answers_in(scene, stage, news, &mut list)?;
+        for found in list.iter() {
+            self.note_answer(*found, place, caller)?;
+        }
+        Ok(())
+    }
+
+    /// Notes what this news tells of a stage, to which the caller's next command leads from the place.
+    pub(crate) fn note_news(
+        &mut self,
+        alloc: Global,
+        scene: &Scene,
+        stage: &Stage,
+        news: &[News],
+        place: Place,
+        caller: Option<u16>,
+    ) -> Result<(), AllocError> {
+        self.note_found(alloc, scene, stage, news, place, caller)?;
+        self.note_answers(alloc, scene, stage, news, place, caller)?;
+        for told in news {
+            if told.event.is_completed()
+                && let Some(line) = stage.line_of(scene, told.caller)
+            {
+                self.note_completed(line);
+            }
+        }
+        Ok(())
     }
 
     /// Notes a stage in which no caller can make a command.
@@ -110,6 +213,11 @@ impl Explored {
             line: None,
         };
         self.note(found, place, None)
+    }
+
+    /// Returns how many commands lead to the situations that were looked at last.
+    pub fn depth(&self) -> usize {
+        self.layers.len().saturating_sub(1)
     }
 
     /// Returns how many things were found.

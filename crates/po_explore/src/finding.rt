@@ -1,6 +1,7 @@
 // SPDX-License-Identifier: MIT
 //! What is found.
 
+use po_ada_unit::Values;
 use po_core::Refusal;
 
 /// What can be found in a scene.
@@ -16,13 +17,27 @@ pub enum Kind {
     Refused(Refusal),
     /// The function Invariant of this object, by their positions, is False, or raises an exception.
     Invariant { object: u16, function: u16 },
+    /// A caller's call or operation is completed with these values, and there is another answer after another order.
+    Completed(Values),
+    /// A caller's call is cancelled, and there is another answer after another order.
+    Cancelled,
+}
+
+impl Kind {
+    /// Returns whether this is an answer, with which nothing is wrong.
+    pub(crate) fn is_answer(&self) -> bool {
+        match self {
+            Kind::Completed(_) | Kind::Cancelled => true,
+            _ => false,
+        }
+    }
 }
 
 /// What was found.
 #[derive(Clone, Copy, Debug, PartialEq, Eq)]
 pub struct Found {
     pub kind: Kind,
-    /// The line of the command that ends so, for an exception and Program_Error.
+    /// The line of the command, for all that happens to one.
     pub line: Option<usize>,
 }
 
@@ -36,4 +51,14 @@ pub(crate) struct Finding {
     /// Its position among those of the layer.
     pub(crate) node: usize,
     pub(crate) caller: Option<u16>,
+}
+
+impl Finding {
+    /// Returns how many commands lead to what was found.
+    pub(crate) fn commands(&self) -> usize {
+        match self.caller {
+            Some(_) => self.layer.saturating_add(1),
+            None => self.layer,
+        }
+    }
 }

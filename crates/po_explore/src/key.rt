@@ -2,7 +2,7 @@
 //! What tells the states of an object apart.
 
 use po_ada_unit::{AdaUnit, Values};
-use po_core::{BoundedCore, Call, Deadline};
+use po_core::{Arrival, BoundedCore, Call, Deadline};
 use po_queues::Order;
 use std::alloc::{AllocError, Global};
 
@@ -33,11 +33,35 @@ fn push_call(key: &mut Vec<i128>, call: &Call<Values>) -> Result<(), AllocError>
     key.extend_from_slice(&call.value.cells)
 }
 
-/// Adds the queued calls. With `Oldest`, the order of arrival over all entries matters; else only that of each queue does.
+/// Adds the calls of each queue, in order of arrival.
+fn push_queues(
+    key: &mut Vec<i128>,
+    mut arrivals: Vec<Arrival<Values>>,
+) -> Result<(), AllocError> {
+    arrivals.sort_by_key(|arrival| arrival.call.entry)?;
+    for arrival in arrivals.iter() {
+        push_call(key, &arrival.call)?;
+    }
+    Ok(())
+}
+
+/// Adds the callers whose calls can expire, in order of arrival: so a tick cancels those that are due (9.7.2).
+fn push_expiring(key: &mut Vec<i128>, arrivals: &[Arrival<Values>]) -> Result<(), AllocError> {
+    for arrival in arrivals {
+        if arrival.call.deadline != Deadline::Never && !arrival.call.without_abort {
+            key.push(i128::from(arrival.call.owner))?;
+        }
+    }
+    Ok(())
+}
+
+/// Adds the queued calls. With `Oldest`, the order of arrival over all entries matters; else only that of each queue does, and that
+/// of the calls that can expire.
 fn push_calls(key: &mut Vec<i128>, core: &BoundedCore<AdaUnit>) -> Result<(), AllocError> {
-    let mut arrivals = core.arrivals()?;
+    let arrivals = core.arrivals()?;
     if core.order() != Order::Oldest {
-        arrivals.sort_by_key(|arrival| arrival.call.entry)?;
+        push_expiring(key, arrivals.as_slice())?;
+        return push_queues(key, arrivals);
     }
     for arrival in arrivals.iter() {
         push_call(key, &arrival.call)?;

@@ -9,6 +9,8 @@
 //! Begin with stage.rt, then states.rt and search.rt.
 #![tactic(auto)]
 
+mod answer;
+mod ending;
 mod explored;
 mod finding;
 mod invariants;
@@ -21,9 +23,10 @@ mod search;
 mod stage;
 mod states;
 mod walk;
+mod workspace;
 
 pub use crate::explored::Explored;
 pub use crate::finding::{Found, Kind};
 pub use crate::report::{Report, Verdict, report_of};
-pub use crate::search::{Limits, explore};
+pub use crate::search::{Limits, Search, explore, most_looks};
 pub use crate::walk::Walk;

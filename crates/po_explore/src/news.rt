@@ -50,6 +50,20 @@ impl Event {
         }
     }
 
+    /// Returns the answer that this is, if it is one with which nothing is wrong.
+    fn answer(&self) -> Option<Kind>
+        ensures { (scene : Scene) (stage : StageView) → IfSome result (λ kind. Shows scene stage kind) }
+    {
+        match self {
+            Event::Ended(End::Completed(values)) | Event::Replied(Ok(values)) => {
+                // How often the call could still be requeued is no part of its answer.
+                Some(Kind::Completed(Values::new(values.cells)))
+            }
+            Event::Ended(End::Cancelled) => Some(Kind::Cancelled),
+            _ => None,
+        }
+    }
+
     /// Returns whether a call was completed.
     pub(crate) fn is_completed(&self) -> bool {
         match self {
@@ -59,19 +73,21 @@ impl Event {
     }
 }
 
-/// Adds what this tells that is wrong, after the command that brought it about.
-fn push_told(
+/// Adds what a command of the caller is found to bring about, if something is.
+fn push_kind(
     scene: &Scene,
     stage: &Stage,
-    told: &News,
+    caller: u16,
+    kind: Option<Kind>,
     list: &mut Vec<Found>,
 ) -> Result<(), AllocError>
-    requires { AllShown scene.now (stage_of stage.now) list.old.items }
+    requires shown { IfSome kind (λ k. Shows scene.now (stage_of stage.now) k) }
+    requires all { AllShown scene.now (stage_of stage.now) list.old.items }
     ensures { OnOk result (AllShown scene.now (stage_of stage.now) list.new.items) }
 {
-    match told.event.kind() {
+    match kind {
         Some(kind) => {
-            let line = stage.line_of(scene, told.caller);
+            let line = stage.line_of(scene, caller);
             list.push(Found { kind, line })?;
             Ok(())
         }
@@ -90,7 +106,23 @@ pub(crate) fn found_in(
     ensures { OnOk result (AllShown scene.now (stage_of stage.now) list.new.items) }
 {
     for told in news {
-        push_told(scene, stage, told, list)?;
+        push_kind(scene, stage, told.caller, told.event.kind(), list)?;
+    }
+    Ok(())
+}
+
+/// Adds the answers that the news tells with which nothing is wrong, after the command that brought them about.
+pub(crate) fn answers_in(
+    scene: &Scene,
+    stage: &Stage,
+    news: &[News],
+    list: &mut Vec<Found>,
+) -> Result<(), AllocError>
+    requires { AllShown scene.now (stage_of stage.now) list.old.items }
+    ensures { OnOk result (AllShown scene.now (stage_of stage.now) list.new.items) }
+{
+    for told in news {
+        push_kind(scene, stage, told.caller, told.event.answer(), list)?;
     }
     Ok(())
 }

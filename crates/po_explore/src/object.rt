@@ -281,6 +281,13 @@ impl Object {
         }
     }
 
+    /// Returns the object's data.
+    pub(crate) fn cells(&self) -> &[i128]
+        ensures { result.now ≡ self.now.core.object.state.unit.cells.items }
+    {
+        self.core.unit().cells()
+    }
+
     /// Returns what tells this object apart from others with the same text.
     pub(crate) fn key(&self, alloc: Global) -> Result<Vec<i128>, AllocError> {
         key_of(alloc, &self.core)

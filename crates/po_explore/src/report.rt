@@ -4,14 +4,16 @@
 ghost use Rattle.std.specs.Prelude.{◌≡◌, IfOk, true};
 ghost use Rattle.po_explore.specs.Scenes.{verdict_by};
 
+use crate::answer::push_answer_to;
+use crate::ending::{push_ending, push_name};
 use crate::explored::Explored;
 use crate::finding::{Finding, Found, Kind};
+use crate::news::Event;
 use crate::script::{line_at, push_script};
-use crate::stage::{Stage, caller_count};
 use crate::walk::{Walk, confirmed};
 use po_ada_language::{Operation, Stop};
 use po_ada_script::push_exception;
-use po_scene::{Action, Caller, Command, Scene};
+use po_scene::{Action, Caller, Command, Scene, SceneObject};
 use std::alloc::{AllocError, Global};
 use std::fmt::Write;
 
@@ -34,18 +36,24 @@ pub struct Report {
     pub verdict: Verdict,
 }
 
-/// Returns the command with this line, if it is an operation, and its object.
-fn object_at(scene: &Scene, line: usize) -> Option<u16> {
+/// Returns the command with this line, if there is one.
+fn command_at(scene: &Scene, line: usize) -> Option<&Command> {
     for caller in scene.callers.iter() {
         for command in caller.commands.iter() {
-            if command.line == line
-                && let Action::Operate { object, .. } = command.action
-            {
-                return Some(object);
+            if command.line == line {
+                return Some(command);
             }
         }
     }
     None
+}
+
+/// Returns the object of an operation, if the command is one.
+fn object_of<'a>(scene: &'a Scene, command: &Command) -> Option<&'a SceneObject> {
+    match command.action {
+        Action::Operate { object, .. } => scene.objects.get(usize::from(object)),
+        _ => None,
+    }
 }
 
 /// Adds the exception that an operation of the line raises, by its name in the text of the operation's object.
@@ -55,17 +63,22 @@ fn push_raised(
     line: usize,
     exception: u32,
 ) -> Result<(), AllocError> {
-    match object_at(scene, line).and_then(|object| scene.objects.get(usize::from(object))) {
+    match command_at(scene, line).and_then(|command| object_of(scene, command)) {
         Some(object) => push_exception(text, &object.names, exception),
         None => Ok(()),
     }
 }
 
-/// Adds the name of an object, or `the object` if it has none.
-fn push_name(text: &mut String, scene: &Scene, object: u16) -> Result<(), AllocError> {
-    match scene.objects.get(usize::from(object)) {
-        Some(object) if !object.name.is_empty() => text.push_str(object.name.as_str()),
-        _ => text.push_str("the object"),
+/// Adds the answer to the command of the line.
+fn push_answer_at(
+    text: &mut String,
+    scene: &Scene,
+    line: usize,
+    event: Event,
+) -> Result<(), AllocError> {
+    match command_at(scene, line) {
+        Some(command) => push_answer_to(text, scene, command, event),
+        None => Ok(()),
     }
 }
 
@@ -81,26 +94,17 @@ fn push_kind(text: &mut String, scene: &Scene, found: Found) -> Result<(), Alloc
         }
         Kind::ProgramError => write!(text, "'{line}' ends by Program_Error"),
         Kind::Refused(refusal) => write!(text, "'{line}' is refused: {refusal}"),
+        Kind::Completed(values) => {
+            write!(text, "the answer of '{line}' depends on the order: ")?;
+            push_answer_at(text, scene, number, Event::Replied(Ok(values)))
+        }
+        Kind::Cancelled => write!(text, "the answer of '{line}' depends on the order: cancelled"),
         Kind::Invariant { object, .. } => {
             text.push_str("Invariant of ")?;
             push_name(text, scene, object)?;
             text.push_str(" doesn't hold")
         }
     }
-}
-
-/// Adds who waits at the end, and for what.
-fn push_waiting(text: &mut String, scene: &Scene, stage: &Stage) -> Result<(), AllocError> {
-    for position in 0..caller_count(scene) {
-        if stage.waits(position)
-            && let Some(line) = stage.line_of(scene, position)
-            && let Some(caller) = scene.callers.get(usize::from(position))
-        {
-            let (name, line) = (caller.name.as_str(), line_at(scene, line));
-            write!(text, "    # {name} waits: {line}\n")?;
-        }
-    }
-    Ok(())
 }
 
 /// Adds a finding that was carried out anew, with its script.
@@ -118,7 +122,7 @@ fn push_found(
         commands => write!(text, ", after {commands} commands:\n")?,
     }
     push_script(alloc, text, scene, order)?;
-    push_waiting(text, scene, &walk.stage)?;
+    push_ending(text, scene, found, &walk.stage)?;
     Ok(())
 }
 
@@ -193,7 +197,7 @@ fn push_findings(
 ) -> Result<bool, Stop> {
     let mut some = false;
     for finding in explored.findings.iter() {
-        if push_finding(alloc, text, scene, explored, finding)? {
+        if explored.is_told(finding.found) && push_finding(alloc, text, scene, explored, finding)? {
             some = true;
         }
     }

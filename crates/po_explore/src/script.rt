@@ -1,6 +1,8 @@
 // SPDX-License-Identifier: MIT
 //! Writes orders of commands as scripts.
 
+use crate::answer::{DONE, push_answer_to};
+use crate::news::News;
 use crate::walk::Walk;
 use po_ada_language::Stop;
 use po_scene::{Action, Command, Scene, SceneObject};
@@ -73,7 +75,58 @@ fn push_command(
     }
 }
 
-/// Adds the commands in this order, each after the name of its caller.
+/// Returns the answer to the latest command of a caller, which the last command brought about.
+fn answer_of(
+    alloc: Global,
+    scene: &Scene,
+    walk: &Walk,
+    told: &News,
+) -> Result<String, AllocError> {
+    let mut answer = String::new(alloc);
+    if let Some(command) = walk.stage.latest_of(scene, told.caller) {
+        push_answer_to(&mut answer, scene, &command, told.event)?;
+    }
+    Ok(answer)
+}
+
+/// Adds the answer to the last command, which this caller made, if it is more than that it was done.
+fn push_own(
+    alloc: Global,
+    text: &mut String,
+    scene: &Scene,
+    walk: &Walk,
+    caller: u16,
+) -> Result<(), AllocError> {
+    for told in walk.news() {
+        if told.caller == caller {
+            let answer = answer_of(alloc, scene, walk, told)?;
+            if answer.as_str() != DONE {
+                write!(text, "    # {answer}\n")?;
+            }
+        }
+    }
+    Ok(())
+}
+
+/// Adds how calls of other callers ended by the last command, which this caller made.
+fn push_others(
+    alloc: Global,
+    text: &mut String,
+    scene: &Scene,
+    walk: &Walk,
+    caller: u16,
+) -> Result<(), AllocError> {
+    for told in walk.news() {
+        if told.caller != caller {
+            let name = caller_name(scene, told.caller);
+            let answer = answer_of(alloc, scene, walk, told)?;
+            write!(text, "    # {name} goes on: {answer}\n")?;
+        }
+    }
+    Ok(())
+}
+
+/// Adds the commands in this order, each after the name of its caller, and what they bring about.
 fn push_commands(
     alloc: Global,
     text: &mut String,
@@ -91,6 +144,8 @@ fn push_commands(
             push_command(text, scene, &walk, command)?;
         }
         walk.step(scene, *caller)?;
+        push_own(alloc, text, scene, &walk, *caller)?;
+        push_others(alloc, text, scene, &walk, *caller)?;
     }
     Ok(())
 }

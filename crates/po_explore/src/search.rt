@@ -2,20 +2,22 @@
 //! Looks at every situation of a scene, layer by layer.
 
 use crate::explored::{Explored, Node, Place};
-use crate::invariants::broken_invariants;
-use crate::news::{News, found_in};
 use crate::stage::{Stage, caller_count};
 use crate::states::{Situation, States};
+use crate::workspace::Workspace;
 use indexmap::IndexMap;
 use po_ada_language::Stop;
-use po_scene::{Action, Scene};
+use po_scene::Scene;
 use std::alloc::{AllocError, Global};
+use std::mem;
 
-/// How far a search goes.
+/// What a search looks for, and how far it goes.
 #[derive(Clone, Copy, Debug)]
 pub struct Limits {
     /// It ends when it has met more situations than these.
     pub situations: usize,
+    /// Whether it notes how commands are answered.
+    pub answers: bool,
 }
 
 /// A situation of the next layer: how it was first reached, and how many orders lead to it.
@@ -24,6 +26,9 @@ struct Reached {
     node: Node,
     orders: u128,
 }
+
+/// At most this many situations are looked at in one go.
+const SOME: usize = 1_024;
 
 /// The place before the first command.
 const ROOT: Place = Place {
@@ -37,10 +42,20 @@ type Layer = IndexMap<Situation, Reached>;
 
 /// A search at work.
 #[derive(Drop)]
-struct Search {
+pub struct Search {
     alloc: Global,
+    limits: Limits,
     explored: Explored,
     states: States,
+    workspace: Workspace,
+    /// The situations that are looked at now.
+    layer: Layer,
+    /// How many of them have been looked at.
+    looked: usize,
+    /// The situations to which one command more leads.
+    following: Layer,
+    /// Whether there are more situations than the limit.
+    is_cut_off: bool,
 }
 
 /// Adds a situation to a layer, or the orders that lead to it.
@@ -58,9 +73,9 @@ fn add(layer: &mut Layer, situation: Situation, place: Place, caller: u16) -> Re
     Ok(())
 }
 
-/// Returns how many commands all callers have together.
-fn command_count(scene: &Scene) -> usize {
-    let mut count = 0usize;
+/// Returns how many layers there are at most: that of no command, one for each command of the callers, and one without a situation.
+fn layer_count(scene: &Scene) -> usize {
+    let mut count = 2usize;
     for caller in scene.callers.iter() {
         count = count.saturating_add(caller.commands.len());
     }
@@ -68,68 +83,95 @@ fn command_count(scene: &Scene) -> usize {
 }
 
 impl Search {
-    /// Returns a search that has looked at no situation.
-    fn new(alloc: Global, scene: &Scene) -> Result<Search, Stop> {
-        Ok(Search {
+    /// Returns a search that is about to look at the situation before the first command.
+    ///
+    /// Fails only if an object can't be made or memory runs out.
+    pub fn new(alloc: Global, scene: &Scene, limits: Limits) -> Result<Search, Stop> {
+        let mut search = Search {
             alloc,
-            explored: Explored::new(alloc, scene)?,
+            limits,
+            explored: Explored::new(alloc, scene, limits.answers)?,
             states: States::new(alloc, scene)?,
-        })
+            workspace: Workspace::new(alloc, Stage::new(alloc, scene)?)?,
+            layer: IndexMap::new(alloc),
+            looked: 0,
+            following: IndexMap::new(alloc),
+            is_cut_off: false,
+        };
+        search.begin(scene)?;
+        Ok(search)
     }
 
-    /// Notes what is wrong in a stage, to which the caller's next command leads from the place, and these news with it.
-    fn note_news(
-        &mut self,
-        scene: &Scene,
-        stage: &Stage,
-        news: &[News],
-        place: Place,
-        caller: Option<u16>,
-    ) -> Result<(), AllocError> {
-        let mut list = Vec::new(self.alloc);
-        found_in(scene, stage, news, &mut list)?;
-        broken_invariants(scene, stage, &mut list)?;
-        for found in list.iter() {
-            self.explored.note(*found, place, caller)?;
-        }
-        for told in news {
-            if told.event.is_completed()
-                && let Some(line) = stage.line_of(scene, told.caller)
-            {
-                self.explored.note_completed(line);
-            }
-        }
-        Ok(())
+    /// Returns how much has been looked at.
+    pub fn explored(&self) -> &Explored {
+        &self.explored
     }
 
-    /// Notes what is wrong before the first command, and returns the layer of that situation.
-    fn first_layer(&mut self, scene: &Scene) -> Result<Layer, Stop> {
-        let stage = Stage::new(self.alloc, scene)?;
-        self.note_news(scene, &stage, &[], ROOT, None)?;
-        let situation = self.states.situation_of(self.alloc, scene, &stage)?;
+    /// Returns what was found.
+    ///
+    /// Fails only if memory runs out.
+    pub fn finish(self) -> Result<Explored, AllocError> {
+        let mut explored = self.explored;
+        explored.states = self.states.count();
+        explored
+            .findings
+            .sort_by_key(|finding| finding.commands())?;
+        Ok(explored)
+    }
+
+    /// Notes what is wrong before the first command, and that this situation is looked at next.
+    fn begin(&mut self, scene: &Scene) -> Result<(), Stop> {
+        let stage = &self.workspace.stage;
+        self.explored
+            .note_news(self.alloc, scene, stage, &[], ROOT, None)?;
+        let states = &mut self.states;
+        let situation = self
+            .workspace
+            .first_situation(self.alloc, scene, states)?;
         let mut layer = IndexMap::new(self.alloc);
         add(&mut layer, situation, ROOT, 0)?;
-        Ok(layer)
+        Ok(self.turn_to(layer)?)
     }
 
-    /// Has a caller make this command, its next one, notes what is found, and returns the situation that follows.
+    /// Has a caller make its next command in this situation, if it can, notes what is found, and adds the situation that follows to
+    /// the next layer.
     fn follow(
         &mut self,
         scene: &Scene,
-        stage: &mut Stage,
         situation: &[u32],
         place: Place,
         caller: u16,
-        action: Action,
-    ) -> Result<Situation, Stop> {
-        let mut news = Vec::new(self.alloc);
-        stage.step(scene, caller, &mut news)?;
+        following: &mut Layer,
+    ) -> Result<(), Stop> {
+        let (alloc, states, work) = (self.alloc, &mut self.states, &mut self.workspace);
+        work.go_to(alloc, scene, states, situation)?;
+        let Some(command) = work.stage.next_of(scene, caller) else {
+            return Ok(());
+        };
+        let action = command.action;
+        let mut news = Vec::new(alloc);
+        work.step(scene, caller, action, &mut news)?;
+        let next = work.situation_after(alloc, scene, states, situation, caller, action)?;
         self.explored.moves = self.explored.moves.saturating_add(1);
-        self.note_news(scene, stage, news.as_slice(), place, Some(caller))?;
-        let states = &mut self.states;
-        let next = states.situation_after(self.alloc, scene, stage, situation, caller, action)?;
-        states.take_back(self.alloc, scene, stage, situation, caller, action)?;
-        Ok(next)
+        self.explored.note_news(
+            alloc,
+            scene,
+            &work.stage,
+            news.as_slice(),
+            place,
+            Some(caller),
+        )?;
+        add(following, next, place, caller)
+    }
+
+    /// Notes a situation in which no caller can make a command.
+    fn note_end(&mut self, scene: &Scene, situation: &[u32], place: Place) -> Result<(), Stop> {
+        let work = &mut self.workspace;
+        work.go_to(self.alloc, scene, &self.states, situation)?;
+        if work.stage.is_over(scene) {
+            self.explored.note_end(scene, &work.stage, place)?;
+        }
+        Ok(())
     }
 
     /// Looks at a situation: adds those that follow to the next layer.
@@ -140,78 +182,106 @@ impl Search {
         place: Place,
         following: &mut Layer,
     ) -> Result<(), Stop> {
-        let mut stage = self.states.stage_of(self.alloc, scene, situation)?;
-        if stage.is_over(scene) {
-            self.explored.note_end(scene, &stage, place)?;
-        }
+        self.note_end(scene, situation, place)?;
         for caller in 0..caller_count(scene) {
-            if let Some(command) = stage.next_of(scene, caller) {
-                let action = command.action;
-                let next = self.follow(scene, &mut stage, situation, place, caller, action)?;
-                add(following, next, place, caller)?;
+            self.follow(scene, situation, place, caller, following)?;
+        }
+        Ok(())
+    }
+
+    /// Returns whether there are more situations than the limit, with these of the next layer.
+    fn is_too_much(&self, following: &Layer) -> bool {
+        self.explored.situations.saturating_add(following.len()) > self.limits.situations
+    }
+
+    /// Looks at the situation with this position in the layer.
+    fn look_at_node(
+        &mut self,
+        scene: &Scene,
+        layer: &Layer,
+        node: usize,
+        following: &mut Layer,
+    ) -> Result<(), Stop> {
+        let Some((situation, reached)) = layer.get_index(node) else {
+            return Ok(());
+        };
+        let place = Place {
+            layer: self.explored.depth(),
+            node,
+            orders: reached.orders,
+        };
+        self.look_at(scene, situation.as_slice(), place, following)
+    }
+
+    /// Looks at some more situations of the layer.
+    fn look_at_some(
+        &mut self,
+        scene: &Scene,
+        layer: &Layer,
+        following: &mut Layer,
+    ) -> Result<(), Stop> {
+        let end = self.looked.saturating_add(SOME).min(layer.len());
+        for node in self.looked..end {
+            self.look_at_node(scene, layer, node, following)?;
+            self.looked = node.saturating_add(1);
+            self.is_cut_off = self.is_too_much(following);
+            if self.is_cut_off {
+                break;
             }
         }
         Ok(())
     }
 
-    /// Looks at the situations of a layer, and returns the next one; or nothing if there are too many situations.
-    fn look_at_layer(
-        &mut self,
-        scene: &Scene,
-        layer: &Layer,
-        number: usize,
-        limits: Limits,
-    ) -> Result<Option<Layer>, Stop> {
-        let mut following = IndexMap::new(self.alloc);
-        for (node, (situation, reached)) in layer.iter().enumerate() {
-            let place = Place {
-                layer: number,
-                node,
-                orders: reached.orders,
-            };
-            self.look_at(scene, situation.as_slice(), place, &mut following)?;
-            if self.explored.situations.saturating_add(following.len()) > limits.situations {
-                return Ok(None);
-            }
-        }
-        Ok(Some(following))
-    }
-
-    /// Keeps how the situations of a layer were reached.
-    fn keep(&mut self, layer: &Layer) -> Result<(), AllocError> {
+    /// Keeps how the situations of a layer were reached, and has them looked at next.
+    fn turn_to(&mut self, layer: Layer) -> Result<(), AllocError> {
         let mut nodes = Vec::with_capacity(self.alloc, layer.len())?;
         for reached in layer.values() {
             nodes.push(reached.node)?;
         }
         self.explored.situations = self.explored.situations.saturating_add(layer.len());
         self.explored.layers.push(nodes)?;
+        self.explored.is_complete = layer.is_empty();
+        self.layer = layer;
+        self.looked = 0;
         Ok(())
     }
 
-    /// Looks at all layers: there are at most as many as commands, and the first.
-    fn look_at_all(&mut self, scene: &Scene, limits: Limits) -> Result<(), Stop> {
-        let mut layer = self.first_layer(scene)?;
-        for number in 0..=command_count(scene) {
-            self.keep(&layer)?;
-            match self.look_at_layer(scene, &layer, number, limits)? {
-                Some(next) => layer = next,
-                None => return Ok(()),
-            }
-            if layer.is_empty() {
-                self.explored.is_complete = true;
-                return Ok(());
-            }
+    /// Looks at some more situations, those to which the fewest commands lead first. Returns whether there are others to look at.
+    ///
+    /// Fails only if memory runs out.
+    pub fn look_further(&mut self, scene: &Scene) -> Result<bool, Stop> {
+        let layer = mem::replace(&mut self.layer, IndexMap::new(self.alloc));
+        let mut following = mem::replace(&mut self.following, IndexMap::new(self.alloc));
+        self.look_at_some(scene, &layer, &mut following)?;
+        if self.is_cut_off {
+            return Ok(false);
         }
-        Ok(())
+        if self.looked < layer.len() {
+            self.layer = layer;
+            self.following = following;
+        } else {
+            self.turn_to(following)?;
+        }
+        Ok(!self.explored.is_complete)
     }
+}
+
+/// Returns how often a search has to look further at most.
+pub fn most_looks(scene: &Scene, limits: Limits) -> usize {
+    // Each time it looks at `SOME` situations, or ends a layer.
+    let looks = limits.situations.checked_div(SOME).unwrap_or(0);
+    layer_count(scene).saturating_add(looks).saturating_add(1)
 }
 
 /// Looks at every situation of the scene, those to which the fewest commands lead first.
 ///
 /// Fails only if an object can't be made or memory runs out.
 pub fn explore(alloc: Global, scene: &Scene, limits: Limits) -> Result<Explored, Stop> {
-    let mut search = Search::new(alloc, scene)?;
-    search.look_at_all(scene, limits)?;
-    search.explored.states = search.states.count();
-    Ok(search.explored)
+    let mut search = Search::new(alloc, scene, limits)?;
+    for _ in 0..most_looks(scene, limits) {
+        if !search.look_further(scene)? {
+            break;
+        }
+    }
+    Ok(search.finish()?)
 }

@@ -4,7 +4,7 @@
 ghost use Rattle.std.specs.Prelude.{◌≡◌, ◌↔◌, ◌+◌, IsTrue, length, map, slice_index, slice_set, slice_get, option_map, IfOk, OnOk};
 ghost use Rattle.po_ada_unit.specs.Object.{ada_meaning};
 ghost use Rattle.po_explore.specs.Commands.{value_cells, after_operation, after_asking, after_abort};
-ghost use Rattle.po_explore.specs.Scenes.{views_of, stage_of, changed, after_command, acted, next_of as next_command, IsBeginning, IsOver, IsStuck, command_at as the_command, waits as is_waiting};
+ghost use Rattle.po_explore.specs.Scenes.{views_of, stage_of, changed, after_command, acted, next_of as next_command, latest_at, number_in, IsBeginning, IsOver, IsStuck, command_at as the_command, waits as is_waiting};
 
 use crate::news::News;
 use crate::object::Object;
@@ -89,7 +89,9 @@ impl Stage {
     }
 
     /// Returns the number of the caller's waiting call, if one waits.
-    pub(crate) fn waiting_number(&self, caller: u16) -> Option<u64> {
+    pub(crate) fn waiting_number(&self, caller: u16) -> Option<u64>
+        ensures { result ≡ number_in (views_of self.now) caller }
+    {
         for object in self.objects.iter() {
             let number = object.waiting_number(caller);
             if number.is_some() {
@@ -109,10 +111,19 @@ impl Stage {
         command_at(scene, caller, self.made(caller))
     }
 
-    /// Returns the line of the latest command of the caller, if it has made one.
-    pub(crate) fn line_of(&self, scene: &Scene, caller: u16) -> Option<usize> {
+    /// Returns the latest command of the caller, if it has made one.
+    pub(crate) fn latest_of(&self, scene: &Scene, caller: u16) -> Option<Command>
+        ensures { result ≡ latest_at scene.now caller (slice_index self.now.made.items caller) }
+    {
         let latest = self.made(caller).checked_sub(1)?;
-        Some(command_at(scene, caller, latest)?.line)
+        command_at(scene, caller, latest)
+    }
+
+    /// Returns the line of the latest command of the caller, if it has made one.
+    pub(crate) fn line_of(&self, scene: &Scene, caller: u16) -> Option<usize>
+        ensures { result ≡ option_map (λ c. c.line) (latest_at scene.now caller (slice_index self.now.made.items caller)) }
+    {
+        Some(self.latest_of(scene, caller)?.line)
     }
 
     /// Returns whether no caller can make a command.

@@ -7,7 +7,7 @@ ghost use Rattle.po_scene.specs.declared.scene.Scene.{Scene};
 
 use crate::finding::{Found, Kind};
 use crate::invariants::broken_invariants;
-use crate::news::{News, found_in};
+use crate::news::{News, answers_in, found_in};
 use crate::stage::Stage;
 use po_ada_language::Stop;
 use po_scene::Scene;
@@ -50,6 +50,11 @@ impl Walk {
         self.stage.step(scene, caller, &mut self.news)
     }
 
+    /// Returns what the last command brought about.
+    pub(crate) fn news(&self) -> &[News] {
+        self.news.as_slice()
+    }
+
     /// Adds that callers wait for ever, if they do.
     fn push_stuck(&self, scene: &Scene, list: &mut Vec<Found>) -> Result<(), AllocError>
         requires { AllShown scene.now (stage_of self.now.stage) list.old.items }
@@ -71,6 +76,27 @@ impl Walk {
         found_in(scene, &self.stage, self.news.as_slice(), &mut list)?;
         broken_invariants(scene, &self.stage, &mut list)?;
         Ok(list)
+    }
+
+    /// Returns the answers to the last command and to those that it ended, with which nothing is wrong.
+    pub fn answers(&self, alloc: Global, scene: &Scene) -> Result<Vec<Found>, AllocError>
+        ensures { IfOk result (λ list. AllShown scene.now (stage_of self.now.stage) list.items) }
+    {
+        let mut list = Vec::new(alloc);
+        answers_in(scene, &self.stage, self.news.as_slice(), &mut list)?;
+        Ok(list)
+    }
+
+    /// Returns whether this is found after the last command.
+    fn shows(&self, alloc: Global, scene: &Scene, found: Found) -> Result<bool, AllocError>
+        ensures { IfOk result (λ shows. IsTrue shows → Shows scene.now (stage_of self.now.stage) found.kind) }
+    {
+        let list = if found.kind.is_answer() {
+            self.answers(alloc, scene)?
+        } else {
+            self.found(alloc, scene)?
+        };
+        Ok(is_among(list.as_slice(), found))
     }
 }
 
@@ -96,8 +122,7 @@ pub(crate) fn confirmed(
     ensures { IfOk result (λ walk. IfSome walk (λ w. LeadsTo scene.now order.now found.kind)) }
 {
     let walk = replay(alloc, scene, order)?;
-    let list = walk.found(alloc, scene)?;
-    if is_among(list.as_slice(), found) {
+    if walk.shows(alloc, scene, found)? {
         Ok(Some(walk))
     } else {
         Ok(None)

@@ -2,8 +2,9 @@
 //! What the words of the command line ask of this program.
 
 use clap::error::ErrorKind;
-use clap::{Arg, Command, Error};
+use clap::{Arg, ArgAction, Command, Error};
 use po_command_line::{CommandError, EXPLORE, explore_command, pobj, words};
+use po_explore::Limits;
 use std::alloc::{AllocError, Global};
 use std::env::Env;
 
@@ -46,8 +47,17 @@ pub(crate) struct Asked {
     pub(crate) scene: String,
     /// The file of the object that the scene doesn't name.
     pub(crate) unit: Option<String>,
-    /// The search ends when it has met more situations than these.
-    pub(crate) situations: usize,
+    pub(crate) limits: Limits,
+    pub(crate) watched: Watched,
+}
+
+/// What is watched while the search goes on.
+#[derive(Debug, Drop)]
+pub(crate) struct Watched {
+    /// Whether it is told how far the search is.
+    pub(crate) progress: bool,
+    /// The search ends once this file is there.
+    pub(crate) until: Option<String>,
 }
 
 /// Makes the argument that names a file with an Ada text.
@@ -65,6 +75,30 @@ fn most<'a>(alloc: Global) -> Arg<'a> {
         .help("Ends after this many situations; 1000000 if it is left out")
 }
 
+/// Makes the argument that asks for answers that depend on the order.
+fn answers<'a>(alloc: Global) -> Arg<'a> {
+    Arg::new(alloc, "answers")
+        .long("answers")
+        .action(ArgAction::SetTrue)
+        .help("Tells answers that depend on the order, too")
+}
+
+/// Makes the argument that asks how far the search is.
+fn progress<'a>(alloc: Global) -> Arg<'a> {
+    Arg::new(alloc, "progress")
+        .long("progress")
+        .action(ArgAction::SetTrue)
+        .help("Says on standard error each second how far the search is")
+}
+
+/// Makes the argument that names a file: once it is there, the search ends.
+fn until<'a>(alloc: Global) -> Arg<'a> {
+    Arg::new(alloc, "until")
+        .long("until")
+        .value_name("FILE")
+        .help("Ends once this file is there, and tells what was found so far")
+}
+
 /// Makes the argument that names the scene.
 fn scene<'a>(alloc: Global) -> Arg<'a> {
     Arg::new(alloc, "SCENE")
@@ -78,7 +112,10 @@ fn command<'a>(alloc: Global) -> Result<Command<'a>, AllocError> {
         .after_help(SCENES)
         .arg(scene(alloc))?
         .arg(unit(alloc))?
-        .arg(most(alloc))?;
+        .arg(most(alloc))?
+        .arg(answers(alloc))?
+        .arg(progress(alloc))?
+        .arg(until(alloc))?;
     pobj(alloc).subcommand(explore)
 }
 
@@ -115,11 +152,18 @@ pub(crate) fn parse<R: Env + AllocGlobal>(rt: &R) -> Result<Asked, CommandError>
     let scene = owned(alloc, explore.and_then(|matches| matches.get_str("SCENE")))?;
     let unit = owned(alloc, explore.and_then(|matches| matches.get_str("unit")))?;
     let most = situations(explore.and_then(|matches| matches.get_str("most")));
+    let answers = explore.is_some_and(|matches| matches.get_flag("answers"));
+    let progress = explore.is_some_and(|matches| matches.get_flag("progress"));
+    let until = owned(alloc, explore.and_then(|matches| matches.get_str("until")))?;
     match (scene, most) {
         (Some(scene), Some(situations)) => Ok(Asked {
             scene,
             unit,
-            situations,
+            limits: Limits {
+                situations,
+                answers,
+            },
+            watched: Watched { progress, until },
         }),
         (Some(_), None) => {
             let error = refusal(alloc, ErrorKind::InvalidValue, NO_LIMIT)?;

@@ -1,27 +1,62 @@
 // SPDX-License-Identifier: MIT
 //! Explores a scene, and prints the report.
 
-use crate::asked::Asked;
+use crate::asked::{Asked, Watched};
 use crate::scene::read;
+use crate::watch::Watch;
 use po_ada_command::print_fault;
 use po_ada_script::{RunFault, fault_at};
 use po_command_line::{CUT_OFF, FOUND, GOOD};
-use po_explore::{Limits, Verdict, explore, report_of};
+use po_ada_language::Stop;
+use po_explore::{Explored, Limits, Report, Search, Verdict, most_looks, report_of};
+use po_scene::Scene;
+use std::alloc::Global;
 use std::io::{Eprint, Print};
 use std::rt::Files;
+use std::time::Clock;
+
+/// Looks at the situations of the scene, until the watch over the search ends it.
+fn searched<R: Eprint + Clock + Files>(
+    rt: &R,
+    alloc: Global,
+    scene: &Scene,
+    limits: Limits,
+    mut watch: Option<Watch>,
+) -> Result<Explored, Stop> {
+    let mut search = Search::new(alloc, scene, limits)?;
+    for _ in 0..most_looks(scene, limits) {
+        if !search.look_further(scene)? {
+            break;
+        }
+        if let Some(watch) = &mut watch
+            && watch.look(rt, search.explored())
+        {
+            break;
+        }
+    }
+    Ok(search.finish()?)
+}
+
+/// Returns the report of the scene.
+fn reported<R: Eprint + Clock + Files + AllocGlobal>(
+    rt: &R,
+    scene: &Scene,
+    limits: Limits,
+    watched: Watched,
+) -> Result<Report, Stop> {
+    let alloc = rt.alloc();
+    let watch = Watch::new(rt, watched);
+    let explored = searched(rt, alloc, scene, limits, watch)?;
+    report_of(alloc, scene, &explored)
+}
 
 /// Explores the scene that is asked for, and prints the report.
-fn explored<R: Print + Files + AllocGlobal>(rt: &R, asked: Asked) -> Result<Verdict, RunFault> {
-    let alloc = rt.alloc();
-    let limits = Limits {
-        situations: asked.situations,
-    };
+fn explored<R: Print + Eprint + Clock + Files + AllocGlobal>(
+    rt: &R,
+    asked: Asked,
+) -> Result<Verdict, RunFault> {
     let scene = read(rt, asked.scene, asked.unit)?;
-    let told = match explore(alloc, &scene, limits) {
-        Ok(explored) => report_of(alloc, &scene, &explored),
-        Err(stop) => Err(stop),
-    };
-    match told {
+    match reported(rt, &scene, asked.limits, asked.watched) {
         Ok(report) => {
             let text = report.text.as_str();
             match print!(rt; "{text}") {
@@ -43,7 +78,7 @@ fn status_of(verdict: Verdict) -> u8 {
 }
 
 /// Explores the scene that is asked for, prints the report, and returns the status.
-pub(crate) fn run<R: Print + Eprint + Files + AllocGlobal>(rt: &R, asked: Asked) -> u8 {
+pub(crate) fn run<R: Print + Eprint + Clock + Files + AllocGlobal>(rt: &R, asked: Asked) -> u8 {
     match explored(rt, asked) {
         Ok(verdict) => status_of(verdict),
         Err(fault) => print_fault(rt, &fault),

@@ -14,7 +14,7 @@ const MOST_COMMANDS: usize = 12;
 pub struct Tried {
     /// How many orders there are.
     pub orders: u64,
-    /// What was found, once each.
+    /// What was found and each answer, once each.
     pub found: Vec<Found>,
 }
 
@@ -53,6 +53,7 @@ fn try_all(
 ) -> Result<()> {
     let walk = walked(alloc, scene, order.as_slice())?;
     tried.note(walk.found(alloc, scene)?.as_slice())?;
+    tried.note(walk.answers(alloc, scene)?.as_slice())?;
     let mut is_over = true;
     for caller in 0..scene.callers.len() as u16 {
         if walk.can_step(scene, caller) {

@@ -37,7 +37,7 @@ fn scene_of(alloc: Global, samples: &[Sample], text: &str) -> Result<Scene> {
     }
 }
 
-/// Returns whether the search found what trying every order finds, and counted as many orders.
+/// Returns whether the search found what trying every order finds, with the same answers, and counted as many orders.
 fn is_equal(explored: &Explored, tried: &Tried) -> bool {
     for found in tried.found.iter() {
         if !explored.has(*found) {
@@ -58,7 +58,11 @@ fn compare(
 ) -> Result<()> {
     let alloc = rt.alloc();
     let scene = scene_of(alloc, samples, text)?;
-    let Ok(explored) = explore(alloc, &scene, Limits { situations: MOST }) else {
+    let limits = Limits {
+        situations: MOST,
+        answers: true,
+    };
+    let Ok(explored) = explore(alloc, &scene, limits) else {
         bail!("this scene can't be explored");
     };
     let tried = try_every_order(alloc, &scene)?;

@@ -89,7 +89,7 @@ impl DrivenObject {
         ensures ticket { IfOk result (λ action. NamesTicket action step.new self.new) }
         ensures full { IfOk result (λ action. (barrier ≡ Raised → ⊥) → EndsWhereFull action arriving.entry self.old) }
         ensures follows { IfOk result (λ action. FollowsBarrier action arriving barrier self.new) }
-        ensures room { uncollected self.old.calls.object.tickets < self.old.calls.object.most → IsOk result }
+        ensures room { uncollected self.old.calls.object.tickets < self.old.calls.object.capacity → IsOk result }
         ensures setup { IfOk result (λ _. KeepsSetup self.old self.new) }
         ensures named { IfOk result (λ action. LeavesNamed action step.old step.new) }
         ensures left { OnErr result (step.new ≡ step.old) }

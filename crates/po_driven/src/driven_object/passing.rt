@@ -159,7 +159,7 @@ impl DrivenObject {
         requires { WasServed arriving end self.old }
         ensures kept { KeepsAll result self.old self.new }
         ensures accepted { result ≢ Refused }
-        ensures room { uncollected self.old.calls.object.tickets < self.old.calls.object.most → result ≢ NoMemory }
+        ensures room { uncollected self.old.calls.object.tickets < self.old.calls.object.capacity → result ≢ NoMemory }
         ensures setup { KeepsSetup self.old self.new }
         ensures named { LeavesNamed result step.old step.new }
         ensures through { IsTaken result → ServesBetween arriving end step.new self.old self.new result }

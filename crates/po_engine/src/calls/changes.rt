@@ -17,11 +17,11 @@ use po_calls::{Call, Deadline, End, Ticket};
 
 impl<V: Copy> Calls<V> {
     /// Takes a new call into service. There is memory for it if the calls that the command has ended so far and those that wait
-    /// are together fewer than `most`. As `recall_invariant` says, that holds when a command begins.
+    /// are together fewer than `capacity`. As `recall_invariant` says, that holds when a command begins.
     pub fn add(&mut self, call: Call<V>) -> Ticket
         requires serving { self.old.serving ≡ None }
-        requires room { uncollected self.old.tickets < self.old.most }
-        requires memory { length (drop self.old.ended_before self.old.ended) + length self.old.waiting < self.old.most }
+        requires room { uncollected self.old.tickets < self.old.capacity }
+        requires memory { length (drop self.old.ended_before self.old.ended) + length self.old.waiting < self.old.capacity }
         requires number { call.number ≡ self.old.next }
         requires few { self.old.next < u64.MAX }
         ensures after { self.new ≡ record self.old {
@@ -128,13 +128,13 @@ impl<V: Copy> Calls<V> {
           ended = self.old.ended ++ ended_as end call ∷ [];
           ended_before = length self.old.ended + 1;
           tickets = self.new.tickets;
-          most = self.new.most;
+          capacity = self.new.capacity;
         } }
         ensures number { result.number ≡ call.number }
         ensures live { is_live self.old.tickets result ≡ true }
         ensures taken { SetsTicket self.old.tickets self.new.tickets result.key None }
-        ensures room { self.old.is_fixed ≡ true → self.new.most ≡ self.old.most }
-        ensures kept_room { uncollected self.old.tickets < self.old.most → self.new.most ≡ self.old.most }
+        ensures room { self.old.is_fixed ≡ true → self.new.capacity ≡ self.old.capacity }
+        ensures kept_room { uncollected self.old.tickets < self.old.capacity → self.new.capacity ≡ self.old.capacity }
     {
         let number = call.number;
         let Some(key) = self.serving else {
@@ -151,7 +151,7 @@ impl<V: Copy> Calls<V> {
         self.before = self.ended.copy();
         self.ended_now.clear();
         self.serving = None;
-        self.most = room_left(self.most, &self.table, &self.queues);
+        self.capacity = room_left(self.capacity, &self.table, &self.queues);
         ticket
     }
 
@@ -275,13 +275,13 @@ impl<V: Copy> Calls<V> {
         requires { self.old.serving ≡ None }
         ensures end { result ≡ end_at (status_among self.old.waiting self.old.ended self.old.tickets ticket) }
         ensures taken { OnSome result (SetsTicket self.old.tickets self.new.tickets ticket.key None) }
-        ensures rest { self.new ≡ record self.old { tickets = self.new.tickets; most = self.new.most } }
-        ensures room { self.old.is_fixed ≡ true → self.new.most ≡ self.old.most }
-        ensures kept_room { uncollected self.old.tickets < self.old.most → self.new.most ≡ self.old.most }
+        ensures rest { self.new ≡ record self.old { tickets = self.new.tickets; capacity = self.new.capacity } }
+        ensures room { self.old.is_fixed ≡ true → self.new.capacity ≡ self.old.capacity }
+        ensures kept_room { uncollected self.old.tickets < self.old.capacity → self.new.capacity ≡ self.old.capacity }
         ensures left { IfNone result (self.new ≡ self.old) }
     {
         let end = self.table.collect(ticket)?;
-        self.most = room_left(self.most, &self.table, &self.queues);
+        self.capacity = room_left(self.capacity, &self.table, &self.queues);
         Some(end)
     }
 }

@@ -17,9 +17,9 @@ use std::alloc::AllocError;
 impl<V: Copy> Calls<V> {
     /// Returns whether one more call may be uncollected.
     pub fn has_room(&self) -> bool
-        ensures { result ≡ nat_lt (uncollected self.now.tickets) self.now.most }
+        ensures { result ≡ nat_lt (uncollected self.now.tickets) self.now.capacity }
     {
-        self.table.len() < self.most
+        self.table.len() < self.capacity
     }
 
     /// Returns whether the memory is fixed.

@@ -26,7 +26,7 @@ impl<U: Unit> State<U> {
 
     /// Returns whether one more call may be uncollected.
     pub fn has_room(&self) -> bool
-        ensures { result ≡ nat_lt (uncollected self.now.tickets) self.now.most }
+        ensures { result ≡ nat_lt (uncollected self.now.tickets) self.now.capacity }
     {
         self.calls.has_room()
     }

@@ -53,14 +53,14 @@ impl<U: Unit> State<U> {
           state = end_call self.old.state call end;
           serving = None;
           tickets = self.new.tickets;
-          most = self.new.most;
+          capacity = self.new.capacity;
           before = length self.old.state.ended + 1;
         } }
         ensures number { result.number ≡ call.number }
         ensures live { is_live self.old.tickets result ≡ true }
         ensures taken { SetsTicket self.old.tickets self.new.tickets result.key None }
-        ensures room { self.old.is_fixed ≡ true → self.new.most ≡ self.old.most }
-        ensures kept_room { uncollected self.old.tickets < self.old.most → self.new.most ≡ self.old.most }
+        ensures room { self.old.is_fixed ≡ true → self.new.capacity ≡ self.old.capacity }
+        ensures kept_room { uncollected self.old.tickets < self.old.capacity → self.new.capacity ≡ self.old.capacity }
     {
         self.calls.end_collected(call, end)
     }
@@ -294,7 +294,7 @@ impl<U: Unit> State<U> {
         deadline: Deadline,
     ) -> Ticket
         requires serving { self.old.serving ≡ None }
-        requires room { uncollected self.old.tickets < self.old.most }
+        requires room { uncollected self.old.tickets < self.old.capacity }
         requires begun { self.old.before ≡ length self.old.state.ended }
         requires entry { e < U.meaning.entries self.old.state.unit }
         requires number { self.old.state.next < u64.MAX }
@@ -340,7 +340,7 @@ impl<U: Unit> State<U> {
     #[inline(always)]
     pub fn take_in(&mut self, arriving: Arriving<U::Value>) -> (Call<U::Value>, Ticket)
         requires serving { self.old.serving ≡ None }
-        requires room { uncollected self.old.tickets < self.old.most }
+        requires room { uncollected self.old.tickets < self.old.capacity }
         requires begun { self.old.before ≡ length self.old.state.ended }
         requires number { self.old.state.next < u64.MAX }
         ensures call { result.0 ≡ new_call self.old.state.next arriving }
@@ -449,9 +449,9 @@ impl<U: Unit> State<U> {
         requires { self.old.serving ≡ None }
         ensures end { result ≡ end_at (status_among self.old.state.waiting self.old.state.ended self.old.tickets ticket) }
         ensures taken { OnSome result (SetsTicket self.old.tickets self.new.tickets ticket.key None) }
-        ensures rest { self.new ≡ record self.old { tickets = self.new.tickets; most = self.new.most } }
-        ensures room { self.old.is_fixed ≡ true → self.new.most ≡ self.old.most }
-        ensures kept_room { uncollected self.old.tickets < self.old.most → self.new.most ≡ self.old.most }
+        ensures rest { self.new ≡ record self.old { tickets = self.new.tickets; capacity = self.new.capacity } }
+        ensures room { self.old.is_fixed ≡ true → self.new.capacity ≡ self.old.capacity }
+        ensures kept_room { uncollected self.old.tickets < self.old.capacity → self.new.capacity ≡ self.old.capacity }
         ensures left { IfNone result (self.new ≡ self.old) }
     {
         self.calls.collect(ticket)

@@ -15,6 +15,6 @@ returns-clause-same g c =
 pub returns-clause-room : goal.returns-clause-room
 returns-clause-room g c =
     let same = same_calls c.self.inside.calls c.in_ok-calls.calls c.reserve.new.self c.in_ok-calls.ensures.cases c.reserve.ensures.rest_kept in
-    enough_room c.self.inside.calls c.reserve.new.self c.args.most c.saturating_sub.result same
+    enough_room c.self.inside.calls c.reserve.new.self c.args.capacity c.saturating_sub.result same
     (omega (arith, c.saturating_sub.ensures, c.len.ensures))
     c.in_ok-reserve.ensures.room

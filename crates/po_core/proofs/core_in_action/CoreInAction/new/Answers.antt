@@ -9,6 +9,6 @@ invariant_of-result g c =
     let s = c.args.state in
     let setup = c.args.setup in
     record {
-      tracked = rw (c.from-place.ensures, c.first_place.ensures, c.requires.base, c.requires.events) (tracked_opens g.U.Unit.meaning setup c.requires.total (omega (arith, c.first_place.ensures)) (omega (arith, c.first_number-number.ensures)) s s.most s.is_fixed c.requires.state);
+      tracked = rw (c.from-place.ensures, c.first_place.ensures, c.requires.base, c.requires.events) (tracked_opens g.U.Unit.meaning setup c.requires.total (omega (arith, c.first_place.ensures)) (omega (arith, c.first_number-number.ensures)) s s.capacity s.is_fixed c.requires.state);
       has = subst (λ x. g.R.Record.IsOf setup c.args.kept (known_of s) (owed g.U.Unit.meaning x) 0) (sym (ap (λ x. x.state) c.requires.state)) c.requires.has;
     }

@@ -23,7 +23,7 @@ returns c =
       setup = record {
         entries = ap (λ t. t.object.state.unit) calls;
         limits = limits;
-        room = record { fixed = ap (λ t. t.object.is_fixed) calls; most = λ fixed. ap (λ t. t.object.most) calls };
+        room = record { fixed = ap (λ t. t.object.is_fixed) calls; capacity = λ fixed. ap (λ t. t.object.capacity) calls };
         tickets = one_ended d.calls.object _ (ended_as IsCancelled (new_call d.calls.object.state.next a)) (ap (λ t. t.object.tickets) calls) (ap (λ t. t.object.state.ended) calls);
       };
       accepted = λ arrives it. refl;

@@ -23,9 +23,9 @@ returns-clause-waits c =
     ∙ ap (λ l. d.calls.happened ++ Arrived a l ∷ []) c.longest-longest.ensures in
     let room : KeepsRoom d.calls.object c.accept_closed.new.self.object = record {
       fixed = k.room_kept.fixed ∙ c.make_room.ensures.room_kept.fixed ∙ ap (λ v. v.calls.object.is_fixed) set;
-      most = λ fixed.
+      capacity = λ fixed.
           let was = ap (λ v. v.calls.object.is_fixed) set ∙ fixed in
-          k.room_kept.most (c.make_room.ensures.room_kept.fixed ∙ was) ∙ c.make_room.ensures.room_kept.most was ∙ ap (λ v. v.calls.object.most) set;
+          k.room_kept.capacity (c.make_room.ensures.room_kept.fixed ∙ was) ∙ c.make_room.ensures.room_kept.capacity was ∙ ap (λ v. v.calls.object.capacity) set;
     } in
     let made = c.make_room.new.self.object in
     let tickets = kept_then d.calls.object made c.accept_closed.new.self.object

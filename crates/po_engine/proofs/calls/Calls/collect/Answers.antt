@@ -22,11 +22,11 @@ pub invariant_of-self-2 : goal.invariant_of-self-2
 invariant_of-self-2 g c =
     let s = c.self.inside in let e = c.in_ok-end.ensures in
     let r = c.room_left-self-inside.ensures in
-    let given : IsLeft s.most (slab_len c.collect.new.self.calls) c.collect.new.self.calls.capacity s.queues.reserved c.room_left-self-inside.result = record {
+    let given : IsLeft s.capacity (slab_len c.collect.new.self.calls) c.collect.new.self.calls.capacity s.queues.reserved c.room_left-self-inside.result = record {
       all = r.all;
       none = r.none;
     } in
-    (collected s.table c.collect.new.self s.queues s.keys.items s.ended.items s.before.items s.ended_now s.first s.next s.serving s.most c.room_left-self-inside.result s.is_fixed c.args.ticket c.in_ok-end.end e.exact e.updates e.len e.capacity e.last given c.self.invariant).keeps
+    (collected s.table c.collect.new.self s.queues s.keys.items s.ended.items s.before.items s.ended_now s.first s.next s.serving s.capacity c.room_left-self-inside.result s.is_fixed c.args.ticket c.in_ok-end.end e.exact e.updates e.len e.capacity e.last given c.self.invariant).keeps
 
 pub returns-clause-end : goal.returns-clause-end
 returns-clause-end g c =
@@ -51,6 +51,6 @@ pub returns-clause-kept_room : goal.returns-clause-kept_room
 returns-clause-kept_room g c = λ room.
     let s = c.self.inside in let i = c.self.invariant in
     let has_room = rw (← c.self.view_is) at room in
-    let few : slab_len s.table.calls < s.most = omega (arith, uncollected_kept s.table.calls.slots, has_room) in
-    let all = all_reserved s.is_fixed s.table.calls s.queues.reserved s.most few i.reserved in
+    let few : slab_len s.table.calls < s.capacity = omega (arith, uncollected_kept s.table.calls.slots, has_room) in
+    let all = all_reserved s.is_fixed s.table.calls s.queues.reserved s.capacity few i.reserved in
     rw (← c.self.view_is) (c.room_left-self-inside.ensures.all (omega (arith, all, c.in_ok-end.ensures.capacity)))

@@ -33,7 +33,7 @@ invariant_of-self g c =
       shown = items_end ∙ ap (λ l. l ++ ended_as c.args.end call ∷ []) i.shown ∙ append_assoc s.before.items s.ended_now.items (ended_as c.args.end call ∷ []) ∙ ap (λ l. s.before.items ++ l) (sym c.push_reserved.ensures.items);
       few = omega (arith, i.few, c.finish.ensures.room.len);
       room = omega (arith, i.room, c.finish.ensures.room.capacity);
-      reserved = reserved_kept s.is_fixed s.table.calls c.finish.new.self.calls s.queues.reserved s.most (omega (arith, c.finish.ensures.room.len)) c.finish.ensures.room.capacity i.reserved;
+      reserved = reserved_kept s.is_fixed s.table.calls c.finish.new.self.calls s.queues.reserved s.capacity (omega (arith, c.finish.ensures.room.len)) c.finish.ensures.room.capacity i.reserved;
       for_ended = omega (arith, i.for_ended, ap calls_in_service is, c.push_reserved.ensures.len, c.push_reserved.ensures.capacity);
       for_all = omega (arith, i.for_all, c.push_reserved.ensures.capacity);
     }

@@ -31,11 +31,11 @@ invariant_of-self g c =
     let below : call.number < s.next = omega (arith, i.numbers, key_below s.first s.keys.items call.number k (waiting_indexed s.table.calls k call ix s.ended.items at i.kept)) in
     let r = c.room_left-self-inside.ensures in
     let left = c.room_left-self-inside.result in
-    let given : IsLeft s.most (slab_len table.calls) table.calls.capacity s.queues.reserved left = record {
+    let given : IsLeft s.capacity (slab_len table.calls) table.calls.capacity s.queues.reserved left = record {
       all = r.all;
       none = r.none;
     } in
-    let between = left_between s.most (slab_len table.calls) table.calls.capacity s.queues.reserved left (omega (arith, i.few, t.len)) given in
+    let between = left_between s.capacity (slab_len table.calls) table.calls.capacity s.queues.reserved left (omega (arith, i.few, t.len)) given in
     record {
       queued = queued.0;
       kept = subst (IsKeptWell table.calls ix) items (kept_taken_out s.table.calls table.calls k call c.args.end ix s.ended.items at t.updates i.kept);
@@ -46,7 +46,7 @@ invariant_of-self g c =
       shown = rw (c.copy-self-inside.ensures, c.clear.ensures.items) (sym (append-nil _));
       few = between.0;
       room = omega (arith, i.room, t.capacity, between.1);
-      reserved = reserved_given s.is_fixed s.table.calls table.calls s.queues.reserved s.most left t.capacity given i.reserved;
+      reserved = reserved_given s.is_fixed s.table.calls table.calls s.queues.reserved s.capacity left t.capacity given i.reserved;
       for_ended = omega (arith, i.for_ended, ap calls_in_service is, c.clear.ensures.len, c.clear.ensures.capacity);
       for_all = omega (arith, i.for_all, between.1, c.clear.ensures.capacity);
     }
@@ -77,6 +77,6 @@ pub returns-clause-kept_room : goal.returns-clause-kept_room
 returns-clause-kept_room g c = λ room.
     let s = c.self.inside in let i = c.self.invariant in
     let has_room = rw (← c.self.view_is) at room in
-    let few : slab_len s.table.calls < s.most = omega (arith, uncollected_kept s.table.calls.slots, has_room) in
-    let all = all_reserved s.is_fixed s.table.calls s.queues.reserved s.most few i.reserved in
+    let few : slab_len s.table.calls < s.capacity = omega (arith, uncollected_kept s.table.calls.slots, has_room) in
+    let all = all_reserved s.is_fixed s.table.calls s.queues.reserved s.capacity few i.reserved in
     rw (← c.self.view_is) (c.room_left-self-inside.ensures.all (omega (arith, all, c.take_out.ensures.capacity)))

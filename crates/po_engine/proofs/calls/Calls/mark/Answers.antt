@@ -41,7 +41,7 @@ invariant_of-self g c =
       shown = i.shown;
       few = omega (arith, i.few, c.mark.ensures.room.len);
       room = omega (arith, i.room, c.mark.ensures.room.capacity);
-      reserved = reserved_kept s.is_fixed s.table.calls c.mark.new.self.calls s.queues.reserved s.most (omega (arith, c.mark.ensures.room.len)) c.mark.ensures.room.capacity i.reserved;
+      reserved = reserved_kept s.is_fixed s.table.calls c.mark.new.self.calls s.queues.reserved s.capacity (omega (arith, c.mark.ensures.room.len)) c.mark.ensures.room.capacity i.reserved;
       for_ended = i.for_ended;
       for_all = i.for_all;
     }

@@ -37,8 +37,8 @@ returns-clause-waiting g c =
     let keys = length-map s.queues.items (λ j. j.key) in
     rw (← c.self.view_is) (omega (arith, len, held, keys, uncollected_kept s.table.calls.slots))
 
-pub returns-clause-most : goal.returns-clause-most
-returns-clause-most g c =
+pub returns-clause-capacity : goal.returns-clause-capacity
+returns-clause-capacity g c =
     let s = c.self.inside in
     rw (← c.self.view_is) (omega (arith, c.self.invariant.few, uncollected_kept s.table.calls.slots))
 

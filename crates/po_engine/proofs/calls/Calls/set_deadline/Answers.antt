@@ -29,7 +29,7 @@ invariant_of-self g c =
       shown = i.shown;
       few = omega (arith, i.few, c.set_deadline.ensures.room.len);
       room = omega (arith, i.room, c.set_deadline.ensures.room.capacity);
-      reserved = reserved_kept s.is_fixed s.table.calls c.set_deadline.new.self.calls s.queues.reserved s.most (omega (arith, c.set_deadline.ensures.room.len)) c.set_deadline.ensures.room.capacity i.reserved;
+      reserved = reserved_kept s.is_fixed s.table.calls c.set_deadline.new.self.calls s.queues.reserved s.capacity (omega (arith, c.set_deadline.ensures.room.len)) c.set_deadline.ensures.room.capacity i.reserved;
       for_ended = i.for_ended;
       for_all = i.for_all;
     }

@@ -11,7 +11,7 @@ invariant_of-self g c =
     let r = rw (← c.self.view_is) at c.requires.serving in
     let none = none_serving f ix s.queues s.serving i.queued r in
     let taken = oldest_taken f ix s.queues s.serving c.in_ok-key.key c.recall_invariant.ensures i.queued (sym c.in_ok-key.ensures) in
-    rw c.remove.ensures.others (taken_in_service s.table s.queues s.keys.items s.ended.items s.before.items s.ended_now s.first s.next s.serving s.most s.is_fixed c.in_ok-key.key c.recall_invariant.ensures taken.has none i)
+    rw c.remove.ensures.others (taken_in_service s.table s.queues s.keys.items s.ended.items s.before.items s.ended_now s.first s.next s.serving s.capacity s.is_fixed c.in_ok-key.key c.recall_invariant.ensures taken.has none i)
 
 pub returns-clause-found : goal.returns-clause-found
 returns-clause-found g c =

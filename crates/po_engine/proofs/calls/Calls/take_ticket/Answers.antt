@@ -36,7 +36,7 @@ invariant_of-self g c =
     let at : f t.key ≡ Some c.in_ok-call.field-0.now = sym (ap waiting_call (live_kept s.table t r.live)) ∙ sym c.in_ok-call.ensures in
     let there = ticket_queued s.table ix s.queues s.ended.items t c.in_ok-call.field-0.now r.live (sym c.in_ok-call.ensures) (subst (IsQueued f ix s.queues) none i.queued) i.kept in
     let taken = number_taken f ix s.queues s.serving t.number t.key c.recall_invariant.ensures i.queued there in
-    rw c.remove.ensures.others (taken_in_service s.table s.queues s.keys.items s.ended.items s.before.items s.ended_now s.first s.next s.serving s.most s.is_fixed t.key c.recall_invariant.ensures taken.has none i)
+    rw c.remove.ensures.others (taken_in_service s.table s.queues s.keys.items s.ended.items s.before.items s.ended_now s.first s.next s.serving s.capacity s.is_fixed t.key c.recall_invariant.ensures taken.has none i)
 
 pub returns-clause-found : goal.returns-clause-found
 returns-clause-found g c =

@@ -11,5 +11,5 @@ invariant_of-result-3 g c =
     let now = c.in_ok-with_capacity.field-0 in let w = c.in_ok-with_capacity.ensures in
     let items : q.items ≡ [] = ap (λ (v : EntryQueuesView). v.items) (c.reserve_below.ensures.only_room) ∙ ap (λ (v : EntryQueuesView). v.items) c.in_ok-queues.ensures in
     rw (c.table.view_is, c.queues.view_is)
-    (begun c.in_ok-table.table q c.new-2.result.items c.new-3.result.items c.new-4.result.items now c.args.first c.args.most true
+    (begun c.in_ok-table.table q c.new-2.result.items c.new-3.result.items c.new-4.result.items now c.args.first c.args.capacity true
     t.vacant t.len (omega (arith, t.len, t.room)) t.last items (omega (arith, c.in_ok-reserve_below.ensures.ok, c.capacity.ensures)) c.new-2.ensures c.new-3.ensures c.new-4.ensures w.items w.len w.capacity)

@@ -18,11 +18,11 @@ returns-else-with_abort-clause-state g c =
       | else-with_abort-via-then-with_abort+else-call w ↦ rw (w.if-with_abort.true, w.if-call.false) refl
       | else-with_abort-via-else-with_abort w ↦ rw w.if-with_abort.false refl
     ] in
-    let entered = subst (λ k. after ≡ record { state = enter c.args.queueing.max_length (state_with_calls i.unit k i.finalized) c.requeue-moved.result; places = after.places; serving = None; tickets = k.tickets; most = k.most; is_fixed = k.is_fixed; before = k.ended_before; keys = k.keys; first = k.first }) c.requeue-moved.ensures.after c.enter.ensures.state in
-    let moved = subst (λ z. after ≡ record { state = enter c.args.queueing.max_length s z; places = after.places; serving = None; tickets = i.calls.tickets; most = i.calls.most; is_fixed = i.calls.is_fixed; before = i.calls.ended_before; keys = i.calls.keys; first = i.calls.first }) c.requeue-moved.ensures.call entered in
-    let concluded = subst (λ b. after ≡ record { state = if b then end_call s x Cancelled else enter c.args.queueing.max_length s y; places = after.places; serving = None; tickets = i.calls.tickets; most = i.calls.most; is_fixed = i.calls.is_fixed; before = i.calls.ended_before; keys = i.calls.keys; first = i.calls.first }) (sym stays) moved in
-    let by_outcome = subst (λ o. after ≡ record { state = conclude c.args.queueing.max_length s x o; places = after.places; serving = None; tickets = i.calls.tickets; most = i.calls.most; is_fixed = i.calls.is_fixed; before = i.calls.ended_before; keys = i.calls.keys; first = i.calls.first }) (sym q.is) concluded in
-    subst (λ v. after ≡ record { state = conclude c.args.queueing.max_length v.state x c.args.outcome; places = after.places; serving = None; tickets = v.tickets; most = v.most; is_fixed = v.is_fixed; before = v.before; keys = v.keys; first = v.first }) c.self.view_is by_outcome
+    let entered = subst (λ k. after ≡ record { state = enter c.args.queueing.max_length (state_with_calls i.unit k i.finalized) c.requeue-moved.result; places = after.places; serving = None; tickets = k.tickets; capacity = k.capacity; is_fixed = k.is_fixed; before = k.ended_before; keys = k.keys; first = k.first }) c.requeue-moved.ensures.after c.enter.ensures.state in
+    let moved = subst (λ z. after ≡ record { state = enter c.args.queueing.max_length s z; places = after.places; serving = None; tickets = i.calls.tickets; capacity = i.calls.capacity; is_fixed = i.calls.is_fixed; before = i.calls.ended_before; keys = i.calls.keys; first = i.calls.first }) c.requeue-moved.ensures.call entered in
+    let concluded = subst (λ b. after ≡ record { state = if b then end_call s x Cancelled else enter c.args.queueing.max_length s y; places = after.places; serving = None; tickets = i.calls.tickets; capacity = i.calls.capacity; is_fixed = i.calls.is_fixed; before = i.calls.ended_before; keys = i.calls.keys; first = i.calls.first }) (sym stays) moved in
+    let by_outcome = subst (λ o. after ≡ record { state = conclude c.args.queueing.max_length s x o; places = after.places; serving = None; tickets = i.calls.tickets; capacity = i.calls.capacity; is_fixed = i.calls.is_fixed; before = i.calls.ended_before; keys = i.calls.keys; first = i.calls.first }) (sym q.is) concluded in
+    subst (λ v. after ≡ record { state = conclude c.args.queueing.max_length v.state x c.args.outcome; places = after.places; serving = None; tickets = v.tickets; capacity = v.capacity; is_fixed = v.is_fixed; before = v.before; keys = v.keys; first = v.first }) c.self.view_is by_outcome
 
 pub returns-else-with_abort-clause-queued : goal.returns-else-with_abort-clause-queued
 returns-else-with_abort-clause-queued g c =
