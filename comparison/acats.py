@@ -40,7 +40,7 @@ def result_of(text, status):
 
 
 def surroundings(library):
-    """Returns the environment by which a program takes GNAT's libraries from the folder, or for None from their own place."""
+    """Returns the environment with which a program takes GNAT's libraries from the folder, or for None from their own place."""
     names = {name: value for name, value in os.environ.items() if name != "LD_LIBRARY_PATH"}
     return names if library is None else {**names, "LD_LIBRARY_PATH": str(library)}
 
@@ -82,7 +82,7 @@ class Tester:
     """Runs tests in each way."""
 
     def __init__(self, runtime):
-        """Takes the runtime folder, or None for plain GNAT alone."""
+        """Takes the runtime folder, or None for only plain GNAT."""
         self.ways = {PLAIN: (acats_build.Linking(PLAIN), run)}
         if runtime is not None:
             library = runtime / "adalib"

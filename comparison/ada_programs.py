@@ -61,7 +61,7 @@ def build(name, folder, runtime=None):
     if shutil.which("gnatmake") is None:
         raise programs.Missing("there is no gnatmake; install it with: sudo apt-get install gnat")
     folder.mkdir(parents=True, exist_ok=True)
-    # It is compiled and linked anew, since the runtime may be another one than the last time.
+    # It is compiled and linked each time, since the runtime may have changed.
     (folder / name).unlink(missing_ok=True)
     which = ["-bargs", "-shared"] if runtime is None else [f"--RTS={runtime}", "-bargs", "-static"]
     words = ["gnatmake", "-q", "-f", "-gnat2022", "-gnatws", "-O1", str(FOLDER / f"{name}.adb"), *which]

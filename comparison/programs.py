@@ -40,7 +40,7 @@ class Failed(Exception):
 
 
 def say(text):
-    """Says on standard error what goes on."""
+    """Says on standard error what is going on."""
     print(f"compare: {text}", file=sys.stderr)
 
 
@@ -80,7 +80,7 @@ def runtime_at(path):
 
 
 def over(folder):
-    """Returns the environment by which pobj, in this runtime folder, carries out the protected objects of a program."""
+    """Returns the environment with which pobj, in this runtime folder, carries out the protected objects of a program."""
     return {} if folder is None else {"LD_LIBRARY_PATH": f"{folder}/adalib"}
 
 
@@ -166,7 +166,7 @@ END = re.compile(r"([0-9]+) (done|raised|cancelled|program_error)( .*)?")
 
 def settled(ends):
     """Returns the ends of one command: first those that bodies caused, in their order, then the others by number. A task
-    learns of its cancellation, or of Program_Error, at some moment of its own, so the place of these means nothing."""
+    learns of its cancellation, or of Program_Error, in its own time, so the place of these means nothing."""
     bodies = [end for end in ends if END.fullmatch(end)[2] in ("done", "raised")]
     others = [end for end in ends if end not in bodies]
     return bodies + sorted(others, key=lambda end: int(end.split(" ")[0]))

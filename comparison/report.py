@@ -1,5 +1,5 @@
 # SPDX-License-Identifier: MIT
-"""Compares scripts, and prints what comes of it."""
+"""Compares scripts, and prints the results."""
 
 import concurrent.futures
 

@@ -25,7 +25,7 @@ def findings(report):
 
 
 def text_of(script):
-    """The Ada text that the script's first line names, and the script with the text's own name there; nothing of a script that has
+    """The Ada text that the script's first line names, and the script with the text's own name there; nothing for a script that has
     several objects or names no text."""
     named = re.match(r'unit file "([^"]*)"', script)
     if named is None:

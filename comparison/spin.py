@@ -15,7 +15,7 @@ import programs
 import speed
 
 FOLDER = programs.HERE / "spin"
-# Says how much memory a program takes at most: Debian's package `time`. Python can't: of a child Linux says at least what Python takes.
+# Says the most memory that a program takes: Debian's package `time`. Python can't: of a child, Linux says at least what Python takes.
 TIME = "/usr/bin/time"
 # The program that is measured. It runs without `./pobj`, which looks first whether a source is newer.
 PROGRAM = programs.TOP / "crates/pobj_explore/out/pobj_explore"
@@ -143,7 +143,7 @@ def build(pair, folder):
 
 
 def measure(folder):
-    """Has all sides look at all scenes in turns, and returns the runs."""
+    """Has all sides look at all scenes in turn, and returns the runs."""
     runs = {pair.name(): {side: [] for side in SIDES} for pair in PAIRS}
     for _ in range(ROUNDS):
         for pair in PAIRS:
@@ -187,7 +187,7 @@ def table(rows):
 
 
 def agree(ours, theirs, is_reduced):
-    """Returns whether two searches found the same: with reduction, fewer situations and moves may do."""
+    """Returns whether two searches found the same: with reduction, fewer situations and moves are enough."""
     if is_reduced:
         return ours.hangs == theirs.hangs and ours.situations <= theirs.situations and ours.moves <= theirs.moves
     return ours == theirs
@@ -211,7 +211,7 @@ def reduction(rows):
 
 
 def prepare():
-    """Sees to it that all programs are there."""
+    """Makes sure that all programs are there."""
     for name in ("spin", "gcc"):
         if shutil.which(name) is None:
             raise programs.Missing(f"there is no {name}; install it with: sudo apt-get install {name}")

@@ -319,7 +319,7 @@ def record_types(reader):
 
 
 def package_names(reader, changes):
-    """Returns the names of the text's packages. A package in another one can't have the names of parents: these go."""
+    """Returns the names of the text's packages. A package in another one can't have the names of parents, so these are removed."""
     found, elements = [], reader.elements
     for at, element in enumerate(elements[:-1]):
         is_body = elements[at + 1].lower == "body"
@@ -336,7 +336,7 @@ def package_names(reader, changes):
 
 
 def with_clauses(reader, changes):
-    """Returns the with clauses of the text, which move away. Pragmas of library units go."""
+    """Returns the with clauses of the text, which are moved away. Pragmas of library units are removed."""
     found, elements = [], reader.elements
     for at, element in enumerate(elements[:-1]):
         is_first = at == 0 or elements[at - 1].text == ";"
@@ -351,7 +351,7 @@ def with_clauses(reader, changes):
 
 
 def formal_types(reader):
-    """Returns the formal types of a generic package, and the package's name, or nothing of both."""
+    """Returns the formal types of a generic package, and the package's name, or nothing for both."""
     words = [element.lower for element in reader.elements]
     if "generic" not in words:
         return [], ""

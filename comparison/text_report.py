@@ -1,5 +1,5 @@
 # SPDX-License-Identifier: MIT
-"""Compares scripts on the protected unit of an Ada text, and prints what comes of it."""
+"""Compares scripts on the protected unit of an Ada text, and prints the results."""
 
 import itertools
 import pathlib

@@ -159,7 +159,7 @@ class Translation:
         return words
 
     def member(self, one, index):
-        """Returns the place of the family's member with that index, or a place that there isn't."""
+        """Returns the place of the family's member with that index, or a place that doesn't exist."""
         members = self.spelled(self.shape.members[one.place - 1])
         has_literals = members and not NUMBER.fullmatch(members[0])
         if index not in (self.unit.spellings.values() if has_literals else NUMBER.findall(index)):

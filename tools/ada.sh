@@ -3,8 +3,8 @@
 # The runtime folder for Ada programs of GNAT, and its check. Read by `pobj`, after library.sh, which sets `target`. In the archive
 # bin/pobj does the same with the library that is there.
 
-# Carries out `pobj ada`: builds the library if it is needed and isn't built, and leaves the rest to bindings/ada/. What takes two
-# words needs no library.
+# Carries out `pobj ada`: builds the library if it is needed and isn't built, and leaves the rest to bindings/ada/. A call
+# with two words needs no library.
 ada() {
   local room status=0 of_target=()
   [ "${target-x86_64}" = x86_64 ] || of_target=(--target "$target")

@@ -11,7 +11,7 @@ rooms=$top/.build
 # Prints how long the build has taken.
 since() { echo "$((SECONDS / 60)) min $((SECONDS % 60)) s"; }
 
-# Says how far the build is: on a terminal in a line that the next one overwrites, else in a new line.
+# Says how far the build is: on a terminal in a line that the next one overwrites, otherwise on a new line.
 show() {
   if [ -t 2 ]; then
     printf '\r\033[Kpobj: %s, %s' "$1" "$(since)" >&2
@@ -40,8 +40,8 @@ built_of() {
   esac
 }
 
-# Whether a crate isn't built from its sources and its libraries as they are. True of each program: `build` leaves out those that
-# are fresh.
+# Whether a crate isn't built, or is older than its sources or its libraries. Programs always count as stale, since `build` leaves
+# out fresh ones.
 is_stale() {
   local built name
   [[ $1 != pobj_* ]] || return 0
@@ -52,7 +52,7 @@ is_stale() {
   is_older "$built" "" "$1"
 }
 
-# Adds to `todo` those of `crates` that aren't built from their sources as they are, and those that depend on one of these.
+# Adds to `todo` the crates in `crates` that are stale, and those that depend on one of these.
 list_todo() {
   local crate
   for crate in "${crates[@]}"; do
@@ -61,7 +61,7 @@ list_todo() {
   done
 }
 
-# Puts first those crates of `todo` on which most others depend, so that the others seldom wait.
+# Puts the crates of `todo` that most others depend on first, so that the others seldom wait.
 sort_todo() {
   local wanted=("${todo[@]}") crates crate other
   local -A above=()
@@ -75,7 +75,7 @@ sort_todo() {
   mapfile -t todo < <(for crate in "${wanted[@]}"; do echo "${above[$crate]} $crate"; done | sort -s -k 1,1nr | cut -d ' ' -f 2)
 }
 
-# Removes the room of a crate. What was made there moves back.
+# Moves back what was made in the room of a crate, and removes the room.
 leave_room() {
   local made=$rooms/$1/crates/$1/out
   [ -e "$top/crates/$1/out" ] || [ ! -e "$made" ] || mv "$made" "$top/crates/$1/out"
@@ -91,7 +91,7 @@ leave_rooms() {
   rm -rf "$rooms"
 }
 
-# Prints how many crates may be built at once: one less than there are processors, at most one for each 6 GB of free memory, and at
+# Prints how many crates may be built at once: one fewer than there are processors, at most one for each 6 GB of free memory, and at
 # least one.
 most_at_once() {
   awk -v most=$(($(nproc) - 1)) '
@@ -147,8 +147,8 @@ show_crates() {
 }
 
 # Reads the lines that are written for the build until a crate's build ends, and returns as `end_crate` does. A signal is written
-# there as a line too, since bash aborts if a trap calls `exit` inside `read`. When `read` times out, `line` keeps the part that
-# came.
+# there as a line too, since bash aborts if a trap calls `exit` inside `read`. When `read` times out, `line` keeps the part
+# read so far.
 follow() {
   local crate kind text part status
   while true; do
@@ -195,7 +195,7 @@ build_crates() {
   done
 }
 
-# Makes the folder of the rooms, and in it the pipe to which the builds write.
+# Makes the folder of the rooms, and in it the pipe that the builds write to.
 make_rooms() {
   leave_rooms
   mkdir "$rooms"

@@ -51,8 +51,8 @@ list_crates() {
   done
 }
 
-# Whether the file isn't there, or is older than a source of the crates or than their list, whose path is the second word ("": no
-# list).
+# Whether the file is missing, or older than a source of the crates or than the list of crates. The second word is the path of that
+# list ("": no list).
 is_older() {
   local file=$1 list=$2 crate part sources=()
   shift 2
@@ -69,8 +69,8 @@ is_older() {
 # Sets `path` to the file of the program, whether it is built or not.
 path_of() { path=$top/crates/$1/out/$1; }
 
-# Whether the program, whose crates are in `crates`, is built from the sources as they are. The file PROGRAM.begun has the time at
-# which its build began; a program that `test` built has none.
+# Whether the program, whose crates are in `crates`, is built from the sources as they are. The file PROGRAM.begun has the time when
+# its build began; a program that `test` built has none.
 is_fresh() {
   local built path
   path_of "$1"

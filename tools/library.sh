@@ -6,7 +6,7 @@
 # The version of the programs, the library and the archive.
 version() { head -n 1 "$top/VERSION"; }
 
-# Whether the library is built of its sources as they are. Sets `crates` to those that it needs.
+# Whether the library is built from its sources as they are. Sets `crates` to those that it needs.
 is_library_fresh() {
   list_crates po_c
   ! is_older "$top/crates/po_c/out/libpo_c.a" "$top/crates.txt" "${crates[@]}"
@@ -37,7 +37,7 @@ need_target() {
   exit 2
 }
 
-# Sets `target` to the one that the words name by --target, or to x86_64, and `rest` to the other words. Ends if there is no such
+# Sets `target` to the one that the words name with --target, or to x86_64, and `rest` to the other words. Ends if there is no such
 # target.
 take_target() {
   target=x86_64 rest=()
@@ -60,7 +60,7 @@ proved_for() {
   if [ "$1" = x86_64 ]; then echo "$top/crates/po_c/out/libpo_c.a"; else echo "$top/crates/po_c/out/$1/libpo_c.a"; fi
 }
 
-# Builds the library for the target if it isn't fresh. All is proved already, by `need_library`, which builds x86-64's.
+# Builds the library for the target if it isn't fresh. `need_library`, which builds x86-64's, has proved it already.
 need_library_for() {
   local crates
   [ "$1" != x86_64 ] || return 0
@@ -73,15 +73,15 @@ need_library_for() {
   build_or_end 9<&-
 }
 
-# Prints the name of a tool of the C compiler's for the target: of this machine's own, or of the cross compiler's.
+# Prints the name of a C compiler's tool for the target: this machine's own, or the cross compiler's.
 tool_for() {
   if [ "$1" = "$(uname -m)" ]; then echo "$2"; else echo "$1-linux-gnu-$2"; fi
 }
 
-# Whether this machine can compile the three functions of memory for the target. Those for x86-64 are the kit's.
+# Whether this machine can compile the three memory functions for the target. Those for x86-64 are the kit's.
 has_heap_for() { [ "$1" = x86_64 ] || command -v "$(tool_for "$1" gcc)" >/dev/null; }
 
-# Puts into the folder the object of the three functions of memory, over malloc, realloc and free.
+# Puts into the folder the object file of the three memory functions, over malloc, realloc and free.
 put_heap() {
   if [ "$2" = x86_64 ]; then
     (cd "$1" && ar x "$(dirname "$(rt doc)")/c/liblibc_c.a")
@@ -92,7 +92,7 @@ put_heap() {
   rm -f "$1/heap.c"
 }
 
-# Puts libpobj.a for the target into the folder: what was proved, and the three functions of memory. Without a compiler for the
+# Puts libpobj.a for the target into the folder: what was proved, and the three memory functions. Without a compiler for the
 # target, these are put beside it as heap.c.
 put_archive() {
   local to=$1 target=${2-x86_64} objects
@@ -133,7 +133,7 @@ put_bare() {
   rm "$to/share/pobj/bare/pobj_arena.h"
 }
 
-# Makes the folder for the library. Ends if there can be none, or if it has something that isn't pobj's.
+# Makes the folder for the library. Ends if that fails, or if the folder has something that isn't pobj's.
 make_folder() {
   if [ -e "$1" ] && [ ! -d "$1/share/pobj" ] && [ -n "$(ls -A "$1")" ]; then
     say "$1 exists, and isn't a folder that pobj c made"
@@ -186,7 +186,7 @@ put_programs() {
   cp "$top"/tools/picture/{picture,story,timeline,findings,report,lanes,marks,svg}.py "$to/share/pobj/picture/"
 }
 
-# Puts into the folder the command that begins the programs, or for a target without them what is for Ada alone.
+# Puts into the folder the command that starts the programs; for a target without programs, only what is for Ada.
 put_command() {
   mkdir -p "$1/bin" "$1/share/pobj"
   cp "$top/tools/installed.sh" "$1/bin/pobj"
@@ -210,7 +210,7 @@ put_pages() {
   cp -r "$top/examples" "$1/examples"
 }
 
-# Puts into the folder what users without the toolchain need. Only for x86-64 are there programs.
+# Puts into the folder what users without the toolchain need. There are programs only for x86-64.
 put_all() {
   local to=$1 target=${2-x86_64}
   [ "$target" != x86_64 ] || put_programs "$to"

@@ -1,7 +1,7 @@
 #!/usr/bin/env bash
 # SPDX-License-Identifier: MIT
-# Draws the pictures of the pages again, docs/pictures/*.svg, and those of the scripts of examples/ and comparison/differences/
-# that the words name. The built program carries out the scripts, or else one trial of its sources.
+# Redraws the pictures of the pages, docs/pictures/*.svg, and those of the scripts of examples/ and comparison/differences/ that
+# the words name. The built program carries out the scripts, or if there is none, one trial of its sources.
 set -eu
 cd "$(dirname "$0")/.."
 top=$PWD

@@ -20,7 +20,7 @@ put_library() {
   cp -a "$1" "$2"
 }
 
-# Makes the room. What earlier builds of the crate left moves there, or for another target is copied: rt writes over the archive.
+# Makes the room. What earlier builds of the crate left is moved there, or copied for another target: rt overwrites the archive.
 make_room() {
   local part name
   list_crates "$crate"

@@ -12,7 +12,7 @@ refuse_trial() {
   exit 5
 }
 
-# Says that this is a trial, how long it takes, and what spares the user further ones.
+# Says that this is a trial, how long it takes, and how to avoid further ones.
 announce_trial() {
   local why="the program isn't built" path
   path_of "$program"
@@ -30,13 +30,13 @@ end_trial() {
   rm -rf "$room"
 }
 
-# Keeps what the program reads: a trial hands it over whole.
+# Keeps what the program reads: a trial gets it whole.
 keep_input() {
   head -c $((most_input + 1)) >"$room/input" || refuse_trial "the script can't be read"
   [ "$(stat -c %s "$room/input")" -le "$most_input" ] || refuse_trial "the script has more than 64 MiB"
 }
 
-# Hands the file with this path over to the trial: under the same path, if that leads below this folder, else under its own name.
+# Hands the file with this path to the trial: under the same path if that is below this folder, otherwise under its own name.
 # Sets `name` to that.
 keep_file() {
   name=$1
@@ -107,7 +107,7 @@ errors_of_program() {
   awk '{ line[NR] = $0 } !/^(checked|races|interpreter|run|rt)[:=]/ { last = NR } END { for (n = 1; n <= last; n++) print line[n] }' "$room/said"
 }
 
-# Hands on what the program wrote, and ends with its status.
+# Passes on what the program wrote, and ends with its status.
 hand_on() {
   errors_of_program >&2
   if ! cat "$room/output"; then

@@ -154,7 +154,7 @@ need_file() {
 }
 
 # Sets `file` to the script that the words after `run` or `check` name, and `text` to the Ada text after `--unit`, or each to nothing
-# if they name none. Ends if a file can't be read, or if the words are others.
+# if they name none. Ends if a file can't be read, or if the words are wrong.
 take_script() {
   command=$1 file="" text=""
   shift
@@ -206,7 +206,7 @@ explain_fault() {
 }
 
 # Carries out the script by a built program, and ends: run_file PROGRAM SCRIPT WORDS.. On a terminal a faulty line is shown too, if
-# the script can be read again. Elsewhere standard error has the program's own text alone, which users may compare.
+# the script can be read again. Elsewhere standard error has only the program's own text, which users may compare.
 run_file() {
   program=$1 script=$2
   shift 2

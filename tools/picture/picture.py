@@ -140,7 +140,7 @@ def replace(output, picture):
 
 
 def write(data):
-    """Writes these bytes to standard output, without a buffer that Python would write once more at its end."""
+    """Writes these bytes to standard output, without a buffer that Python would write again at its end."""
     rest = memoryview(data)
     while rest:
         rest = rest[os.write(1, rest) :]

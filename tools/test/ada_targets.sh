@@ -33,7 +33,7 @@ packed_ada_for_aarch64() {
   fi
 }
 
-# Runs the Ada tests over the libpobj.a for aarch64 of the folder, by qemu.
+# Runs the Ada tests over the folder's libpobj.a for aarch64, under qemu.
 ada_rows_for_targets() {
   local missing
   missing=$(missing_for_aarch64)

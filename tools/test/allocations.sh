@@ -2,8 +2,8 @@
 # shellcheck shell=bash
 # The program that is refused memory. Read by `test`.
 
-# Runs the program test_memory on a share of the inputs, and refuses its allocation with the number $most each time. What each run
-# writes goes to a file of its own.
+# Runs the program test_memory on a share of the inputs, and refuses its allocation number $most each time. What each run writes
+# goes to a file of its own.
 run_share() {
   (cd crates/test_memory && rt try --fail-alloc "$most" --cases "$work/inputs-$1") >"$work/memory-$1" 2>"$work/notes-$1"
   awk -v to="$work/outputs/" '/^== / { file = to $2; next } { print > file }' "$work/memory-$1"
@@ -25,10 +25,10 @@ run_shares() {
   wait "${pids[@]}"
 }
 
-# Runs the program test_memory with each of its allocations refused in turn; it makes fewer than $most. The allocation with the
-# number $most is always the one that is refused. But first the program makes an allocation for each byte of its input, so the
-# input's length decides which of the allocations that count is refused. Each run has to print what it prints with all its
-# memory, except that memory ran out once. In the last run the refused allocation comes after all that count.
+# Runs the program test_memory with each of its allocations refused in turn; it makes fewer than $most. The refused
+# allocation is always number $most. But first the program makes an allocation for each byte of its input, so the input's length
+# decides which of the allocations that count is refused. Each run has to print what it prints with all its
+# memory, except that memory ran out once. In the last run the refused allocation comes after all those that count.
 refused_memory() {
   local most=440 work=$scratch/allocations n name
   mkdir -p "$work/outputs"

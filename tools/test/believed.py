@@ -203,7 +203,7 @@ def counted(found):
 
 
 def unproved():
-    """The rows of what stands in crates/ and is to be believed, or would be."""
+    """The rows of what is in crates/ and has to be believed, or would have to be."""
     code, proofs = ("//", "*/src/*.rt"), ("--", "*/specs/*.antt", "*/proofs/**/*.antt")
     yield "functions that C calls, with the attribute `unsafe(no_mangle)`", counted(found_in(r"#\[unsafe\(", *code))
     yield "lines with `unsafe`, except such attributes", counted(found_in(r"(?<!\[)\bunsafe\b", *code))

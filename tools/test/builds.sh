@@ -214,7 +214,7 @@ comparing_there() {
 }
 
 # Calls `pobj` without a toolchain; with trials that answer, are refused, and don't end; with a build that fails, and one that makes a
-# program; with a source that is newer, which means a trial again; and with words that it refuses.
+# program; with a newer source, so that a trial answers again; and with words that it refuses.
 builds() {
   make_repository
   call_there 6 run

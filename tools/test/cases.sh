@@ -45,7 +45,7 @@ run_case() {
   fi
 }
 
-# Runs from a file into a file, one of which fails. The last word is the message that this must give.
+# Runs a script from one file into another, one of which fails. The last word is the message that this has to give.
 broken() {
   local got
   ./pobj run <"$1" >"$2" 2>"$scratch/err"
@@ -57,7 +57,7 @@ broken() {
   fi
 }
 
-# Whether the programs are built of the sources as they are. If one isn't, `pobj` would try the sources.
+# Whether the programs are built from the sources as they are. If one isn't, `pobj` would try the sources.
 are_built() {
   local program crates=()
   for program in pobj_run pobj_check pobj_stress pobj_text pobj_explore; do
@@ -164,7 +164,7 @@ scenes_by_program() {
   if timeout 120 python3 tools/test/terminal.py ./pobj explore; then pass; else fail "a search that is ended by ^C"; fi
 }
 
-# Lays out the scenes as a trial takes them, but those of over 9,999 situations, which take a trial minutes.
+# Lays out the scenes as a trial takes them, except those with more than 9,999 situations, which take a trial minutes.
 lay_out_scenes() {
   local base name
   mkdir -p "$scratch/$1/cases"

@@ -15,7 +15,7 @@ count_clients() {
   count "$file" "$name"
 }
 
-# Builds the archive once more, in another folder, and compares the bytes.
+# Builds the archive again, in another folder, and compares the bytes.
 same_bytes() {
   copy_crates "$scratch/again"
   (cd "$scratch/again/crates/po_c" && rt lib) >"$scratch/again.log" 2>&1 || fail "po_c could not be built once more"
@@ -37,14 +37,14 @@ packed_ada() {
   fi
 }
 
-# Draws pictures of a script and of a scene by what is packed.
+# Draws pictures of a script and of a scene with what is packed.
 packed_picture() {
   env -i "PATH=$2" "$1/bin/pobj" explore examples/scenes/crossed.scene --picture "$scratch/packed-found" >/dev/null 2>&1
   if cmp -s "$scratch/packed-found/1.svg" docs/pictures/crossed.svg; then pass; else fail "the packed pobj draws another picture of a scene"; fi
   if env -i "PATH=$2" "$1/bin/pobj" picture examples/relay.pobj | cmp -s - docs/pictures/relay.svg; then pass; else fail "the packed pobj draws another picture"; fi
 }
 
-# Tries what `pobj dist` packs, in a folder with marks in its name and with no toolchain in the path: it runs a script, its example is
+# Tries what `pobj dist` packs, in a folder with punctuation in its name and with no toolchain in the path: it runs a script, its example is
 # compiled, and an Ada program runs over its runtime.
 unpacked() {
   local to="$scratch/dist, a&b" bare=/usr/bin:/bin
@@ -65,8 +65,8 @@ count_rows() {
   [ "$status" -eq 0 ] || fail "./compare ${*:2} ended with status $status: $(cat "$scratch/rows" "$scratch/rows.faults")"
 }
 
-# Runs, if GNAT is there, the tests of bindings/ada, Ada programs, and scripts that GNAT's tasks carry out over the engine, those of
-# examples/ada without it too, and counts the instructions of calls.
+# If GNAT is there, runs the tests of bindings/ada, Ada programs, and scripts that GNAT's tasks carry out over the engine (those of
+# examples/ada also without it), and counts the instructions of calls.
 ada_clients() {
   if ! command -v gnatmake >/dev/null; then
     report "the Ada tests are skipped: there is no gnatmake"
@@ -83,7 +83,7 @@ ada_clients() {
   ada_rows_for_gnat_11 "$scratch/lib"
 }
 
-# Runs, if a C compiler is there, all of bindings/c/tests over the library that the proofs built, and then what else uses it.
+# If a C compiler is there, runs all of bindings/c/tests over the library that the proofs built, and then what else uses it.
 clients() {
   if ! command -v gcc >/dev/null || [ ! -e crates/po_c/out/libpo_c.a ]; then
     report "the C tests are skipped: there is no gcc, or no library"

@@ -11,7 +11,7 @@ step='^(test .* \.\.\. |case=|== |passed: )|: refused$|^(FAILED|BAD): |: [0-9]+ 
 
 elapsed() { echo "$((SECONDS / 60)) min $((SECONDS % 60)) s"; }
 
-# Says a line: on a terminal in place of the one before, no wider than the terminal.
+# Writes a line: on a terminal in place of the line before, and no wider than the terminal.
 say_now() {
   local size width
   if [ -t 2 ]; then
@@ -32,7 +32,7 @@ steps_of() {
   if [ "$total" = many ]; then echo " ($made so far)"; else echo " ($made of $total)"; fi
 }
 
-# Says which jobs run now, how far each is, how many of how many have ended, and how much time has passed.
+# Says which jobs run now and how far each is, how many of them all have ended, and how much time has passed.
 show_now() {
   local file total files line=""
   for file in "$scratch"/now/*; do
@@ -86,7 +86,7 @@ check() {
   note_kind "${1//_/ }" $((passed - passed_before)) $((failed - failed_before))
 }
 
-# Carries out a job beside others, and once it has ended shows what it wrote, except its counts.
+# Carries out a job beside others. Once it has ended, shows what it wrote, except its counts.
 check_beside() {
   local job log=$scratch/log-${1// /-}
   job=$(name_of "$1")

@@ -1,7 +1,7 @@
 #!/usr/bin/env python3
 # SPDX-License-Identifier: MIT
-"""Notes at each library that `rt ci` built in a copy of the crates, the folder given, from which sources it was built, as `rt lib` does.
-So what follows in this copy uses what was just proved, and nothing is proved twice."""
+"""For each library that `rt ci` built in a copy of the crates, the folder given, notes from which sources it was built, as `rt lib` does.
+So later steps in this copy use what was just proved, and nothing is proved twice."""
 
 import importlib.machinery
 import importlib.util

@@ -53,7 +53,7 @@ believed_is_counted() {
   fi
 }
 
-# README.md has the numbers of what the headline rests on, alone and with the commands' clauses, of the premise and of the views.
+# README.md has the counts of what the headline rests on, alone and with the commands' clauses, of the premise, and of the views.
 headline_is_counted() {
   local counted
   while IFS= read -r counted; do
@@ -113,7 +113,7 @@ paragraphs_are_short() {
   if [ -z "$long" ]; then pass; else fail "paragraphs of more than 500 characters: $long"; fi
 }
 
-# All pages together are short. A word is what has a letter or a digit, outside of code.
+# All pages together are short. A word is anything outside of code that has a letter or a digit.
 pages_are_short() {
   local words
   words=$(awk '/^```/ { code = !code } !code && !/^    / { for (at = 1; at <= NF; at++) words += $at ~ /[[:alnum:]]/ } END { print words }' README.md CONTRIBUTING.md docs/*.md)

@@ -1,6 +1,6 @@
 # SPDX-License-Identifier: MIT
 # shellcheck shell=bash
-# Tests of what draws the pictures, and of those in the pages, which have to be as they would be drawn now. Read by `test`.
+# Tests of what draws the pictures, and of the pages' pictures, which have to be as they would be drawn now. Read by `test`.
 
 pictures() {
   local name

@@ -1,8 +1,8 @@
 # SPDX-License-Identifier: MIT
 # shellcheck shell=bash
-# The proofs of the crates from nothing: `rt ci` over a copy, and then the wrong bodies over what it kept. Read by `test`.
+# The proofs of the crates from scratch: `rt ci` over a copy, and then the wrong bodies over what it kept. Read by `test`.
 
-# The commit of the last full run, and the crates whose wrong bodies that run saw refused, each with the sum of its files.
+# What the last full run noted: its commit, and the crates whose wrong bodies it saw refused, each with the sum of its files.
 tested=tools/test/tested.txt
 
 # The sum of a crate's files and of its wrong bodies.
@@ -10,7 +10,7 @@ sum_of() {
   (cd "crates/$1" && find src specs proofs must-fail -type f 2>/dev/null | LC_ALL=C sort | xargs sha256sum | sha256sum | cut -c1-16)
 }
 
-# Whether the crate is as the last full run met it.
+# Whether the crate is unchanged since the last full run.
 is_tested() { grep -qx "$1 $(sum_of "$1")" "$tested" 2>/dev/null; }
 
 # The names of the crates of crates.txt.
@@ -31,10 +31,10 @@ changed_crates() {
   done
 }
 
-# Whether a crate is tests alone: a library in form, on which nothing depends.
+# Whether a crate has only tests: in form it is a library, but nothing depends on it.
 is_tests_alone() { [[ $1 == test_* && -f crates/$1/src/lib.rt ]]; }
 
-# Leaves out of the copy the crates that are tests alone: `./test` has run them, with a check at each operation.
+# Removes from the copy the crates that have only tests: `./test` has run them, with a check at each operation.
 leave_out_tests() {
   local name
   for name in $(crate_names); do
@@ -63,7 +63,7 @@ proofs() {
   build_archive "$copy"
 }
 
-# Builds the archive of the library for C in the copy, over what was proved there, and takes it over.
+# Builds the archive of the library for C in the copy, over what was proved there, and copies it here.
 build_archive() {
   mkdir -p crates/po_c/out
   if (cd "$1/crates/po_c" && rt lib) >"$scratch/archive" 2>&1; then
@@ -73,7 +73,7 @@ build_archive() {
   fi
 }
 
-# Takes over a program that was built in the copy.
+# Copies a program here that was built in the copy.
 take_over() {
   mkdir -p "crates/$2/out"
   cp "$1/crates/$2/out/$2" "crates/$2/out/$2.new"
@@ -130,13 +130,13 @@ prove_all() {
   if [ "$failed" -eq 0 ]; then note_tested; fi
 }
 
-# All proofs, those of the crates that are tests alone too.
+# All proofs, also those of the crates that have only tests.
 prove_tests() {
   copy_crates "$scratch/copy"
   check proofs copy
 }
 
-# Notes the crates of a full run in which all passed.
+# Notes the crates of a full run in which everything passed.
 note_tested() {
   local name
   {

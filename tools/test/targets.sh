@@ -3,7 +3,7 @@
 # The library for aarch64: its archive is built twice, its tests run under qemu, and so does the example without an operating system,
 # which runs on x86-64, too. Read by `test`, after library.sh and clients.sh.
 
-# What the tests on aarch64 are run by: a program, and Debian's package of it.
+# What the tests on aarch64 need: each program, and Debian's package of it.
 needed_for_aarch64="aarch64-linux-gnu-gcc:gcc-aarch64-linux-gnu qemu-aarch64:qemu-user qemu-system-aarch64:qemu-system-arm"
 
 # Prints the packages whose programs aren't there.
@@ -15,13 +15,13 @@ lacking_packages() {
   [ -e /usr/aarch64-linux-gnu/lib/libc.a ] || echo libc6-dev-arm64-cross
 }
 
-# Builds the archive for aarch64 in a copy of the crates, in which all is proved.
+# Builds the archive for aarch64 in a copy of the crates in which everything is proved.
 build_for_aarch64() {
   (cd "$scratch/$1/crates/po_c" && rt lib --target aarch64-unknown-linux-gnu) >"$scratch/$1-aarch64" 2>&1 \
     || fail "po_c wasn't built for aarch64: $(tail -n 3 "$scratch/$1-aarch64")"
 }
 
-# Builds it in both copies, in which x86-64's was built, compares the bytes, and takes it over.
+# Builds it in both copies, in which x86-64's was built, compares the bytes, and copies it here.
 same_bytes_for_aarch64() {
   build_for_aarch64 copy
   build_for_aarch64 again
@@ -30,13 +30,13 @@ same_bytes_for_aarch64() {
   cp "$scratch/copy/crates/po_c/out/libpo_c.a" crates/po_c/out/aarch64/
 }
 
-# What the proved object asks of its surroundings: three functions of memory, three of the C library, and no more.
+# What the proved object needs from outside: three memory functions, three of the C library, and no more.
 asks_for_six() {
   same "$(nm -u "$(proved_for "$1")" | awk 'NF == 2 { print $2 }' | LC_ALL=C sort | tr '\n' ' ')" \
     "memcpy memmove memset rattle_alloc rattle_dealloc rattle_realloc " "what the object for $1 asks for"
 }
 
-# Runs the C tests, and scripts, by the emulator.
+# Runs the C tests, and scripts, under the emulator.
 tests_by_emulator() {
   local program=$scratch/script-aarch64
   mkdir -p "$scratch/lib-aarch64"
@@ -64,8 +64,8 @@ row_of() {
   echo "$row"
 }
 
-# Says how much the example takes that was built in this folder and wrote this file, and compares it with docs/C.md. Code and stack of
-# the example depend on the compiler: they are compared if it is the one that the page names.
+# Says how much the example in this folder takes, which wrote this file, and compares that with docs/C.md. The example's code and
+# stack depend on the compiler: they are compared if it is the one that the page names.
 compare_sizes() {
   local target=$1 to=$2 said=$3 numbers
   numbers=("$(size_of "$to/lib/pobj.o")" "$(size_of "$to/share/pobj/bare/control")" "$(number_after 'arena bytes' "$said")"
@@ -89,7 +89,7 @@ bare() {
   fi
 }
 
-# Tries what `pobj dist --target aarch64` packs: its sums, and its example by the emulator.
+# Tries what `pobj dist --target aarch64` packs: its sums, and its example under the emulator.
 unpacked_for_aarch64() {
   local to=$scratch/dist-aarch64
   put_all "$to" aarch64
@@ -98,7 +98,7 @@ unpacked_for_aarch64() {
     && qemu-aarch64 "$scratch/buffer-aarch64" | cmp -s - "$to/share/pobj/examples/buffer.out"; then pass; else fail "the packed library for aarch64 doesn't run its example"; fi
 }
 
-# All of it, as far as the packages are there. The copies in which all is proved are those of proofs.sh and of `same_bytes`.
+# All of this, as far as the packages are there. The copies in which everything is proved are those of proofs.sh and of `same_bytes`.
 targets() {
   local lacking
   if [ ! -d "$scratch/copy" ] || [ ! -d "$scratch/again" ]; then

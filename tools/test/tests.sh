@@ -9,14 +9,14 @@ crates_with_tests() {
     | sort -k 1,1nr -k 2 | cut -d ' ' -f 2
 }
 
-# How many jobs go side by side: at most four, since a trial takes a gigabyte of memory and more.
+# How many jobs go side by side: at most four, since a trial takes at least a gigabyte of memory.
 most_tries() {
   local most
   most=$(nproc)
   echo $((most < 4 ? most : 4))
 }
 
-# Runs the tests of a crate. They fail too if `rt try` ends with another status than 0, whatever it counts.
+# Runs the tests of a crate. They also fail if `rt try` ends with a status other than 0, whatever it counts.
 tests() {
   local status=0
   steps_in "$(grep -rhE '^ *#\[test\]$' "crates/$1/src" | wc -l)" "$scratch/tests-$1"
@@ -26,7 +26,7 @@ tests() {
   [ "$status" -eq 0 ] || fail "rt try --test in $1 ended with status $status: $(cat "$scratch/tests-$1")"
 }
 
-# Whether the files of a crate are laid out as `rt fmt` does it.
+# Whether the files of a crate are laid out as by `rt fmt`.
 layout() {
   local copy=$scratch/layout/$1
   mkdir -p "$copy"
@@ -39,7 +39,7 @@ layout() {
   fi
 }
 
-# Whether the scenes of two and of three threads end in every order as every_order.out says: five minutes, by the built program.
+# Whether the scenes of two and of three threads end as every_order.out says, in every order: five minutes with the built program.
 schedules() {
   steps_in "$(wc -l <tools/test/every_order.out)" "$scratch/schedules"
   crates/test_schedules/out/test_schedules all >"$scratch/schedules" 2>&1

@@ -4,7 +4,7 @@
 # the changes of GNAT's units. Read by `test`.
 
 # Runs the tests of the scripts that count definitions, look for words, try wrong bodies, change units of GNAT's, show records
-# of Ada programs and make scenes of them, make Ada programs of Ada texts, and compare with SPIN.
+# of Ada programs and make scenes from them, make Ada programs from Ada texts, and compare with SPIN.
 scripts_are_tested() {
   local name
   for name in walk words wrong_bodies change trace scene text_program spin; do
@@ -24,7 +24,7 @@ changes_fit() {
   fi
 }
 
-# What `tests` counts of a crate of which `rt try` says that two tests passed, and ends with this status.
+# What `tests` counts for a crate if `rt try` says that two tests passed, and ends with this status.
 counted_with() {
   local scratch=$scratch/mock-$1 passed=0 failed=0 job=mock
   mkdir -p "$scratch/bin" "$scratch/now" "$scratch/crates/mock/src"
@@ -52,7 +52,7 @@ said_of_jobs() {
   say_count
 }
 
-# The line that says what runs while one of two jobs that go side by side has ended, and the other has done one of three steps.
+# The line that says what runs, when one of two side-by-side jobs has ended and the other has done one of three steps.
 said_of_run() {
   local scratch=$scratch/mock-run job="tests of mock" SECONDS=61
   mkdir -p "$scratch/now"

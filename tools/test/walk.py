@@ -11,7 +11,7 @@ CRATES = TOP / "crates"
 
 
 def look_in(top):
-    """Looks from now on in the repository in this folder, as it is now."""
+    """From now on looks in the repository in this folder, as it is now."""
     global TOP, CRATES
     TOP, CRATES = top, top / "crates"
     for cached in (definitions, all_types, scope, cited):
@@ -199,7 +199,7 @@ def contracts(lines):
 
 
 def ghosts(lines):
-    """The lines of the ghost items among these: what a type means, what its fields keep. A proof is none, nor is what is used."""
+    """The lines of the ghost items among these: what a type means, what its fields keep. Proofs don't count, nor do `use` lines."""
     found, inside = [], False
     for line in lines:
         word = re.match(r" +(?:pub )?ghost (\w+)", line)

@@ -7,7 +7,7 @@ import re
 import subprocess
 import sys
 
-# What reads twice, as a pattern, and what to write in its place.
+# What has to be read twice, as a pattern, and what to write instead.
 WORDS = [
     (r"[Ww]here (no|the|there|it|its|a|an|all|memory|that|this|one|none|nothing|nobody|each|any|both|they) ", "if, when"),
     (r"\b[Bb]ehind (that|all|it|them|this|which|each|a|an|the|its) (?!.{0,12}\block)", "after"),
@@ -50,7 +50,7 @@ def texts_of(path, lines):
 
 
 def faults(path):
-    """What is to be said otherwise in a file, a line each."""
+    """What has to be written otherwise in a file, a line each."""
     for number, text in texts_of(path, path.read_text(errors="replace").splitlines()):
         for pattern, better in PATTERNS:
             found = pattern.search(text)

@@ -120,8 +120,8 @@ findings_there() {
   if [ -e "$to/no" ]; then fail "a folder is made for no picture"; else pass; fi
 }
 
-# On a terminal a fault is shown with its line, by the built program and by a trial. If nobody reads along, standard error
-# has the program's own text alone.
+# On a terminal a fault is shown with its line, by the built program and by a trial. Elsewhere standard error
+# has only the program's own text.
 faults_there() {
   local fault="cat >/dev/null; echo 'pobj: line 2: bad unit' >&2" pobj=$scratch/build/pobj
   put_program pobj_run "$fault; exit 1"
@@ -153,7 +153,7 @@ kits_there() {
   mv "$scratch/build/kit/rt" "$scratch/build/bin/rt"
 }
 
-# A picture in a file is written if it is whole. If not, the file stays as it was, and nothing lies beside it.
+# A picture is written to its file only if it is whole. If not, the file is unchanged, and no other file is left beside it.
 picture_in_file() {
   local to=$scratch/pictures answers='printf "value 0\nWait 0\nclock 0\nnext 1\n"'
   mkdir "$to"
@@ -239,7 +239,7 @@ make_cross_compiler() {
   chmod +x "$scratch"/build/bin/aarch64-linux-gnu-*
 }
 
-# The library for another target is built beside that for x86-64, which stays as it is. Of --bare there is the object alone.
+# The library for another target is built beside that for x86-64, which stays as it is. With --bare there is only the object.
 targets_there() {
   local to=$scratch/targets proved=$scratch/build/crates/po_c/out
   make_cross_compiler
@@ -255,7 +255,7 @@ targets_there() {
   same "$(ar p "$to/own/lib/libpobj.a" po_c.o)" lib "what is proved for x86-64"
 }
 
-# Without the cross compiler the three functions of memory come as heap.c, which is said; and so is a compiler that can't compile it.
+# Without the cross compiler, the three memory functions come as heap.c, and a line says so; so too if the compiler can't compile it.
 without_compiler() {
   local tool to=$scratch/no-compiler
   printf '#!/bin/sh\nexit 1\n' >"$scratch/build/bin/aarch64-linux-gnu-gcc"
@@ -290,7 +290,7 @@ broken_off_there() {
   mv "$scratch/rt" "$rt"
 }
 
-# What the archive for aarch64 has: no programs, and of its `pobj` what is for Ada.
+# What the archive for aarch64 has: no programs, and only the part of `pobj` that is for Ada.
 packs_for_aarch64() {
   local name path to
   name=pobj-$(cat VERSION)-aarch64-linux
@@ -307,7 +307,7 @@ packs_for_aarch64() {
   if git check-ignore -q "$name.tar.gz"; then pass; else fail "git doesn't ignore $name.tar.gz"; fi
 }
 
-# `pobj c` fills an empty folder and its own again, and no other one.
+# `pobj c` fills an empty folder, or refills its own, and no other one.
 folders_there() {
   local to=$scratch/folders
   mkdir -p "$to/foreign" "$to/empty"

@@ -1,7 +1,7 @@
 #!/usr/bin/env python3
 # SPDX-License-Identifier: MIT
-"""Tries the wrong bodies of crates (crates/NAME/must-fail/*.edit), without names those of all crates. The prover has to refuse each
-since a clause is false of it. An edit is BAD, and fails too, if the prover refuses it only because a proof names what it took away.
+"""Tries the wrong bodies of crates (crates/NAME/must-fail/*.edit), of all crates if none is named. The prover has to refuse each
+because a clause is false of it. An edit is BAD, and fails too, if the prover refuses it only because a proof names what it took away.
 Prints a line for each edit, and at the end 'N passed, M failed'.
 
 The edits are tried in a copy of the sources, or with --in FOLDER in that copy, over what the toolchain kept of proofs of these
@@ -164,7 +164,7 @@ def unread(line, paths):
 
 
 def why_bad(said, paths):
-    """Why the refusal of an edit of these files says nothing of a contract, or None if it does."""
+    """Why the refusal of an edit of these files says nothing about a contract, or None if it does."""
     told = complaints(said)
     unreadable = [line for line in told if unread(line, paths)]
     if unreadable:
@@ -199,7 +199,7 @@ def side_by_side(edits, crate):
 
 def settled(said, names):
     """Those of these functions that the prover refuses in a check although no proof file of theirs names what isn't there. None
-    if such a file belongs to none of the functions: then nobody can tell which of them are refused for that alone."""
+    if such a file belongs to none of the functions: then nobody can tell which of them are refused only for that."""
     by_name = {name: [path for path in naming(said) if f"/{name.replace('::', '/')}/" in path] for name in names}
     if set(naming(said)) - {path for paths in by_name.values() for path in paths}:
         return set()
