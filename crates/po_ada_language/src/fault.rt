@@ -1,6 +1,8 @@
 // SPDX-License-Identifier: MIT
 //! Why a line isn't carried out.
 
+ghost use Rattle.po_ada_language.specs.declared.fault.Stop.TheVariants.{OutOfMemory};
+
 use po_language::FaultKind;
 use std::alloc::{AllocError, AllocFailed, Global};
 use std::fmt::Write;
@@ -30,6 +32,10 @@ pub enum Stop {
 }
 
 impl From<AllocError> for Stop {
+    ghost use Rattle.std.specs.Prelude.{◌≡◌};
+
+    ghost from_gives = { λ _ stop. stop ≡ OutOfMemory };
+
     fn from(_error: AllocError) -> Stop {
         Stop::OutOfMemory
     }

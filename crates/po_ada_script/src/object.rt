@@ -1,7 +1,8 @@
 // SPDX-License-Identifier: MIT
 //! The object of a script.
 
-ghost use Rattle.std.specs.Prelude.{◌≡◌, IfOk, OnOk, OnErr, map, [], string_bytes};
+ghost use Rattle.std.specs.Prelude.{◌≡◌, ◌⊎◌, IfOk, IfErr, OnOk, OnErr, map, [], string_bytes};
+ghost use Rattle.po_unit.specs.Numbering.{HasTooMany};
 ghost use Rattle.po_script.specs.Tickets.{Knows, AreCollected};
 ghost use Rattle.po_ada_script.specs.Preconditions.{least};
 ghost use Rattle.po_ada_script.specs.Shapes.{declaration};
@@ -63,7 +64,8 @@ fn declarations(alloc: Global, entries: &[Entry]) -> Result<Vec<Decl>, AllocErro
 
 /// Makes the shape of the entries (9.5.2).
 pub fn shape_of(alloc: Global, entries: &[Entry]) -> Result<Shape, Stop>
-    ensures { IfOk result (λ shape. shape ≡ map declaration entries.now) }
+    ensures shape { IfOk result (λ shape. shape ≡ map declaration entries.now) }
+    ensures fails { IfErr result (λ stop. (stop ≡ Stop.OutOfMemory) ⊎ HasTooMany (map declaration entries.now)) }
 {
     let declarations = declarations(alloc, entries)?;
     match Shape::new(alloc, declarations.as_slice()) {

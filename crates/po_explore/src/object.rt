@@ -1,10 +1,10 @@
 // SPDX-License-Identifier: MIT
 //! An object of a scene between two commands.
 
-ghost use Rattle.std.specs.Prelude.{◌≡◌, ℕ, List, Some, false, is_some, find, replicate, option_map, IfOk, OnOk};
+ghost use Rattle.std.specs.Prelude.{◌≡◌, ◌⊎◌, ℕ, List, Some, false, is_some, find, replicate, option_map, IfOk, IfErr, OnOk};
 ghost use Rattle.po_engine.specs.WaitingCalls.{is_of};
 ghost use Rattle.po_ada_unit.specs.Object.{ada_meaning};
-ghost use Rattle.po_explore.specs.Scenes.{IsOpening};
+ghost use Rattle.po_explore.specs.Scenes.{IsOpening, CantBeMade};
 ghost use Rattle.po_explore.specs.Commands.{is_want, value_cells, no_values, after_operation, after_asking, after_abort, function_holds};
 
 use crate::key::key_of;
@@ -37,7 +37,8 @@ fn core_of(
     object: &SceneObject,
     capacity: usize,
 ) -> Result<BoundedCore<AdaUnit>, Stop>
-    ensures { IfOk result (λ core. IsOpening object.now core.object) }
+    ensures opens { IfOk result (λ core. IsOpening object.now core.object) }
+    ensures fails { IfErr result (λ stop. (stop ≡ Stop.OutOfMemory) ⊎ CantBeMade object.now) }
 {
     let shape = shape_of(alloc, object.names.entries.as_slice())?;
     let start = Start {
@@ -66,7 +67,8 @@ fn refused(refusal: Refusal) -> Result<Event, AllocError>
 impl Object {
     /// Makes an object of a scene with this many callers.
     pub(crate) fn new(alloc: Global, object: &SceneObject, callers: u16) -> Result<Object, Stop>
-        ensures { IfOk result (λ made. IsOpening object.now made.core.object) }
+        ensures opens { IfOk result (λ made. IsOpening object.now made.core.object) }
+        ensures fails { IfErr result (λ stop. (stop ≡ Stop.OutOfMemory) ⊎ CantBeMade object.now) }
     {
         let capacity = usize::from(callers);
         Ok(Object {

@@ -9,4 +9,4 @@ loop-named-preserved c =
     let x = c.named-item.result in
     made_more c.args.scene.now.objects.items i x c.loop-named.objects.items c.push.new.self.items c.in_ok-new.field-0
     (subst (λ l. i < length l) same c.loop-named-test.true) (subst (λ l. x ≡ get_or l i x) same c.named-item.is)
-    c.in_ok-push.ensures.items c.loop-named.invariant c.in_ok-new.ensures
+    c.in_ok-push.ensures.items c.loop-named.invariant c.in_ok-new.ensures.opens
