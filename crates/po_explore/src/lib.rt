@@ -6,7 +6,7 @@
 //! invariant that doesn't hold. Each finding has an order with the fewest commands that lead to it, which `report_of` carries out
 //! anew on new objects, and writes as a script.
 //!
-//! Begin with stage.rt, then states.rt and search.rt.
+//! Begin with stage.rt, then states.rt, workspace.rt and search.rt.
 #![tactic(auto)]
 
 mod answer;
