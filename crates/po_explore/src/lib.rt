@@ -2,9 +2,9 @@
 //! Explores a scene: every order in which its callers can make their commands.
 //!
 //! A situation is how far a scene is: how many commands each caller has made, and the state of each object. `explore` looks at
-//! every situation that some order leads to, those with the fewest commands first, and notes what it finds: callers that wait for ever, exceptions, an
-//! invariant that doesn't hold. Each finding has an order with the fewest commands that lead to it, which `report_of` carries out
-//! anew on new objects, and writes as a script.
+//! every situation that some order leads to, those with the fewest commands first, and notes what it finds: callers that wait for
+//! ever, exceptions, an invariant that doesn't hold. Each finding has an order with the fewest commands that lead to it, which
+//! `report_of` carries out again on new objects, and writes as a script.
 //!
 //! Begin with stage.rt, then states.rt, workspace.rt and search.rt.
 #![tactic(auto)]
@@ -28,5 +28,5 @@ mod workspace;
 pub use crate::explored::Explored;
 pub use crate::finding::{Found, Kind};
 pub use crate::report::{Report, Verdict, report_of};
-pub use crate::search::{Limits, Search, explore, most_looks};
+pub use crate::search::{Options, Search, explore, most_looks};
 pub use crate::walk::Walk;

@@ -13,7 +13,7 @@ use std::mem;
 
 /// What a search looks for, and how far it goes.
 #[derive(Clone, Copy, Debug)]
-pub struct Limits {
+pub struct Options {
     /// It ends when it has met more situations than these.
     pub situations: usize,
     /// Whether it notes how commands are answered.
@@ -44,7 +44,7 @@ type Layer = IndexMap<Situation, Reached>;
 #[derive(Drop)]
 pub struct Search {
     alloc: Global,
-    limits: Limits,
+    options: Options,
     explored: Explored,
     states: States,
     workspace: Workspace,
@@ -86,11 +86,11 @@ impl Search {
     /// Returns a search that is about to look at the situation before the first command.
     ///
     /// Fails only if an object can't be made or memory runs out.
-    pub fn new(alloc: Global, scene: &Scene, limits: Limits) -> Result<Search, Stop> {
+    pub fn new(alloc: Global, scene: &Scene, options: Options) -> Result<Search, Stop> {
         let mut search = Search {
             alloc,
-            limits,
-            explored: Explored::new(alloc, scene, limits.answers)?,
+            options,
+            explored: Explored::new(alloc, scene, options.answers)?,
             states: States::new(alloc, scene)?,
             workspace: Workspace::new(alloc, Stage::new(alloc, scene)?)?,
             layer: IndexMap::new(alloc),
@@ -191,7 +191,7 @@ impl Search {
 
     /// Returns whether there are more situations than the limit, with these of the next layer.
     fn is_too_much(&self, following: &Layer) -> bool {
-        self.explored.situations.saturating_add(following.len()) > self.limits.situations
+        self.explored.situations.saturating_add(following.len()) > self.options.situations
     }
 
     /// Looks at the situation with this position in the layer.
@@ -267,18 +267,18 @@ impl Search {
 }
 
 /// Returns how often a search has to look further at most.
-pub fn most_looks(scene: &Scene, limits: Limits) -> usize {
+pub fn most_looks(scene: &Scene, options: Options) -> usize {
     // Each time it looks at `SOME` situations, or ends a layer.
-    let looks = limits.situations.checked_div(SOME).unwrap_or(0);
+    let looks = options.situations.checked_div(SOME).unwrap_or(0);
     layer_count(scene).saturating_add(looks).saturating_add(1)
 }
 
 /// Looks at every situation of the scene, those to which the fewest commands lead first.
 ///
 /// Fails only if an object can't be made or memory runs out.
-pub fn explore(alloc: Global, scene: &Scene, limits: Limits) -> Result<Explored, Stop> {
-    let mut search = Search::new(alloc, scene, limits)?;
-    for _ in 0..most_looks(scene, limits) {
+pub fn explore(alloc: Global, scene: &Scene, options: Options) -> Result<Explored, Stop> {
+    let mut search = Search::new(alloc, scene, options)?;
+    for _ in 0..most_looks(scene, options) {
         if !search.look_further(scene)? {
             break;
         }

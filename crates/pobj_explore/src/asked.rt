@@ -4,7 +4,7 @@
 use clap::error::ErrorKind;
 use clap::{Arg, ArgAction, Command, Error};
 use po_command_line::{CommandError, EXPLORE, explore_command, pobj, words};
-use po_explore::Limits;
+use po_explore::Options;
 use std::alloc::{AllocError, Global};
 use std::env::Env;
 
@@ -48,7 +48,7 @@ pub(crate) struct Asked {
     pub(crate) scene: String,
     /// The file of the object that the scene doesn't name.
     pub(crate) unit: Option<String>,
-    pub(crate) limits: Limits,
+    pub(crate) options: Options,
     pub(crate) watched: Watched,
 }
 
@@ -160,7 +160,7 @@ pub(crate) fn parse<R: Env + AllocGlobal>(rt: &R) -> Result<Asked, CommandError>
         (Some(scene), Some(situations)) => Ok(Asked {
             scene,
             unit,
-            limits: Limits {
+            options: Options {
                 situations,
                 answers,
             },

@@ -8,7 +8,7 @@ use po_ada_command::print_fault;
 use po_ada_script::{RunFault, fault_at};
 use po_command_line::{CUT_OFF, FOUND, GOOD};
 use po_ada_language::Stop;
-use po_explore::{Explored, Limits, Report, Search, Verdict, most_looks, report_of};
+use po_explore::{Explored, Options, Report, Search, Verdict, most_looks, report_of};
 use po_scene::Scene;
 use std::alloc::Global;
 use std::io::{Eprint, Print};
@@ -20,11 +20,11 @@ fn searched<R: Eprint + Clock + Files>(
     rt: &R,
     alloc: Global,
     scene: &Scene,
-    limits: Limits,
+    options: Options,
     mut watch: Option<Watch>,
 ) -> Result<Explored, Stop> {
-    let mut search = Search::new(alloc, scene, limits)?;
-    for _ in 0..most_looks(scene, limits) {
+    let mut search = Search::new(alloc, scene, options)?;
+    for _ in 0..most_looks(scene, options) {
         if !search.look_further(scene)? {
             break;
         }
@@ -41,12 +41,12 @@ fn searched<R: Eprint + Clock + Files>(
 fn reported<R: Eprint + Clock + Files + AllocGlobal>(
     rt: &R,
     scene: &Scene,
-    limits: Limits,
+    options: Options,
     watched: Watched,
 ) -> Result<Report, Stop> {
     let alloc = rt.alloc();
     let watch = Watch::new(rt, watched);
-    let explored = searched(rt, alloc, scene, limits, watch)?;
+    let explored = searched(rt, alloc, scene, options, watch)?;
     report_of(alloc, scene, &explored)
 }
 
@@ -56,7 +56,7 @@ fn explored<R: Print + Eprint + Clock + Files + AllocGlobal>(
     asked: Asked,
 ) -> Result<Verdict, RunFault> {
     let scene = read(rt, asked.scene, asked.unit)?;
-    match reported(rt, &scene, asked.limits, asked.watched) {
+    match reported(rt, &scene, asked.options, asked.watched) {
         Ok(report) => {
             let text = report.text.as_str();
             match print!(rt; "{text}") {

@@ -11,7 +11,7 @@ use crate::drawing::{drawn, files};
 use crate::every_order::{Tried, try_every_order};
 use anyhow::{Result, bail};
 use po_ada_samples::{Lot, Sample, argument, samples};
-use po_explore::{Explored, Limits, explore};
+use po_explore::{Explored, Options, explore};
 use po_scene::{Scene, read_scene};
 use std::alloc::Global;
 use std::io::{Input, Print, Read};
@@ -58,11 +58,11 @@ fn compare(
 ) -> Result<()> {
     let alloc = rt.alloc();
     let scene = scene_of(alloc, samples, text)?;
-    let limits = Limits {
+    let options = Options {
         situations: MOST,
         answers: true,
     };
-    let Ok(explored) = explore(alloc, &scene, limits) else {
+    let Ok(explored) = explore(alloc, &scene, options) else {
         bail!("this scene can't be explored");
     };
     let tried = try_every_order(alloc, &scene)?;
