@@ -1,6 +1,6 @@
 -- SPDX-License-Identifier: MIT
 -- The declarations of entries in the words of the runtime.
-use Rattle.std.specs.Prelude.{ℤ, pos, Bool, true, false, Option, Some, None}
+use Rattle.std.specs.Prelude.{pos, Bool, true, false, Option, Some, None}
 use Rattle.po_unit.specs.declared.decl.Decl.{Decl}
 use Rattle.po_ada_names.specs.declared.names.Entry.{Entry}
 use Rattle.po_ada_names.specs.declared.names.Family.{Family}

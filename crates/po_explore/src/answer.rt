@@ -60,11 +60,7 @@ fn push_completed(
 }
 
 /// Adds that the operation raised the exception.
-fn push_raised(
-    text: &mut String,
-    names: &ObjectNames,
-    exception: u32,
-) -> Result<(), AllocError> {
+fn push_raised(text: &mut String, names: &ObjectNames, exception: u32) -> Result<(), AllocError> {
     text.push_str("raised ")?;
     push_exception(text, names, exception)
 }

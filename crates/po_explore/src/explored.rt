@@ -58,11 +58,7 @@ pub struct Explored {
 
 impl Explored {
     /// Nothing has been looked at.
-    pub(crate) fn new(
-        alloc: Global,
-        scene: &Scene,
-        answers: bool,
-    ) -> Result<Explored, AllocError> {
+    pub(crate) fn new(alloc: Global, scene: &Scene, answers: bool) -> Result<Explored, AllocError> {
         Ok(Explored {
             layers: Vec::new(alloc),
             findings: Vec::new(alloc),
@@ -79,12 +75,7 @@ impl Explored {
     }
 
     /// Notes what was found at this place, or after this caller's next command, unless the same was found before.
-    fn note(
-        &mut self,
-        found: Found,
-        place: Place,
-        caller: Option<u16>,
-    ) -> Result<(), AllocError> {
+    fn note(&mut self, found: Found, place: Place, caller: Option<u16>) -> Result<(), AllocError> {
         if self.has(found) {
             return Ok(());
         }

@@ -34,10 +34,7 @@ fn push_call(key: &mut Vec<i128>, call: &Call<Values>) -> Result<(), AllocError>
 }
 
 /// Adds the calls of each queue, in order of arrival.
-fn push_queues(
-    key: &mut Vec<i128>,
-    mut arrivals: Vec<Arrival<Values>>,
-) -> Result<(), AllocError> {
+fn push_queues(key: &mut Vec<i128>, mut arrivals: Vec<Arrival<Values>>) -> Result<(), AllocError> {
     arrivals.sort_by_key(|arrival| arrival.call.entry)?;
     for arrival in arrivals.iter() {
         push_call(key, &arrival.call)?;

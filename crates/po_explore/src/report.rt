@@ -102,7 +102,10 @@ fn push_answered(
     number: u32,
 ) -> Result<(), AllocError> {
     let (caller, words) = (caller_at(scene, line), line_at(scene, line));
-    write!(text, "the answer of command {number} of {caller}, '{words}', depends on the order: ")
+    write!(
+        text,
+        "the answer of command {number} of {caller}, '{words}', depends on the order: "
+    )
 }
 
 /// Adds what was found.

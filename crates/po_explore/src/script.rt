@@ -76,12 +76,7 @@ fn push_command(
 }
 
 /// Returns the answer to the latest command of a caller, which the last command brought about.
-fn answer_of(
-    alloc: Global,
-    scene: &Scene,
-    walk: &Walk,
-    told: &News,
-) -> Result<String, AllocError> {
+fn answer_of(alloc: Global, scene: &Scene, walk: &Walk, told: &News) -> Result<String, AllocError> {
     let mut answer = String::new(alloc);
     if let Some(command) = walk.stage.latest_of(scene, told.caller) {
         push_answer_to(&mut answer, scene, &command, told.event)?;

@@ -113,9 +113,7 @@ impl Search {
     pub fn finish(self) -> Result<Explored, AllocError> {
         let mut explored = self.explored;
         explored.states = self.states.count();
-        explored
-            .findings
-            .sort_by_key(|finding| finding.commands())?;
+        explored.findings.sort_by_key(|finding| finding.commands())?;
         Ok(explored)
     }
 
@@ -125,9 +123,7 @@ impl Search {
         self.explored
             .note_news(self.alloc, scene, stage, &[], ROOT, None)?;
         let states = &mut self.states;
-        let situation = self
-            .workspace
-            .first_situation(self.alloc, scene, states)?;
+        let situation = self.workspace.first_situation(self.alloc, scene, states)?;
         let mut layer = IndexMap::new(self.alloc);
         add(&mut layer, situation, ROOT, 0)?;
         Ok(self.turn_to(layer)?)

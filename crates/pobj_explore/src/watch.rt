@@ -48,7 +48,9 @@ impl Watch {
         if self.watched.progress {
             let (depth, situations) = (explored.depth(), explored.situations);
             let rate = (situations as u64).checked_div(seconds).unwrap_or(0);
-            let _written = eprintln!(rt; "after {depth} commands: {situations} situations, {rate} a second");
+            let _written = eprintln!(rt;
+                "after {depth} commands: {situations} situations, {rate} a second"
+            );
         }
     }
 
