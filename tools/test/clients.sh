@@ -64,8 +64,9 @@ count_rows() {
 }
 
 # Runs, if GNAT is there, the tests of bindings/ada, Ada programs, and scripts that GNAT's tasks carry out over the engine, those of
-# examples/ada without it too, and counts the instructions of calls.
+# examples/ada without it too, scripts and random orders of three scenes, and counts the instructions of calls.
 ada_clients() {
+  local scene
   if ! command -v gnatmake >/dev/null; then
     report "the Ada tests are skipped: there is no gnatmake"
     return
@@ -78,6 +79,9 @@ ada_clients() {
   count_rows '  same +same$' ada "$scratch/ada"
   count_rows '^\| `[a-z]+` .* [0-9]+ \|$' ada instructions "$scratch/ada"
   export -n POBJ
+  for scene in forks pool starved_writer; do
+    count_rows '^(same|20 of 20 random orders agree .*)$' explore "examples/scenes/$scene.scene"
+  done
   ada_rows_for_gnat_11 "$scratch/lib"
 }
 

@@ -4,10 +4,10 @@
 # the changes of GNAT's units. Read by `test`.
 
 # Runs the tests of the scripts that count definitions, look for words, try wrong bodies, change units of GNAT's, show records
-# of Ada programs, and make Ada programs of Ada texts.
+# of Ada programs, make Ada programs of Ada texts, and compare scenes.
 scripts_are_tested() {
   local name
-  for name in walk words wrong_bodies change trace text_program; do
+  for name in walk words wrong_bodies change trace text_program scenes; do
     python3 "tools/test/${name}_test.py" >"$scratch/$name-test" 2>&1 || sed '$d' "$scratch/$name-test"
     count "$scratch/$name-test" "tools/test/${name}_test.py"
   done
