@@ -99,11 +99,15 @@ def text_of(file):
     return file.read_bytes().decode(errors="replace")
 
 
-def lay_out(texts, folder):
-    """Writes each script into a file of the folder, whose name is the script's place."""
+def lay_out(texts, units, folder):
+    """Writes each script into a file of the folder, whose name is the script's place, and beside it the words of `pobj` for a script
+    on an Ada text: trial.sh puts each text into a folder whose name is the text's place."""
     folder.mkdir()
+    places = {unit: place for place, unit in enumerate(dict.fromkeys(units.values()))}
     for place, text in enumerate(texts):
         (folder / str(place)).write_text(text, encoding="utf-8")
+        if text in units:
+            (folder / f"{place}.args").write_text(f"run\n--unit\n{places[units[text]]}/{units[text].name}\n")
 
 
 def take_answers(texts, room):
@@ -117,15 +121,16 @@ def take_answers(texts, room):
         tried[texts[int(name)]] = answers_to_it if statuses[name] == "0" else None
 
 
-def try_scripts(texts, unit=()):
-    """Has one trial of pobj's sources carry out all scripts, if pobj isn't built. If it is, of_pobj runs it for each. The unit is one
-    of the eight, or that of the file with an Ada text."""
+def try_scripts(texts, files=()):
+    """Has one trial of pobj's sources carry out the scripts that no trial carried out yet, if pobj isn't built. If it is, of_pobj runs
+    it for each. The files are the Ada texts that the scripts are on, one for each, or none for the eight units."""
+    units, texts = dict(zip(texts, files)), [text for text in dict.fromkeys(texts) if text not in tried]
     if "POBJ" in os.environ or not texts:
         return
     with tempfile.TemporaryDirectory() as name:
         room = pathlib.Path(name)
-        lay_out(texts, room / "cases")
-        status = subprocess.run([TRIAL, name, *unit], stdin=subprocess.DEVNULL).returncode
+        lay_out(texts, units, room / "cases")
+        status = subprocess.run([TRIAL, name, *dict.fromkeys(units.values())], stdin=subprocess.DEVNULL).returncode
         if status == NO_RT:
             raise Missing("pobj isn't built, and the command rt isn't found: see \"Limits and the kit\" in README.md")
         if status != IS_BUILT:

@@ -1,10 +1,39 @@
 # SPDX-License-Identifier: MIT
-"""Writes the body of Own_Text: an Ada text, as text_program.py changed it, and after it the unit that calls its operations. Its
-own names begin with Pobj_, so that they aren't names of the text."""
+"""Writes a package for each Ada text, Own_Text_N: the text, as text_program.py changed it, and after it the unit that calls its
+operations. Own names begin with Pobj_, so that they aren't names of the text. The body of Own_Texts chooses among the packages."""
 
 import text_program
 
-HEAD = 'pragma Source_Reference (1, "{name}");\n{context} package body Own_Text is {text}\n'
+SPEC = """with Pobj_Texts;
+
+package Own_Text_{place} is
+   function Pobj_Made return not null Pobj_Texts.Units.Unit_Access;
+   procedure Pobj_Describe;
+end Own_Text_{place};
+"""
+CHOICE = """{context}
+
+package body Own_Texts is
+
+   function Made (Text : Positive) return not null Pobj_Texts.Units.Unit_Access is
+   begin
+      Pobj_Texts.Begin_Object;
+      case Text is
+{made}
+      end case;
+   end Made;
+
+   procedure Describe (Text : Positive) is
+   begin
+      Pobj_Texts.Begin_Object;
+      case Text is
+{described}
+      end case;
+   end Describe;
+
+end Own_Texts;
+"""
+HEAD = 'pragma Source_Reference (1, "{name}");\n{context} package body Own_Text_{place} is {text}\n'
 UNIT = """
    {uses}
 
@@ -118,7 +147,7 @@ UNIT = """
            ("unmade " & Standard.Pobj_Texts.Exceptions.Exception_Name (Pobj_Occurrence));
    end Pobj_Describe;
 
-end Own_Text;
+end Own_Text_{place};
 """
 SIMPLE = """               case Pobj_How.Kind is
                   when Standard.Pobj_Texts.Units.Simple =>
@@ -269,13 +298,36 @@ def visible(unit):
     return " ".join(uses)
 
 
-def body(unit, name):
-    """Returns the body of Own_Text for a unit of the text file of that name."""
+def chosen(count, form):
+    """Returns the alternatives for this number of texts, of which the last is `others`."""
+    choices = [*range(1, count), "others"]
+    return "\n".join(f"         when {choice} => {form.format(place=place)};" for place, choice in enumerate(choices, 1))
+
+
+def choice(count):
+    """Returns the body of Own_Texts for this number of texts."""
+    context = " ".join(f"with Own_Text_{place};" for place in range(1, count + 1))
+    return CHOICE.format(context=context, made=chosen(count, "return Own_Text_{place}.Pobj_Made"),
+                         described=chosen(count, "Own_Text_{place}.Pobj_Describe"))
+
+
+def sources(units, names):
+    """Returns the sources for units of the text files of these names, by file."""
+    found = {"own_texts.adb": choice(len(units))}
+    for place, (unit, name) in enumerate(zip(units, names), 1):
+        found[f"own_text_{place}.ads"] = SPEC.format(place=place)
+        found[f"own_text_{place}.adb"] = body(unit, name, place)
+    return found
+
+
+def body(unit, name, place=1):
+    """Returns the body of the package for a unit of the text file of that name, which is the text with this number."""
     places = range(1, len(unit.discriminants) + 1)
     families = [one for one in unit.entries if one.family]
     constants = " ".join(f"{one.name} : constant {one.mark} := Pobj_Object.{one.name};" for one in unit.discriminants)
     context = " ".join(["with Pobj_Texts;", *unit.context])
-    return HEAD.format(name=name, context=context, text=text_program.changed(unit)) + UNIT.format(
+    return HEAD.format(name=name, context=context, place=place, text=text_program.changed(unit)) + UNIT.format(
+        place=place,
         uses=visible(unit),
         declared=in_parentheses(f"Of_{place} : Pobj_Mark_{place}" for place in places).replace(",", ";"),
         name=unit.name,

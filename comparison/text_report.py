@@ -138,7 +138,7 @@ def one_script(file, text_file):
     except texts.NotExpressible as why:
         print(f"not expressible: {why}")
         return 0
-    programs.try_scripts([script, programs.shown(script)], [text_file])
+    programs.try_scripts([script, programs.shown(script)], [text_file] * 2)
     try:
         return compare(text, script) if found is None else compare_fault(text, script, found)
     except NoRunner:
@@ -173,7 +173,7 @@ def random_ones(seed, count, text_file):
     """Compares random scripts, and returns the status. The first one that differs is kept as a file."""
     text, agreed, first = texts.build(text_file), 0, None
     scripts = [text_random.script(text, seed, place, programs.runtime is None) for place in range(count)]
-    programs.try_scripts([programs.shown(script) for script in scripts], [text_file])
+    programs.try_scripts([programs.shown(script) for script in scripts], [text_file] * count)
     for place, script in enumerate(scripts):
         shown = programs.shown(script)
         try:

@@ -1,5 +1,5 @@
 # SPDX-License-Identifier: MIT
-"""Carries out scripts on the protected unit of an Ada text by GNAT. For Commands of comparison/ada a script is translated: entries
+"""Carries out scripts on protected units of Ada texts by GNAT. For Commands of comparison/ada a script is translated: entries
 are named by their places, the value is the number of the line, and after it come the actual parameters. Answers are translated
 back."""
 
@@ -29,11 +29,12 @@ class NotExpressible(Exception):
 
 @dataclasses.dataclass
 class Text:
-    """A text that GNAT compiled: its unit, and the program."""
+    """A text that GNAT compiled: its unit, the program, and the text's number in it."""
 
     file: pathlib.Path
     unit: text_program.Unit
     program: pathlib.Path
+    place: int = 1
 
 
 @dataclasses.dataclass
@@ -57,27 +58,48 @@ def wanted(script):
     return words[0][1] if words and words[0][0] == "unit" and len(words[0]) > 1 else ""
 
 
-def build(file, name=""):
-    """Returns the text of the file, compiled with the programs of comparison/ada. What was compiled before is kept. The name is that
-    of the protected unit, if there are several."""
+def unit_of(file, name):
+    """Returns the protected unit of the text in the file. The name is the unit's, if there are several."""
     try:
-        unit = text_program.read(file.read_bytes().decode(errors="replace"), name)
+        return text_program.read(file.read_bytes().decode(errors="replace"), name)
     except text_program.Refused as why:
         raise programs.Failed(f"{file}: {why}") from why
-    body = text_driver.body(unit, file.name)
-    digest = hashlib.sha256(body.encode())
+
+
+def digest_of(sources):
+    """Returns what tells a program of these sources, with those of comparison/ada, from others."""
+    digest = hashlib.sha256("".join(sources.values()).encode())
     for source in sorted([*ADA.glob("*.ad?"), *(ADA / "text").glob("*.ad?")]):
         digest.update(source.read_bytes())
+    return digest.hexdigest()[:16]
+
+
+def make(folder, sources, program, names):
+    """Has GNAT compile the sources in the folder. The names of the texts are for messages."""
+    for old in folder.glob("own_text*"):
+        old.unlink()
+    for name, source in sources.items():
+        (folder / name).write_text(source)
+    flags = ["-gnata", "-gnatws", "-O1", f"-I{ADA / 'text'}", f"-I{ADA}"]
+    programs.make(folder, [*flags, "carry_out_text.adb", "-o", program], names)
+
+
+def build_all(files, names):
+    """Returns the texts of the files, compiled as one program with those of comparison/ada. What was compiled before is kept. The
+    names are those of the protected units, for files with several."""
+    units = [unit_of(file, name) for file, name in zip(files, names)]
+    sources = text_driver.sources(units, [file.name for file in files])
     folder = programs.OUT / "texts"
     folder.mkdir(parents=True, exist_ok=True)
-    program = folder / f"{file.stem}-{digest.hexdigest()[:16]}"
+    program = folder / f"{files[0].stem}-{digest_of(sources)}"
     if not program.exists():
-        for old in folder.glob("own_text.*"):
-            old.unlink()
-        (folder / "own_text.adb").write_text(body)
-        flags = ["-gnata", "-gnatws", "-O1", f"-I{ADA / 'text'}", f"-I{ADA}"]
-        programs.make(folder, [*flags, "carry_out_text.adb", "-o", program], file)
-    return Text(file, unit, program)
+        make(folder, sources, program, ", ".join(map(str, files)))
+    return [Text(file, unit, program, place) for place, (file, unit) in enumerate(zip(files, units), 1)]
+
+
+def build(file, name=""):
+    """Returns the text of the file, compiled alone."""
+    return build_all([file], [name])[0]
 
 
 def words_of(command):
@@ -106,7 +128,7 @@ def run(text, word, script):
 
 def shape(text, discriminants):
     """Returns what the program says of the unit with these discriminants."""
-    ended = run(text, "describe", f"unit own x {' '.join(discriminants)}\n")
+    ended = run(text, "describe", f"unit {text.place} x {' '.join(discriminants)}\n")
     lines = [line.split() for line in ended.stdout.splitlines()]
     described = [line for line in lines if line[0] in ("range", "literals")]
     subtypes = [tuple(map(int, line[1:])) if line[0] == "range" else line[1:] for line in described]
@@ -119,7 +141,7 @@ class Translation:
     """The translation of a script for one unit."""
 
     def __init__(self, text, script):
-        self.unit = text.unit
+        self.unit, self.place = text.unit, text.place
         self.discriminants, options, self.commands = heading(programs.commands(script))
         if "max" in options:
             raise NotExpressible("max: the bound of a queue is static in Ada (D.4, D.7)")
@@ -206,9 +228,13 @@ class Translation:
                 return command
         raise Fault("bad argument")
 
+    def first_line(self):
+        """Returns the line that makes the object."""
+        return f"unit {self.place} x {' '.join(self.discriminants)}"
+
     def text(self):
         """Returns the whole script."""
-        lines = [f"unit own x {' '.join(self.discriminants)}"]
+        lines = [self.first_line()]
         for number, command in enumerate(self.commands, 2):
             try:
                 lines.append(self.line(number, command))

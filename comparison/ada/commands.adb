@@ -1,3 +1,4 @@
+with Ada.Containers.Vectors;
 with Ada.Exceptions;        use Ada.Exceptions;
 with Ada.Real_Time;         use Ada.Real_Time;
 with Ada.Strings.Unbounded; use Ada.Strings.Unbounded;
@@ -21,14 +22,22 @@ package body Commands is
 
    Step : Time_Span;
 
-   --  The object, which exists from the command `unit` until `final`, and what is known of it, also afterwards.
-   Object         : Unit_Access;
-   Finalized      : Boolean := False;
-   Entry_List     : Declarations_Access;
-   Procedure_Name : Unbounded_String;
+   --  An object, which exists from the command `unit` until `final`, and what is known of it, also afterwards.
+   type Known_Object is record
+      Object         : Unit_Access;
+      Finalized      : Boolean := False;
+      Entry_List     : Declarations_Access;
+      Procedure_Name : Unbounded_String;
+      Clock          : Value := 0;
+   end record;
 
-   --  The time of the script's clock.
-   Clock_Now : Value := 0;
+   type Known_Access is access Known_Object;
+
+   package Known_Vectors is new Ada.Containers.Vectors (Positive, Known_Access);
+
+   --  The objects, and the one that commands are about.
+   Objects : Known_Vectors.Vector;
+   Here    : Known_Access;
 
    --  How many ends have been written, and how many calls are never woken.
    Written : Natural := 0;
@@ -54,15 +63,17 @@ package body Commands is
    -- At rest --
    -------------
 
-   --  How many calls wait on the entries of the object.
+   --  How many calls wait on the entries of all objects.
    function Calls_Queued return Natural is
       Sum : Natural := 0;
    begin
-      if not Finalized then
-         for Count of Object.Waiting loop
-            Sum := Sum + Count;
-         end loop;
-      end if;
+      for One of Objects loop
+         if not One.Finalized then
+            for Count of One.Object.Waiting loop
+               Sum := Sum + Count;
+            end loop;
+         end if;
+      end loop;
       return Sum;
    end Calls_Queued;
 
@@ -145,8 +156,8 @@ package body Commands is
    --  The declaration of that name, or 0.
    function Declared (Name : String) return Natural is
    begin
-      for Place in Entry_List'Range loop
-         if Names.Image (Entry_List (Place).Name) = Name then
+      for Place in Here.Entry_List'Range loop
+         if Names.Image (Here.Entry_List (Place).Name) = Name then
             return Place;
          end if;
       end loop;
@@ -169,34 +180,43 @@ package body Commands is
       end if;
       Place := Declared (Word (Word'First .. Open - 1));
       Refuse_If (Place = 0, 1);
-      Refuse_If (not Entry_List (Place).Public, 2);
-      Refuse_If (Indexed /= (Entry_List (Place).Members > 0), 3);
-      Refuse_If (Indexed and then Index not in 1 .. Entry_List (Place).Members, 3);
-      Refuse_If (Finalized, 7);
-      return (Entry_List (Place).Name, Index);
+      Refuse_If (not Here.Entry_List (Place).Public, 2);
+      Refuse_If (Indexed /= (Here.Entry_List (Place).Members > 0), 3);
+      Refuse_If (Indexed and then Index not in 1 .. Here.Entry_List (Place).Members, 3);
+      Refuse_If (Here.Finalized, 7);
+      return (Here.Entry_List (Place).Name, Index);
    end Named;
 
    --------------
    -- Commands --
    --------------
 
-   --  `unit`: makes the object.
+   --  `unit`: makes an object.
    procedure Make_Unit (Line : String) is
       Name : constant String := Scripts.Word (Line, 2);
       Size : constant String := Scripts.Word (Line, 3);
    begin
-      Object :=
+      Here        := new Known_Object;
+      Here.Object :=
         Made (Name, (if Size'Length > 0 and then Size (Size'First) in '0' .. '9' then Positive'Value (Size) else 1));
-      Entry_List     := new Declarations'(Object.Entries);
-      Procedure_Name := To_Unbounded_String (Object.Procedure_Name);
+      Here.Entry_List     := new Declarations'(Here.Object.Entries);
+      Here.Procedure_Name := To_Unbounded_String (Here.Object.Procedure_Name);
+      Objects.Append (Here);
    end Make_Unit;
+
+   --  `by`: the following commands are those of this caller, about this object.
+   procedure Turn_To (Caller, Object : Positive) is
+   begin
+      Callers.Act_As (Caller);
+      Here := Objects (Object);
+   end Turn_To;
 
    --  `call`, `cond` and `timed`: a task makes the call. A timed call whose deadline is past may be queued for a moment.
    procedure Make_Call (To : String; How : Manner; Item : String; Is_Past : Boolean := False) is
       Its_Entry : constant Target := Named (To);
    begin
       Write ("#", Value (Callers.Made + 1));
-      Callers.Start (Object, Its_Entry, How, Value'Value (Item));
+      Callers.Start (Here.Object, Its_Entry, How, Value'Value (Item));
       if Is_Past then
          Wait_For_End (Callers.Made);
       end if;
@@ -207,10 +227,10 @@ package body Commands is
    procedure Run_Procedure (Name : String; Item : Value) is
       Result : Value := Item;
    begin
-      Refuse_If (Name /= To_String (Procedure_Name), 4);
-      Refuse_If (Finalized, 7);
+      Refuse_If (Name /= To_String (Here.Procedure_Name), 4);
+      Refuse_If (Here.Finalized, 7);
       begin
-         Object.Run (Result);
+         Callers.Run (Here.Object, Result);
          Write ("done ", Result);
       exception
          when Occurrence : Failure =>
@@ -223,8 +243,8 @@ package body Commands is
    procedure Call_Function (Name : String) is
    begin
       Refuse_If (Name /= "State", 4);
-      Refuse_If (Finalized, 7);
-      Write ("value ", Object.State);
+      Refuse_If (Here.Finalized, 7);
+      Write ("value ", Here.Object.State);
    end Call_Function;
 
    --  `cancel`: a call that hasn't ended after a step of time counts as kept.
@@ -240,12 +260,21 @@ package body Commands is
       Settle;
    end Cancel;
 
+   --  `abort`: the same for the call of a caller, if it waits.
+   procedure Abort_Caller (Number : Positive) is
+      Its_Call : constant Natural := Callers.Last_Call (Number);
+   begin
+      if Its_Call > 0 and then not Ends.Is_Told (Its_Call) then
+         Cancel (Value (Its_Call));
+      end if;
+   end Abort_Caller;
+
    --  `tick`: waits until the deadlines that it makes due have come and gone.
    procedure Tick (Line : Positive; To : Value) is
    begin
-      Refuse_If (Finalized, 7);
-      Clock_Now := Value'Max (Clock_Now, To);
-      Write ("clock ", Clock_Now);
+      Refuse_If (Here.Finalized, 7);
+      Here.Clock := Value'Max (Here.Clock, To);
+      Write ("clock ", Here.Clock);
       if Deadlines.Has_Due (Line) then
          if Clock > Deadlines.Start_Of_Tick (Line) then
             raise Too_Late;
@@ -258,19 +287,19 @@ package body Commands is
    --  `final`: an object that is deallocated is finalized first.
    procedure Finalize is
    begin
-      Refuse_If (Finalized, 7);
+      Refuse_If (Here.Finalized, 7);
       Put_Line ("final");
-      Free (Object);
-      Finalized := True;
+      Free (Here.Object);
+      Here.Finalized := True;
       Settle (Finalizing => True);
    end Finalize;
 
    --  `show`.
    procedure Show is
-      Queued : constant Counts := (if Finalized then [1 .. 1_026 => 0] else Object.Waiting);
+      Queued : constant Counts := (if Here.Finalized then [1 .. 1_026 => 0] else Here.Object.Waiting);
       Place  : Positive := Queued'First;
    begin
-      for Its_Entry of Entry_List.all loop
+      for Its_Entry of Here.Entry_List.all loop
          for Member in (if Its_Entry.Members = 0 then 0 else 1) .. Its_Entry.Members loop
             Write
               (Names.Image (Its_Entry.Name) & (if Member = 0 then " " else "(" & Image (Value (Member)) & ") "),
@@ -278,7 +307,7 @@ package body Commands is
             Place := Place + 1;
          end loop;
       end loop;
-      Write ("clock ", Clock_Now);
+      Write ("clock ", Here.Clock);
       Write ("next ", Value (Callers.Made + 1));
    end Show;
 
@@ -290,6 +319,8 @@ package body Commands is
    begin
       if Command = "unit" then
          Make_Unit (Text);
+      elsif Command = "by" then
+         Turn_To (Positive'Value (Word (2)), Positive'Value (Word (3)));
       elsif Command = "call" then
          Make_Call (Word (2), (Kind => Simple, others => <>), Word (3));
       elsif Command = "cond" then
@@ -302,6 +333,8 @@ package body Commands is
          Call_Function (Word (2));
       elsif Command = "cancel" then
          Cancel (Value'Value (Word (2)));
+      elsif Command = "abort" then
+         Abort_Caller (Positive'Value (Word (2)));
       elsif Command = "tick" then
          Tick (Line, Value'Value (Word (2)));
       elsif Command = "final" then
@@ -321,6 +354,10 @@ package body Commands is
       for Line in 1 .. Script.Last_Index loop
          Carry_Out_Line (Script, Line);
       end loop;
+   exception
+      when Callers.Waits =>
+         --  The rest isn't possible in this order.
+         null;
    end Carry_Out;
 
 end Commands;

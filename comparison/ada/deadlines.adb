@@ -5,24 +5,27 @@ package body Deadlines is
 
    type Moment is record
       From, To : Time;
-      Due      : Boolean := False;
+      Due      : Boolean  := False;
+      Object   : Positive := 1;
    end record;
 
    package Moment_Vectors is new Ada.Containers.Vectors (Positive, Moment);
    package Place_Vectors is new Ada.Containers.Vectors (Positive, Positive);
    use type Moment_Vectors.Vector;
 
-   --  A moment for each line of the script. A timed call's deadline is To, and the call is due if that is past.
+   --  A moment for each line of the script, and the object that it is about. A timed call's deadline is To, and the call is due
+   --  if that is past.
    Moments : Moment_Vectors.Vector;
 
-   --  How many steps of time the line may take.
-   function Steps (Command : String) return Positive is
-     (if Command in "cancel" | "timed" then 6 else 1);
+   --  How many quarters of a step of time the line may take.
+   function Quarters (Command : String) return Natural is
+     (if Command = "by" then 0 elsif Command in "cancel" | "abort" | "timed" then 6 else 1);
 
-   --  Gives the waiting lines whose deadlines have come at that clock times one after the other, after that time.
+   --  Gives the waiting lines of the object whose deadlines have come at that clock times one after the other, after that time.
    procedure Make_Due
      (Script  : Scripts.Line_Vectors.Vector;
       Waiting : in out Place_Vectors.Vector;
+      Object  : Positive;
       Clock   : Value;
       Step    : Time_Span;
       Now     : in out Time)
@@ -30,7 +33,7 @@ package body Deadlines is
       Later : Place_Vectors.Vector;
    begin
       for Line of Waiting loop
-         if Value'Value (Scripts.Word (Script (Line), 2)) <= Clock then
+         if Moments (Line).Object = Object and then Value'Value (Scripts.Word (Script (Line), 2)) <= Clock then
             Now := Now + Step;
             Moments (Line).To := Now;
          else
@@ -45,24 +48,30 @@ package body Deadlines is
       Never   : constant Time := Start + Seconds (86_400);
       Now     : Time          := Start;
       Clock   : Value         := 0;
+      Object  : Positive      := 1;
       Waiting : Place_Vectors.Vector;
    begin
-      Moments := Moment_Vectors.To_Vector ((Start, Never, False), Script.Length);
+      Moments := Moment_Vectors.To_Vector ((Start, Never, others => <>), Script.Length);
       for Line in 1 .. Script.Last_Index loop
          declare
             Command : constant String := Scripts.Word (Script (Line), 1);
          begin
-            Now := Now + Step * Steps (Command) / 4;
+            Now := Now + Step * Quarters (Command) / 4;
+            if Command = "by" then
+               Object := Positive'Value (Scripts.Word (Script (Line), 3));
+            end if;
+            Moments (Line).Object := Object;
             if Command = "timed" then
                if Value'Value (Scripts.Word (Script (Line), 2)) <= Clock then
-                  Moments (Line) := (Start, Start, Due => True);
+                  Moments (Line).To  := Start;
+                  Moments (Line).Due := True;
                else
                   Waiting.Append (Line);
                end if;
             elsif Command = "tick" then
                Clock := Value'Max (Clock, Value'Value (Scripts.Word (Script (Line), 2)));
                Moments (Line).From := Now;
-               Make_Due (Script, Waiting, Clock, Step, Now);
+               Make_Due (Script, Waiting, Object, Clock, Step, Now);
                Moments (Line).Due := Now > Moments (Line).From;
                Now := Now + Step;
                Moments (Line).To := Now;

@@ -65,9 +65,10 @@ count_rows() {
   [ "$status" -eq 0 ] || fail "./compare ${*:2} ended with status $status: $(cat "$scratch/rows" "$scratch/rows.faults")"
 }
 
-# If GNAT is there, runs the tests of bindings/ada, Ada programs, and scripts that GNAT's tasks carry out over the engine (those of
-# examples/ada also without it), and counts the instructions of calls.
+# If GNAT is there, runs the tests of bindings/ada, Ada programs, scripts that GNAT's tasks carry out over the engine (those of
+# examples/ada also without it), scripts and random orders of three scenes, and counts the instructions of calls.
 ada_clients() {
+  local scene
   if ! command -v gnatmake >/dev/null; then
     report "the Ada tests are skipped: there is no gnatmake"
     return
@@ -80,6 +81,9 @@ ada_clients() {
   count_rows '  same +same$' ada "$scratch/ada"
   count_rows '^\| `[a-z]+` .* [0-9]+ \|$' ada instructions "$scratch/ada"
   export -n POBJ
+  for scene in forks pool starved_writer; do
+    count_rows '^(same|20 of 20 random orders agree .*)$' explore "examples/scenes/$scene.scene"
+  done
   ada_rows_for_gnat_11 "$scratch/lib"
 }
 

@@ -10,7 +10,6 @@ sys.dont_write_bytecode = True
 sys.path.insert(0, str(pathlib.Path(__file__).resolve().parents[2] / "comparison"))
 
 import counted
-import scene_report
 import text_driver
 import text_program
 import texts
@@ -180,31 +179,6 @@ class Translating(unittest.TestCase):
             "= 1 0 raised NO_SOUP", "= 2 9 done 7 CAKE", "= 3 8 done", "! 1 8", "! 2 9", "! 4 2"])
         self.assertEqual(texts.Answers(self.translation, written).lines(), [
             "#1", "raised No_Soup", "4 ?", "1 done", "2 done 7 Cake", "3 cancelled", "5 program_error", "Ask(Cake) 7", "Wash 0", "clock 0"])
-
-
-class Reported(unittest.TestCase):
-    """How the scripts of a report are cut out."""
-
-    REPORT = """callers wait for ever, after 2 commands:
-    unit file "a/kitchen.adb" 3
-    # Anna
-    call Wash
-    show
-    # Anna waits: call Wash
-'call Wash' raises Late, after 1 command:
-    object Left  file "a/kitchen.adb"
-    call Left.Wash
-no order completes 'call Wash' of Bert
-9 situations, 12 moves, 6 states of objects, 6 orders: complete
-"""
-
-    def test_findings(self):
-        script = 'unit file "a/kitchen.adb" 3\n# Anna\ncall Wash\nshow\n# Anna waits: call Wash\n'
-        other = 'object Left  file "a/kitchen.adb"\ncall Left.Wash\n'
-        self.assertEqual(list(scene_report.findings(self.REPORT)), [
-            ("callers wait for ever, after 2 commands:", script), ("'call Wash' raises Late, after 1 command:", other)])
-        self.assertEqual(scene_report.text_of(script), (pathlib.Path("a/kitchen.adb"), script.replace('file "a/kitchen.adb"', "kitchen")))
-        self.assertEqual(scene_report.text_of(other), (None, other))
 
 
 if __name__ == "__main__":

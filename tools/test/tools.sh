@@ -4,10 +4,10 @@
 # the changes of GNAT's units. Read by `test`.
 
 # Runs the tests of the scripts that count definitions, look for words, try wrong bodies, change units of GNAT's, show records
-# of Ada programs and make scenes from them, make Ada programs from Ada texts, and compare with SPIN.
+# of Ada programs and make scenes from them, make Ada programs from Ada texts, compare scenes, and compare with SPIN.
 scripts_are_tested() {
   local name
-  for name in walk words wrong_bodies change trace scene text_program spin; do
+  for name in walk words wrong_bodies change trace scene text_program scenes spin; do
     python3 "tools/test/${name}_test.py" >"$scratch/$name-test" 2>&1 || sed '$d' "$scratch/$name-test"
     count "$scratch/$name-test" "tools/test/${name}_test.py"
   done

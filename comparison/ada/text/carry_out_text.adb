@@ -1,10 +1,11 @@
---  Carries out the script on standard input, which texts.py wrote, by the protected object of an Ada text. The first word of the
---  command line is the step of time in milliseconds, as for Carry_Out, or `describe`: then the program describes the text.
+--  Carries out the script on standard input, which texts.py or scene_program.py wrote, by protected objects of Ada texts. The
+--  first word of the command line is the step of time in milliseconds, as for Carry_Out, or `describe`: then the program
+--  describes the text.
 with Ada.Command_Line; use Ada.Command_Line;
 with Ada.Text_IO;      use Ada.Text_IO;
 with GNAT.OS_Lib;
 with Commands;
-with Own_Text;
+with Own_Texts;
 with Scripts;
 with Pobj_Texts;
 
@@ -13,7 +14,7 @@ procedure Carry_Out_Text is
 begin
    Pobj_Texts.Take (Script);
    if Argument (1) = "describe" then
-      Own_Text.Pobj_Describe;
+      Own_Texts.Describe (Positive'Value (Scripts.Word (Script (1), 2)));
    else
       Commands.Carry_Out (Script, Positive'Value (Argument (1)));
       Pobj_Texts.Write_Answers;

@@ -19,6 +19,9 @@ package body Pobj_Texts is
 
    The_Script : Scripts.Line_Vectors.Vector;
 
+   --  The line of the object that was made last.
+   The_Object : Natural := 0;
+
    protected Book is
       procedure Add (Number : Positive; Caller : Task_Id);
       procedure Begin_Body (Caller : Task_Id);
@@ -119,7 +122,12 @@ package body Pobj_Texts is
 
    function Has_Actual (Line : Value; Place : Positive) return Boolean is (Actual (Line, Place) /= "");
 
-   function Discriminant (Place : Positive) return String is (Word (1, Place));
+   procedure Begin_Object is
+   begin
+      The_Object := The_Object + 1;
+   end Begin_Object;
+
+   function Discriminant (Place : Positive) return String is (Word (Value (The_Object), Place));
 
    function Has_Discriminant (Place : Positive) return Boolean is (Discriminant (Place) /= "");
 

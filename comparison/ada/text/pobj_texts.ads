@@ -1,6 +1,6 @@
 --  What the program of a text keeps beside what Commands keeps: the words of the script, the answers in words, and which bodies
---  began for each call. Commands knows an answer by its number. Own_Text names no other library unit, as a type of its text may
---  have the same name.
+--  began for each call. Commands knows an answer by its number. The package of a text names no other library unit, as a type of
+--  the text may have the same name.
 with Ada.Exceptions;          use Ada.Exceptions;
 with Ada.Task_Identification; use Ada.Task_Identification;
 with Ada.Text_IO;
@@ -28,7 +28,10 @@ package Pobj_Texts is
    function Has_Actual (Line : Value; Place : Positive) return Boolean;
    function Actual (Line : Value; Place : Positive) return String;
 
-   --  The discriminant at that place of the line `unit`, if it is there.
+   --  An object is about to be made: that of the script's next line `unit`, with which the script begins.
+   procedure Begin_Object;
+
+   --  The discriminant at that place of this line, if it is there.
    function Has_Discriminant (Place : Positive) return Boolean;
    function Discriminant (Place : Positive) return String;
 
