@@ -1,6 +1,6 @@
 -- SPDX-License-Identifier: MIT
 -- What an order of the callers' commands does to the objects of a scene.
-use Rattle.std.specs.Prelude.{ℕ, suc, ◌≡◌, ◌≢◌, ◌⊎◌, ◌<◌, List, [], ◌∷◌, map, length, replicate, All, Option, Some, None, Bool, true, false, ◌||◌, is_some, option_map, string_bytes, vec_len, find, slice_get, slice_index, slice_set, if◌then◌else◌}
+use Rattle.std.specs.Prelude.{ℕ, zero, suc, ◌≡◌, ◌≢◌, ◌⊎◌, ◌<◌, List, [], ◌∷◌, map, length, replicate, All, Option, Some, None, Bool, true, false, ◌||◌, is_some, option_map, string_bytes, vec_len, find, slice_get, slice_index, slice_set, if◌then◌else◌}
 use Rattle.po_engine.specs.Finding.{IsFound}
 use Rattle.po_engine.specs.WaitingCalls.{is_of}
 use Rattle.po_core.specs.View.{View, opening_view}
@@ -22,7 +22,7 @@ use Rattle.po_scene.specs.declared.scene.Action.{Action}
 use Rattle.po_scene.specs.declared.scene.Action.TheVariants.{Operate, Abort, Tick}
 use Rattle.po_explore.specs.declared.finding.Found.{Found}
 use Rattle.po_explore.specs.declared.finding.Kind.{Kind}
-use Rattle.po_explore.specs.declared.finding.Kind.TheVariants.{Stuck, Raised, ProgramError, Refused, Invariant}
+use Rattle.po_explore.specs.declared.finding.Kind.TheVariants.{Stuck, Raised, ProgramError, Refused, Invariant, Completed, Cancelled}
 use Rattle.po_explore.specs.declared.invariants.TheConstants.{INVARIANT}
 use Rattle.po_explore.specs.declared.report.Verdict.{Verdict}
 use Rattle.po_explore.specs.declared.report.Verdict.TheVariants.{Found as FoundVerdict, Clean, CutOff}
@@ -107,7 +107,7 @@ command_at scene caller position = command_of (slice_get scene.callers.items cal
 
 -- the latest command of a caller that has made this many
 abbrev pub latest_at : Scene → ℕ → ℕ → Option Command
-latest_at scene caller 0 = None
+latest_at scene caller zero = None
 latest_at scene caller (suc position) = command_at scene caller position
 
 -- the next command of a caller: none while its call waits
@@ -183,12 +183,14 @@ abbrev pub IsBroken : Scene → List ObjectView → ℕ → ℕ → Type 0
 IsBroken scene views object function =
     IsBrokenAt (slice_get scene.objects.items object) (slice_get views object) function
 
--- What is found is so. Of exceptions, of Program_Error and of refusals nothing is said here.
+-- What is found is so. Of exceptions, of Program_Error, of refusals and of answers nothing is said here.
 abbrev pub Shows : Scene → StageView → Kind → Type 0
 Shows scene stage Stuck = IsStuck scene stage
 Shows scene stage (Raised exception) = Unit
 Shows scene stage ProgramError = Unit
 Shows scene stage (Refused refusal) = Unit
+Shows scene stage (Completed number values) = Unit
+Shows scene stage (Cancelled number) = Unit
 Shows scene stage (Invariant object function) = IsBroken scene stage.views object function
 
 -- Each thing found is so.

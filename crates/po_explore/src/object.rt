@@ -285,7 +285,7 @@ impl Object {
 
     /// Returns the object's data.
     pub(crate) fn cells(&self) -> &[i128]
-        ensures { result.now ≡ self.now.core.object.state.unit.cells.items }
+        ensures { result.now ≡ self.now.core.object.state.unit.cells }
     {
         self.core.unit().cells()
     }
