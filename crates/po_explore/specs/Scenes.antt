@@ -1,7 +1,6 @@
 -- SPDX-License-Identifier: MIT
 -- What an order of the callers' commands does to the objects of a scene.
 use Rattle.std.specs.Prelude.{ℕ, zero, suc, ◌≡◌, ◌≢◌, ◌⊎◌, ◌<◌, List, [], ◌∷◌, map, length, replicate, All, Option, Some, None, Bool, true, false, ◌||◌, is_some, option_map, string_bytes, vec_len, find, slice_get, slice_index, slice_set, if◌then◌else◌}
-use Rattle.po_engine.specs.Finding.{IsFound}
 use Rattle.po_engine.specs.WaitingCalls.{is_of}
 use Rattle.po_core.specs.View.{View, opening_view}
 use Rattle.po_ada_unit.specs.Object.{Object as AdaObject, ada_meaning}
@@ -11,8 +10,6 @@ use Rattle.po_ada_language.specs.declared.operation.Operation.TheVariants.{Tick 
 use Rattle.po_ada_script.specs.Preconditions.{least}
 use Rattle.po_ada_script.specs.Shapes.{declaration}
 use Rattle.po_unit.specs.Numbering.{HasTooMany, entry_count}
-use Rattle.po_ada_language.specs.declared.fault.Stop.{Stop}
-use Rattle.po_ada_language.specs.declared.fault.Stop.TheVariants.{OutOfMemory}
 use Rattle.po_ada_names.specs.declared.names.Operation.{Operation as NamedOperation}
 use Rattle.po_scene.specs.declared.scene.Scene.{Scene}
 use Rattle.po_scene.specs.declared.scene.SceneObject.{SceneObject}
@@ -63,10 +60,6 @@ abbrev pub CantBeMade : SceneObject → Type 0
 CantBeMade named =
     HasTooMany (map declaration named.names.entries.items)
     ⊎ (ada_meaning.entries named.unit ≢ entry_count (map declaration named.names.entries.items))
-
--- Memory ran out, or an object of the scene can't be made.
-abbrev pub CantBegin : Scene → Stop → Type 0
-CantBegin scene stop = (stop ≡ OutOfMemory) ⊎ ((object : ℕ) × IsFound CantBeMade (slice_get scene.objects.items object))
 
 -- Each object was just made.
 abbrev pub AreOpening : List SceneObject → List ObjectView → Type 0

@@ -71,11 +71,15 @@ impl Object {
         ensures fails { IfErr result (λ stop. (stop ≡ Stop.OutOfMemory) ⊎ CantBeMade object.now) }
     {
         let capacity = usize::from(callers);
-        Ok(Object {
-            core: core_of(alloc, object, capacity)?,
-            callers,
-            tickets: Vec::from_elem(alloc, None, capacity)?,
-        })
+        let core = core_of(alloc, object, capacity)?;
+        match Vec::from_elem(alloc, None, capacity) {
+            Ok(tickets) => Ok(Object {
+                core,
+                callers,
+                tickets,
+            }),
+            Err(_) => Err(Stop::OutOfMemory),
+        }
     }
 
     /// Returns an equal object.
