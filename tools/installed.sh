@@ -30,6 +30,7 @@ by_text() {
 [ "${1-}" != help ] || [ $# -eq 1 ] || set -- "$2" --help
 answer_words "$@"
 if [ "$1" = explore ] && asks_pictures "$@"; then draw_findings "$here/pobj_explore" "$@"; fi
+if is_of_scene "$@"; then exec "$here/pobj_explore" "$@"; fi
 case $1 in
   run | check)
     take_script "$@"

@@ -55,12 +55,19 @@ keep_text() {
 
 # Hands over the files of a scene: each that a word names, and the Ada texts that such a file names.
 keep_scene() {
-  local position path name
+  local position path name option
   for ((position = 1; position < ${#words[@]}; position++)); do
     path=${words[position]}
+    option=""
+    case $path in
+      --*=*)
+        option=${path%%=*}=
+        path=${path#*=}
+        ;;
+    esac
     if [ -f "$path" ]; then
       keep_file "$path"
-      words[position]=$name
+      words[position]=$option$name
       while read -r path; do
         [ ! -f "$path" ] || keep_file "$path"
       done < <(texts_in "$path")
@@ -82,7 +89,7 @@ keep_input_of_words() {
       keep_text
       ;;
     "3 check --unit "*) keep_text ;;
-    *" explore "*) keep_scene ;;
+    *" explore "* | *" --scene"*) keep_scene ;;
     "1 run" | "1 check")
       [ ! -t 0 ] || refuse_trial "the script is typed"
       keep_input

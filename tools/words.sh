@@ -12,6 +12,7 @@ all_rows() {
   run [--unit TEXT] [FILE]      Carries out a script, on one of eight units or on the protected object of an Ada text
   check [--unit TEXT] [FILE]    Explains each fault of a script, and carries out nothing
   check --unit TEXT             Explains each fault of an Ada text
+  check --scene SCENE           Explains each fault of a scene
   explore [--unit TEXT] SCENE   Tries every order of the callers of a scene, and finds what can go wrong
   explore SCENE --picture DIR   Does the same, and draws what it finds in SVG: DIR/1.svg, DIR/2.svg and so on
   picture [FILE] [-o PICTURE]   Draws what a script does as a time line, in SVG
@@ -176,7 +177,20 @@ take_script() {
   [ -z "$text" ] || need_file "$text"
 }
 
-# Ends if a file that the words after `explore` name can't be read.
+# Whether the words are about a scene: `explore`, or `check` with --scene.
+is_of_scene() {
+  case $1 in
+    explore) return 0 ;;
+    check) ;;
+    *) return 1 ;;
+  esac
+  for word; do
+    case $word in --scene | --scene=*) return 0 ;; esac
+  done
+  return 1
+}
+
+# Ends if a file that words on a scene name can't be read.
 need_scene() {
   before=
   for word; do

@@ -120,7 +120,7 @@ texts_by_program() {
   done < <(text_cases)
 }
 
-# Lays out these scripts as a trial takes them.
+# Lays out the first of these scripts for each text as a trial takes them; the built program carries out all of them.
 lay_out_texts() {
   local base text name
   mkdir -p "$scratch/$1/cases"
@@ -130,11 +130,12 @@ lay_out_texts() {
     text_answers "$base" >"$scratch/$1/cases/$name.stdout"
     printf '%s\n' run --unit "$text" >"$scratch/$1/cases/$name.args"
     echo 0 >"$scratch/$1/$name.want"
-  done < <(text_cases)
+  done < <(text_cases | awk '!seen[$2]++')
 }
 
 # The paths of all scenes, without their endings. NAME.out has what `explore` answers, and NAME.status its status; NAME.err and
-# NAME.words, if they are there, have the errors and words that follow the scene's name.
+# NAME.words, if they are there, have the errors and words that follow the scene's name. NAME.check, if it is there, has what
+# `check` answers.
 all_scenes() {
   local file
   for file in examples/scenes/*.scene cases/*.scene; do
@@ -145,7 +146,7 @@ all_scenes() {
 # Prints the words that follow the scene's name.
 scene_words() { [ ! -f "$1.words" ] || cat "$1.words"; }
 
-# Explores each scene by the built program.
+# Explores each scene by the built program, and checks some.
 scenes_by_program() {
   local base path got
   path_of pobj_explore
@@ -160,8 +161,17 @@ scenes_by_program() {
     else
       fail "$base.scene: status $got: $(diff "$scratch/want" "$scratch/err") $(diff "$base.out" "$scratch/out")"
     fi
+    if [ -f "$base.check" ]; then same "$("$path" check --scene "$base.scene")" "$(cat "$base.check")" "$base.scene, checked"; fi
   done
   if timeout 120 python3 tools/test/terminal.py ./pobj explore; then pass; else fail "a search that is ended by ^C"; fi
+}
+
+# Lays out words for a trial, which have this status: lay_out_words PROGRAM NAME STATUS ANSWER WORD..
+lay_out_words() {
+  : >"$scratch/$1/cases/$2"
+  cp "$4" "$scratch/$1/cases/$2.stdout"
+  printf '%s\n' "${@:5}" >"$scratch/$1/cases/$2.args"
+  echo "$3" >"$scratch/$1/$2.want"
 }
 
 # Lays out the scenes as a trial takes them, except those with more than 9,999 situations, which take a trial minutes.
@@ -170,12 +180,10 @@ lay_out_scenes() {
   mkdir -p "$scratch/$1/cases"
   for base in $(all_scenes); do
     if ! grep -qE '^[0-9]{5,} situations' "$base.out"; then
-      name=scene-${base##*/}
-      : >"$scratch/$1/cases/$name"
-      cp "$base.out" "$scratch/$1/cases/$name.stdout"
+      name=${base##*/}
       # shellcheck disable=SC2046
-      printf '%s\n' explore "$base.scene" $(scene_words "$base") >"$scratch/$1/cases/$name.args"
-      cp "$base.status" "$scratch/$1/$name.want"
+      lay_out_words "$1" "scene-$name" "$(cat "$base.status")" "$base.out" explore "$base.scene" $(scene_words "$base")
+      [ ! -f "$base.check" ] || lay_out_words "$1" "check-$name" 1 "$base.check" check --scene "$base.scene"
     fi
   done
 }

@@ -4,10 +4,10 @@
 # must be believed is counted, paragraphs are short, words are plain, wrong bodies are few. Read by `test`, after count.sh.
 
 # How many wrong bodies the tree may have: each costs a quarter of a minute of a full run (CONTRIBUTING.md).
-most_edits=233
+most_edits=234
 
 # How many words all pages together may have, outside of code.
-most_words=27900
+most_words=28100
 
 # Each crate of crates.txt has a row in the map, and each row has a crate.
 map_is_whole() {

@@ -6,12 +6,17 @@ import os
 import pty
 import select
 import sys
+import tempfile
 
 # How many seconds an answer may take.
 LIMIT = 20
 HINT = "pobj: each line is carried out when it is ended; Ctrl-D at its beginning ends the script"
-# A scene that takes seconds, and ^C.
-SCENE, INTERRUPT = "comparison/spin/six_by_five.scene", b"\x03"
+# A scene of ten callers with ten calls each: no search through it ever ends.
+SCENE = 'unit file "examples/ada/buffer.adb" 2\n' + "".join(
+    f"caller Producer_{number}\n  repeat 10\n  call Put {number}\ncaller Consumer_{number}\n  repeat 10\n  call Get 0\n"
+    for number in range(5)
+)
+INTERRUPT = b"\x03"
 # What is typed, and what has to be shown after it.
 TYPED = [
     ("unit buffer 2\ncall Get 0\n", "#1"),
@@ -60,11 +65,14 @@ def typed(program):
 
 def interrupted(program):
     """Ends a search by ^C, and returns the status with which the program ends."""
-    child, terminal = at_terminal([program, "explore", SCENE, "--most", "1000000000"])
-    shown = read_until(terminal, "", "situations, ")
-    os.write(terminal, INTERRUPT)
-    read_until(terminal, shown, "not complete")
-    return ended(child)
+    with tempfile.NamedTemporaryFile("w", suffix=".scene") as scene:
+        scene.write(SCENE)
+        scene.flush()
+        child, terminal = at_terminal([program, "explore", scene.name, "--most", "1000000000"])
+        shown = read_until(terminal, "", "situations, ")
+        os.write(terminal, INTERRUPT)
+        read_until(terminal, shown, "not complete")
+        return ended(child)
 
 
 def main(program, what):

@@ -114,6 +114,8 @@ findings_there() {
   same "$(head -n 1 "$scratch/out")" "explore $scene" "the words of an exploration with pictures"
   same "$(cat "$scratch/err")" "pobj: drawn: $to/other/1.svg" "what is said of pictures"
   if cmp -s "$to/one/1.svg" docs/pictures/crossed.svg && cmp -s "$to/other/1.svg" docs/pictures/crossed.svg; then pass; else fail "explore --picture draws another picture"; fi
+  answers_there 3 out "check --scene $scene" check --scene "$scene"
+  answers_there 4 err "pobj: $scratch/none can't be opened: No such file or directory" check --scene "$scratch/none"
   answers_there 2 err "--picture takes a folder" explore "$scene" --picture
   answers_there 4 err "$scratch/out is a file" explore "$scene" --picture "$scratch/out"
   answers_there 4 err "pobj: $scratch/none can't be opened: No such file or directory" explore "$scratch/none" --picture "$to/no"

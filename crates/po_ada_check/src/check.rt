@@ -2,7 +2,7 @@
 //! A check of the lines of a script.
 
 use crate::object::CheckedObject;
-use po_ada_language::{Interpreter, LineFault, Stop, Texts};
+use po_ada_language::{Interpreter, LineFault, Stop, Texts, push_fault};
 use po_ada_script::{Answers, RunFault, fault_at};
 use std::alloc::{AllocError, Global};
 use std::fmt::Write;
@@ -23,17 +23,6 @@ pub struct Checker<T> {
     /// What was found in the latest line.
     finding: String,
     verdict: Verdict,
-}
-
-/// Adds the fault of the line with this number.
-fn push_fault(text: &mut String, number: u64, fault: &LineFault) -> Result<(), AllocError> {
-    let kind = fault.kind;
-    write!(text, "line {number}: {kind}")?;
-    if !fault.detail.is_empty() {
-        text.push_str(": ")?;
-        text.push_str(fault.detail.as_str())?;
-    }
-    text.push_str("\n")
 }
 
 /// Adds the warning of the line with this number.

@@ -40,7 +40,7 @@ fn operation_refusal(number: u16, count: usize) -> Option<Refusal> {
 }
 
 /// Returns the refusal that this operation is sure to meet, if there is one.
-pub(crate) fn sure_refusal<V>(names: &ObjectNames, operation: &Operation<V>) -> Option<Refusal> {
+pub fn sure_refusal<V>(names: &ObjectNames, operation: &Operation<V>) -> Option<Refusal> {
     match operation {
         Operation::Call { entry, .. } => entry_refusal(names, *entry),
         Operation::Procedure { op, .. } => operation_refusal(*op, names.procedures.len()),

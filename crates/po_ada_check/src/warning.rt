@@ -175,7 +175,7 @@ fn push_refusal(text: &mut String, refusal: Refusal) -> Result<(), AllocError> {
 }
 
 /// Adds a warning, if the operation is sure to be refused: the refusal, and the reason.
-pub(crate) fn push_warning<V>(
+pub fn push_warning<V>(
     text: &mut String,
     names: &ObjectNames,
     operation: &Operation<V>,

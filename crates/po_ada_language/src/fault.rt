@@ -42,6 +42,10 @@ impl From<AllocError> for Stop {
 }
 
 impl<T: Drop> From<AllocFailed<T>> for Stop {
+    ghost use Rattle.std.specs.Prelude.{◌≡◌};
+
+    ghost from_gives = { λ _ stop. stop ≡ OutOfMemory };
+
     fn from(_error: AllocFailed<T>) -> Stop {
         Stop::OutOfMemory
     }
@@ -67,6 +71,17 @@ pub fn push_word(text: &mut String, word: &[u8]) -> Result<(), AllocError> {
         text.push_str("..")?;
     }
     text.push_str("'")
+}
+
+/// Adds the line that tells the fault of the line with this number.
+pub fn push_fault(text: &mut String, number: u64, fault: &LineFault) -> Result<(), AllocError> {
+    let kind = fault.kind;
+    write!(text, "line {number}: {kind}")?;
+    if !fault.detail.is_empty() {
+        text.push_str(": ")?;
+        text.push_str(fault.detail.as_str())?;
+    }
+    text.push_str("\n")
 }
 
 /// Returns the fault of a line in which this word, or none, stands where something else was expected.

@@ -1,5 +1,5 @@
 // SPDX-License-Identifier: MIT
-//! The language of scripts on protected objects that Ada texts say.
+//! The language of scripts on protected objects that Ada texts declare.
 //!
 //! Lines are those of `po_language`, except that an operation has as many values as it has parameters, that values and exceptions
 //! have the names of the text, and that a `unit` line has the discriminants and can name a file. `operation_of` returns what a line
@@ -19,7 +19,9 @@ pub mod unit_line;
 pub mod values;
 
 pub use crate::arguments::push_cells;
-pub use crate::fault::{LineFault, Stop, bad_argument, bad_unit, fault_of, no_object, push_word};
+pub use crate::fault::{
+    LineFault, Stop, bad_argument, bad_unit, fault_of, no_object, push_fault, push_word,
+};
 pub use crate::interpreter::Interpreter;
 pub use crate::operation::Operation;
 pub use crate::operation_line::operation_of;

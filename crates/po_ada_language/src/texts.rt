@@ -1,5 +1,5 @@
 // SPDX-License-Identifier: MIT
-//! What makes the object that an Ada text says.
+//! What makes the object that an Ada text declares.
 
 use crate::fault::Stop;
 use po_language::parse::Verb;

@@ -1,5 +1,5 @@
 // SPDX-License-Identifier: MIT
-//! What scripts know of a protected object that an Ada text says: the names of its operations, of their parameters, of its
+//! What scripts know of a protected object that an Ada text declares: the names of its operations, of their parameters, of its
 //! types and exceptions.
 //!
 //! `po_ada_program` fills a `Heading` and an `ObjectNames`, and `po_ada_script` reads a script's lines by them. Names are as

@@ -1,5 +1,5 @@
 // SPDX-License-Identifier: MIT
-//! Runs scripts on protected objects that Ada texts say.
+//! Runs scripts on protected objects that Ada texts declare.
 //!
 //! `answer_lines` reads a script, whatever answers its lines: an `Interpreter` of `po_ada_language` does. A `TextObject` is the
 //! object of any `TextUnit`.

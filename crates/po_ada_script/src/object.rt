@@ -24,7 +24,7 @@ const TOO_MANY: &str = "the object has more than 4,096 entries";
 /// The fault of a text whose names don't fit its program.
 const MISMATCH: &str = "the names of the entries don't fit the program";
 
-/// The object that a text says: a core, the tickets of its uncollected calls, and its names. The calls that the latest command
+/// The object that a text declares: a core, the tickets of its uncollected calls, and its names. The calls that the latest command
 /// ended are already collected.
 #[derive(Drop)]
 pub struct TextObject<U: TextUnit> {

@@ -206,24 +206,26 @@ impl<'a> Lexer<'a> {
         self.push(place, element)
     }
 
-    /// The digits of this base from here on, as a number; none if it is too great or a digit isn't of the base.
+    /// The numeral of this base from here on, as a number (2.4.1). None if it is too great, has no digit or one that isn't of the
+    /// base, or if an underline doesn't stand between two digits.
     fn numeral(&mut self, base: u64) -> Option<u64> {
         let mut number = Some(0u64);
+        let mut ends_well = false;
         for _ in 0..self.text.len() {
             let byte = self.byte(0);
             let digit = digit_value(byte);
             if byte != b'_' && (digit == 255 || digit > 9 && base < 11) {
                 break;
             }
-            if byte != b'_' {
-                number = match number {
-                    Some(so_far) if u64::from(digit) < base => with_digit(so_far, base, digit),
-                    _ => None,
-                };
-            }
+            number = match number {
+                Some(so_far) if byte == b'_' && ends_well => Some(so_far),
+                Some(so_far) if u64::from(digit) < base => with_digit(so_far, base, digit),
+                _ => None,
+            };
+            ends_well = byte != b'_';
             self.skip(1);
         }
-        number
+        if ends_well { number } else { None }
     }
 
     /// The number multiplied by the base to the power of what stands after `E`, if it stands here (2.4.1).

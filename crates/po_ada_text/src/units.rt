@@ -8,7 +8,7 @@ use crate::statements::{before, go_on};
 use po_ada_tree::fault::Stop;
 use po_ada_tree::reserved::Reserved;
 use po_ada_tree::tree::{
-    Action, Body, Content, Expression, Family, Kind, Mode, Name, Parameters, Part, Profile,
+    Action, Aspect, Body, Content, Expression, Family, Kind, Mode, Name, Parameters, Part, Profile,
     Protected, ProtectedBody, Sequence, Statement, Subtype, Variables,
 };
 
@@ -144,22 +144,28 @@ impl<'a> Reader<'a> {
         })
     }
 
-    /// Reads what comes after the head of a body, up to its semicolon.
-    fn content(&mut self, name: Name) -> Result<Content, Stop> {
+    /// Adds the aspects that come after `is null` or after the expression of a function, and reads the semicolon (6.7, 6.8).
+    fn later_aspects(&mut self, aspects: &mut Vec<Aspect>) -> Result<(), Stop> {
+        for aspect in self.aspects()? {
+            aspects.push(aspect)?;
+        }
+        self.semicolon()
+    }
+
+    /// Reads what comes after the head of a body, up to its semicolon. Aspects that come late are added to the others.
+    fn content(&mut self, name: Name, aspects: &mut Vec<Aspect>) -> Result<Content, Stop> {
         if self.takes_sign(Sign::Semicolon) {
             return Ok(Content::Declared);
         }
         self.needs(Reserved::Is)?;
         let place = self.place();
         if self.takes(Reserved::Null) {
-            self.ignored_aspects()?;
-            self.semicolon()?;
+            self.later_aspects(aspects)?;
             return Ok(Content::Statements(Vec::new(self.alloc), self.null_sequence(place)?));
         }
         if self.sees_sign(Sign::LeftParenthesis) || self.sees_sign(Sign::LeftBracket) {
             let value = self.expression(MOST_LEVELS)?;
-            self.ignored_aspects()?;
-            self.semicolon()?;
+            self.later_aspects(aspects)?;
             return Ok(Content::Value(value));
         }
         let declarations = self.declarations()?;
@@ -191,9 +197,9 @@ impl<'a> Reader<'a> {
 
     /// Reads the body of an operation.
     pub fn body(&mut self) -> Result<Body, Stop> {
-        let profile = self.profile()?;
+        let mut profile = self.profile()?;
         let barrier = self.barrier(profile.kind)?;
-        let content = self.content(profile.name)?;
+        let content = self.content(profile.name, &mut profile.aspects)?;
         Ok(Body {
             profile,
             barrier,

@@ -343,6 +343,13 @@ impl<U: Unit, R: Record<U>> CoreInAction<U, R> {
         &self.setup
     }
 
+    /// Returns how many calls may be uncollected at once, if that number is fixed.
+    pub(crate) fn capacity(&self) -> Option<usize>
+        ensures { result ≡ self.now.capacity }
+    {
+        self.state.capacity()
+    }
+
     /// Returns the data of the object and its calls.
     pub(crate) fn state(&self) -> &State<U>
         ensures { result.now.state ≡ self.now.object.state }

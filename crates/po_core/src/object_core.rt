@@ -322,6 +322,13 @@ impl<U: Unit, R: Record<U>> Core<U, R> {
         self.in_action.state().clock()
     }
 
+    /// Returns how many calls may be uncollected at once, if that number is fixed: the capacity with which a bounded core was made.
+    pub fn capacity(&self) -> Option<usize>
+        ensures { result ≡ self.now.capacity }
+    {
+        self.in_action.capacity()
+    }
+
     /// Returns whether the object is finalized (9.4).
     pub fn is_finalized(&self) -> bool
         ensures { result ≡ self.now.object.state.finalized }

@@ -1,6 +1,7 @@
 -- SPDX-License-Identifier: MIT
 -- What an order of the callers' commands does to the objects of a scene.
 use Rattle.std.specs.Prelude.{ℕ, zero, suc, ◌≡◌, ◌≢◌, ◌⊎◌, ◌<◌, List, [], ◌∷◌, map, length, replicate, All, Option, Some, None, Bool, true, false, ◌||◌, is_some, option_map, string_bytes, vec_len, find, slice_get, slice_index, slice_set, if◌then◌else◌}
+use Rattle.po_engine.specs.Finding.{IsFound}
 use Rattle.po_engine.specs.WaitingCalls.{is_of}
 use Rattle.po_core.specs.View.{View, opening_view}
 use Rattle.po_ada_unit.specs.Object.{Object as AdaObject, ada_meaning}
@@ -60,6 +61,10 @@ abbrev pub CantBeMade : SceneObject → Type 0
 CantBeMade named =
     HasTooMany (map declaration named.names.entries.items)
     ⊎ (ada_meaning.entries named.unit ≢ entry_count (map declaration named.names.entries.items))
+
+-- An object of the scene can't be made.
+abbrev pub CantBegin : Scene → Type 0
+CantBegin scene = (position : ℕ) × IsFound CantBeMade (slice_get scene.objects.items position)
 
 -- Each object was just made.
 abbrev pub AreOpening : List SceneObject → List ObjectView → Type 0

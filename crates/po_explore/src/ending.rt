@@ -3,7 +3,6 @@
 
 use crate::finding::{Found, Kind};
 use crate::object::Object;
-use crate::script::line_at;
 use crate::stage::{Stage, caller_count, object_count};
 use po_ada_language::push_formed;
 use po_scene::{Scene, SceneObject};
@@ -13,8 +12,8 @@ use std::fmt::Write;
 /// Adds the name of an object, or `the object` if it has none.
 pub(crate) fn push_name(text: &mut String, scene: &Scene, object: u16) -> Result<(), AllocError> {
     match scene.objects.get(usize::from(object)) {
-        Some(object) if !object.name.is_empty() => text.push_str(object.name.as_str()),
-        _ => text.push_str("the object"),
+        Some(object) => text.push_str(object.shown_name()),
+        None => Ok(()),
     }
 }
 
@@ -25,7 +24,7 @@ fn push_waiting(text: &mut String, scene: &Scene, stage: &Stage) -> Result<(), A
             && let Some(line) = stage.line_of(scene, position)
             && let Some(caller) = scene.callers.get(usize::from(position))
         {
-            let (name, line) = (caller.name.as_str(), line_at(scene, line));
+            let (name, line) = (caller.name.as_str(), scene.words_at(line));
             write!(text, "    # {name} waits: {line}\n")?;
         }
     }

@@ -2,9 +2,8 @@
 //! What a search found.
 
 use crate::finding::{Finding, Found, Kind};
-use crate::invariants::broken_invariants;
-use crate::news::{News, answers_in, found_in};
-use crate::stage::Stage;
+use crate::news::News;
+use crate::stage::command_at;
 use po_scene::Scene;
 use std::alloc::{AllocError, Global};
 
@@ -27,6 +26,33 @@ pub(crate) struct Place {
     pub(crate) node: usize,
     /// How many orders lead to it.
     pub(crate) orders: u128,
+}
+
+/// What is told of a command.
+#[derive(Clone, Copy)]
+pub(crate) struct Told<'a> {
+    /// By caller: how many commands it has made then.
+    pub(crate) made: &'a [u32],
+    /// What it brings about.
+    pub(crate) news: &'a [News],
+    /// The invariants that don't hold then, and were never asked before.
+    pub(crate) broken: &'a [Found],
+}
+
+impl Told<'_> {
+    /// Returns how many commands the caller has made.
+    fn made(&self, caller: u16) -> u32 {
+        match self.made.get(usize::from(caller)) {
+            Some(made) => *made,
+            None => 0,
+        }
+    }
+
+    /// Returns the line of the caller's latest command, if it has made one.
+    fn line_of(&self, scene: &Scene, caller: u16) -> Option<usize> {
+        let latest = self.made(caller).checked_sub(1)?;
+        Some(command_at(scene, caller, latest)?.line)
+    }
 }
 
 /// What a search found.
@@ -125,20 +151,21 @@ impl Explored {
         }
     }
 
-    /// Notes what is wrong in a stage, to which the caller's next command leads from the place.
+    /// Notes what this news tells that is wrong, and the invariants that don't hold, after the caller's next command.
     fn note_found(
         &mut self,
-        alloc: Global,
         scene: &Scene,
-        stage: &Stage,
-        news: &[News],
+        told: Told<'_>,
         place: Place,
         caller: Option<u16>,
     ) -> Result<(), AllocError> {
-        let mut list = Vec::new(alloc);
-        found_in(scene, stage, news, &mut list)?;
-        broken_invariants(scene, stage, &mut list)?;
-        for found in list.iter() {
+        for news in told.news {
+            if let Some(kind) = news.event.kind() {
+                let line = told.line_of(scene, news.caller);
+                self.note(Found { kind, line }, place, caller)?;
+            }
+        }
+        for found in told.broken {
             self.note(*found, place, caller)?;
         }
         Ok(())
@@ -147,39 +174,36 @@ impl Explored {
     /// Notes how the commands of this news are answered, if that is asked for.
     fn note_answers(
         &mut self,
-        alloc: Global,
         scene: &Scene,
-        stage: &Stage,
-        news: &[News],
+        told: Told<'_>,
         place: Place,
         caller: Option<u16>,
     ) -> Result<(), AllocError> {
         if !self.answers {
             return Ok(());
         }
-        let mut list = Vec::new(alloc);
-        answers_in(scene, stage, news, &mut list)?;
-        for found in list.iter() {
-            self.note_answer(*found, place, caller)?;
+        for news in told.news {
+            if let Some(kind) = news.event.answer(told.made(news.caller)) {
+                let line = told.line_of(scene, news.caller);
+                self.note_answer(Found { kind, line }, place, caller)?;
+            }
         }
         Ok(())
     }
 
-    /// Notes what this news tells of a stage, to which the caller's next command leads from the place.
+    /// Notes what is told of the caller's next command after the place.
     pub(crate) fn note_news(
         &mut self,
-        alloc: Global,
         scene: &Scene,
-        stage: &Stage,
-        news: &[News],
+        told: Told<'_>,
         place: Place,
         caller: Option<u16>,
     ) -> Result<(), AllocError> {
-        self.note_found(alloc, scene, stage, news, place, caller)?;
-        self.note_answers(alloc, scene, stage, news, place, caller)?;
-        for told in news {
-            if told.event.is_completed()
-                && let Some(line) = stage.line_of(scene, told.caller)
+        self.note_found(scene, told, place, caller)?;
+        self.note_answers(scene, told, place, caller)?;
+        for news in told.news {
+            if news.event.is_completed()
+                && let Some(line) = told.line_of(scene, news.caller)
             {
                 self.note_completed(line);
             }
@@ -187,16 +211,11 @@ impl Explored {
         Ok(())
     }
 
-    /// Notes a stage in which no caller can make a command.
-    pub(crate) fn note_end(
-        &mut self,
-        scene: &Scene,
-        stage: &Stage,
-        place: Place,
-    ) -> Result<(), AllocError> {
+    /// Notes a situation in which no caller can make a command, and whether some wait.
+    pub(crate) fn note_end(&mut self, is_stuck: bool, place: Place) -> Result<(), AllocError> {
         self.ends = self.ends.saturating_add(1);
         self.orders = self.orders.saturating_add(place.orders);
-        if !stage.is_stuck(scene) {
+        if !is_stuck {
             return Ok(());
         }
         self.stuck = self.stuck.saturating_add(1);

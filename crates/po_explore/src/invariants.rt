@@ -32,7 +32,7 @@ fn is_invariant_at(names: &ObjectNames, number: u16) -> bool
 }
 
 /// Returns the number of the function that is an object's invariant: Invariant, without parameters.
-fn invariant_of(names: &ObjectNames) -> Option<u16>
+pub fn invariant_of(names: &ObjectNames) -> Option<u16>
     ensures { IfSome result (λ number. IsInvariant (slice_get names.now.functions.items number)) }
 {
     let count = u16::try_from(names.functions.len()).unwrap_or(u16::MAX);
@@ -45,7 +45,7 @@ fn invariant_of(names: &ObjectNames) -> Option<u16>
 }
 
 /// Returns the number of the object's invariant, if it has one that doesn't hold.
-fn broken_in(named: &SceneObject, state: &Object) -> Option<u16>
+pub(crate) fn broken_in(named: &SceneObject, state: &Object) -> Option<u16>
     ensures { IfSome result (λ function. IsBrokenAt (Some named.now) (Some state.now.core.object) function) }
 {
     let function = invariant_of(&named.names)?;

@@ -6,7 +6,7 @@
 //! ever, exceptions, an invariant that doesn't hold. Each finding has an order with the fewest commands that lead to it, which
 //! `report_of` carries out again on new objects, and writes as a script.
 //!
-//! Begin with stage.rt, then states.rt, workspace.rt and search.rt.
+//! Begin with stage.rt, then states.rt and search.rt.
 #![tactic(auto)]
 
 mod answer;
@@ -23,10 +23,10 @@ mod search;
 mod stage;
 mod states;
 mod walk;
-mod workspace;
 
 pub use crate::explored::Explored;
 pub use crate::finding::{Found, Kind};
+pub use crate::invariants::invariant_of;
 pub use crate::report::{Report, Verdict, report_of};
 pub use crate::search::{Options, Search, explore, most_looks};
 pub use crate::walk::Walk;

@@ -35,7 +35,7 @@ pub(crate) enum Event {
 
 impl Event {
     /// Returns what this is, if it is to be told.
-    fn kind(&self) -> Option<Kind>
+    pub(crate) fn kind(&self) -> Option<Kind>
         ensures { (scene : Scene) (stage : StageView) → IfSome result (λ kind. Shows scene stage kind) }
     {
         match self {
@@ -51,7 +51,7 @@ impl Event {
     }
 
     /// Returns the answer that this is to the caller's command with this number, if it is one with which nothing is wrong.
-    fn answer(&self, number: u32) -> Option<Kind>
+    pub(crate) fn answer(&self, number: u32) -> Option<Kind>
         ensures { (scene : Scene) (stage : StageView) → IfSome result (λ kind. Shows scene stage kind) }
     {
         match self {

@@ -9,11 +9,11 @@ use crate::ending::{push_ending, push_name};
 use crate::explored::Explored;
 use crate::finding::{Finding, Found, Kind};
 use crate::news::Event;
-use crate::script::{line_at, push_script};
+use crate::script::push_script;
 use crate::walk::{Walk, confirmed};
 use po_ada_language::{Operation, Stop};
 use po_ada_script::push_exception;
-use po_scene::{Action, Caller, Command, Scene, SceneObject};
+use po_scene::{Action, Caller, Command, Scene};
 use std::alloc::{AllocError, Global};
 use std::fmt::Write;
 
@@ -36,26 +36,6 @@ pub struct Report {
     pub verdict: Verdict,
 }
 
-/// Returns the command with this line, if there is one.
-fn command_at(scene: &Scene, line: usize) -> Option<&Command> {
-    for caller in scene.callers.iter() {
-        for command in caller.commands.iter() {
-            if command.line == line {
-                return Some(command);
-            }
-        }
-    }
-    None
-}
-
-/// Returns the object of an operation, if the command is one.
-fn object_of<'a>(scene: &'a Scene, command: &Command) -> Option<&'a SceneObject> {
-    match command.action {
-        Action::Operate { object, .. } => scene.objects.get(usize::from(object)),
-        _ => None,
-    }
-}
-
 /// Adds the exception that an operation of the line raises, by its name in the text of the operation's object.
 fn push_raised(
     text: &mut String,
@@ -63,7 +43,7 @@ fn push_raised(
     line: usize,
     exception: u32,
 ) -> Result<(), AllocError> {
-    match command_at(scene, line).and_then(|command| object_of(scene, command)) {
+    match scene.object_at(line) {
         Some(object) => push_exception(text, &object.names, exception),
         None => Ok(()),
     }
@@ -76,22 +56,10 @@ fn push_answer_at(
     line: usize,
     event: Event,
 ) -> Result<(), AllocError> {
-    match command_at(scene, line) {
+    match scene.command_at(line) {
         Some(command) => push_answer_to(text, scene, command, event),
         None => Ok(()),
     }
-}
-
-/// Returns the name of the caller with this line.
-fn caller_at(scene: &Scene, line: usize) -> &str {
-    for caller in scene.callers.iter() {
-        for command in caller.commands.iter() {
-            if command.line == line {
-                return caller.name.as_str();
-            }
-        }
-    }
-    ""
 }
 
 /// Adds that the answer to the command of the line, which has this number among those of its caller, depends on the order.
@@ -101,7 +69,7 @@ fn push_answered(
     line: usize,
     number: u32,
 ) -> Result<(), AllocError> {
-    let (caller, words) = (caller_at(scene, line), line_at(scene, line));
+    let (caller, words) = (scene.caller_at(line), scene.words_at(line));
     write!(
         text,
         "the answer of command {number} of {caller}, '{words}', depends on the order: "
@@ -111,7 +79,7 @@ fn push_answered(
 /// Adds what was found.
 fn push_kind(text: &mut String, scene: &Scene, found: Found) -> Result<(), AllocError> {
     let line = found.line.unwrap_or(0);
-    let words = line_at(scene, line);
+    let words = scene.words_at(line);
     match found.kind {
         Kind::Stuck => text.push_str("callers wait for ever"),
         Kind::Raised(exception) => {
@@ -194,7 +162,7 @@ fn push_unserved_of(
     let mut some = false;
     for command in caller.commands.iter() {
         if is_call(command) && explored.completed.get(command.line) == Some(&0) {
-            let (name, line) = (caller.name.as_str(), line_at(scene, command.line));
+            let (name, line) = (caller.name.as_str(), scene.words_at(command.line));
             write!(text, "no order completes '{line}' of {name}\n")?;
             some = true;
         }

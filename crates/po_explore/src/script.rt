@@ -35,14 +35,6 @@ fn push_caller(text: &mut String, scene: &Scene, caller: u16) -> Result<(), Allo
     write!(text, "    # {name}\n")
 }
 
-/// Returns the line with this position.
-pub(crate) fn line_at(scene: &Scene, line: usize) -> &str {
-    match scene.lines.get(line) {
-        Some(line) => line.as_str(),
-        None => "",
-    }
-}
-
 /// Adds an attempt to cancel the call of a caller as a script of one object has it: by the call's number.
 fn push_cancel(
     text: &mut String,
@@ -69,7 +61,7 @@ fn push_command(
     match command.action {
         Action::Abort(other) if scene.objects.len() == 1 => push_cancel(text, scene, walk, other),
         _ => {
-            let line = line_at(scene, command.line);
+            let line = scene.words_at(command.line);
             write!(text, "    {line}\n")
         }
     }

@@ -1,13 +1,13 @@
 // SPDX-License-Identifier: MIT
 //! Looks at every situation of a scene, layer by layer.
 
-use crate::explored::{Explored, Node, Place};
-use crate::stage::{Stage, caller_count};
-use crate::states::{Situation, States};
-use crate::workspace::Workspace;
+use crate::explored::{Explored, Node, Place, Told};
+use crate::news::News;
+use crate::stage::{Stage, caller_count, command_at};
+use crate::states::{Situation, States, bit_of, place_of, touched};
 use indexmap::IndexMap;
 use po_ada_language::Stop;
-use po_scene::Scene;
+use po_scene::{Command, Scene};
 use std::alloc::{AllocError, Global};
 use std::mem;
 
@@ -47,7 +47,6 @@ pub struct Search {
     options: Options,
     explored: Explored,
     states: States,
-    workspace: Workspace,
     /// The situations that are looked at now.
     layer: Layer,
     /// How many of them have been looked at.
@@ -73,6 +72,14 @@ fn add(layer: &mut Layer, situation: Situation, place: Place, caller: u16) -> Re
     Ok(())
 }
 
+/// Returns the next command of a caller, unless its call waits or it has made all. The bits say whose calls wait.
+fn next_of(scene: &Scene, situation: &[u32], waiting: u64, caller: u16) -> Option<Command> {
+    if waiting & bit_of(caller) != 0 {
+        return None;
+    }
+    command_at(scene, caller, *situation.get(usize::from(caller))?)
+}
+
 /// Returns how many layers there are at most: that of no command, one for each command of the callers, and one without a situation.
 fn layer_count(scene: &Scene) -> usize {
     let mut count = 2usize;
@@ -92,13 +99,12 @@ impl Search {
             options,
             explored: Explored::new(alloc, scene, options.answers)?,
             states: States::new(alloc, scene)?,
-            workspace: Workspace::new(alloc, Stage::new(alloc, scene)?)?,
             layer: IndexMap::new(alloc),
             looked: 0,
             following: IndexMap::new(alloc),
             is_cut_off: false,
         };
-        search.begin(scene)?;
+        search.begin(scene, Stage::new(alloc, scene)?)?;
         Ok(search)
     }
 
@@ -117,60 +123,85 @@ impl Search {
         Ok(explored)
     }
 
+    /// Returns the situation of a new stage.
+    fn first_situation(&mut self, scene: &Scene, stage: Stage) -> Result<Situation, Stop> {
+        let Stage { objects, made } = stage;
+        let mut situation = made;
+        let mut position = 0u16;
+        for object in objects {
+            situation.push(self.states.number(self.alloc, scene, position, object)?)?;
+            position = position.saturating_add(1);
+        }
+        Ok(situation)
+    }
+
     /// Notes what is wrong before the first command, and that this situation is looked at next.
-    fn begin(&mut self, scene: &Scene) -> Result<(), Stop> {
-        let stage = &self.workspace.stage;
-        self.explored
-            .note_news(self.alloc, scene, stage, &[], ROOT, None)?;
-        let states = &mut self.states;
-        let situation = self.workspace.first_situation(self.alloc, scene, states)?;
+    fn begin(&mut self, scene: &Scene, stage: Stage) -> Result<(), Stop> {
+        let situation = self.first_situation(scene, stage)?;
+        self.note(scene, situation.as_slice(), &[], ROOT, None)?;
         let mut layer = IndexMap::new(self.alloc);
         add(&mut layer, situation, ROOT, 0)?;
         Ok(self.turn_to(layer)?)
     }
 
-    /// Has a caller make its next command in this situation, if it can, notes what is found, and adds the situation that follows to
-    /// the next layer.
+    /// Notes what a command of this caller brought about, which led to this situation.
+    fn note(
+        &mut self,
+        scene: &Scene,
+        situation: &[u32],
+        news: &[News],
+        place: Place,
+        caller: Option<u16>,
+    ) -> Result<(), AllocError> {
+        let broken = self.states.take_broken(self.alloc);
+        let told = Told {
+            made: situation.get(..scene.callers.len()).unwrap_or(&[]),
+            news,
+            broken: broken.as_slice(),
+        };
+        self.explored.note_news(scene, told, place, caller)
+    }
+
+    /// Returns the situation to which the caller's command leads from this one, and adds what that brings about.
+    fn situation_after(
+        &mut self,
+        scene: &Scene,
+        situation: &[u32],
+        caller: u16,
+        command: Command,
+        news: &mut Vec<News>,
+    ) -> Result<Situation, Stop> {
+        let (alloc, states) = (self.alloc, &mut self.states);
+        let mut next = Vec::from_slice(alloc, situation)?;
+        if let Some(made) = next.get_mut(usize::from(caller)) {
+            *made = made.saturating_add(1);
+        }
+        for object in touched(scene, command.action) {
+            if let Some(number) = next.get_mut(place_of(scene, object)) {
+                *number = states.go_on(alloc, scene, object, *number, caller, command, news)?;
+            }
+        }
+        Ok(next)
+    }
+
+    /// Has a caller make this command in this situation, notes what is found, and adds the situation that follows to the next layer.
     fn follow(
         &mut self,
         scene: &Scene,
         situation: &[u32],
         place: Place,
         caller: u16,
+        command: Command,
         following: &mut Layer,
     ) -> Result<(), Stop> {
-        let (alloc, states, work) = (self.alloc, &mut self.states, &mut self.workspace);
-        work.go_to(alloc, scene, states, situation)?;
-        let Some(command) = work.stage.next_of(scene, caller) else {
-            return Ok(());
-        };
-        let action = command.action;
-        let mut news = Vec::new(alloc);
-        work.step(scene, caller, action, &mut news)?;
-        let next = work.situation_after(alloc, scene, states, situation, caller, action)?;
+        let mut news = Vec::new(self.alloc);
+        let next = self.situation_after(scene, situation, caller, command, &mut news)?;
         self.explored.moves = self.explored.moves.saturating_add(1);
-        self.explored.note_news(
-            alloc,
-            scene,
-            &work.stage,
-            news.as_slice(),
-            place,
-            Some(caller),
-        )?;
+        self.note(scene, next.as_slice(), news.as_slice(), place, Some(caller))?;
         add(following, next, place, caller)
     }
 
-    /// Notes a situation in which no caller can make a command.
-    fn note_end(&mut self, scene: &Scene, situation: &[u32], place: Place) -> Result<(), Stop> {
-        let work = &mut self.workspace;
-        work.go_to(self.alloc, scene, &self.states, situation)?;
-        if work.stage.is_over(scene) {
-            self.explored.note_end(scene, &work.stage, place)?;
-        }
-        Ok(())
-    }
-
-    /// Looks at a situation: adds those that follow to the next layer.
+    /// Looks at a situation: adds those that follow to the next layer. If none does, notes its end.
     fn look_at(
         &mut self,
         scene: &Scene,
@@ -178,9 +209,16 @@ impl Search {
         place: Place,
         following: &mut Layer,
     ) -> Result<(), Stop> {
-        self.note_end(scene, situation, place)?;
+        let waiting = self.states.waiting(scene, situation);
+        let mut is_end = true;
         for caller in 0..caller_count(scene) {
-            self.follow(scene, situation, place, caller, following)?;
+            if let Some(command) = next_of(scene, situation, waiting, caller) {
+                is_end = false;
+                self.follow(scene, situation, place, caller, command, following)?;
+            }
+        }
+        if is_end {
+            self.explored.note_end(waiting != 0, place)?;
         }
         Ok(())
     }

@@ -1,10 +1,10 @@
 // SPDX-License-Identifier: MIT
 //! How far a scene is: its objects, and how many commands each caller has made.
 
-ghost use Rattle.std.specs.Prelude.{◌≡◌, ◌↔◌, ◌+◌, IsTrue, length, map, slice_index, slice_set, slice_get, option_map, IfOk, OnOk};
+ghost use Rattle.std.specs.Prelude.{◌≡◌, ◌↔◌, ◌⊎◌, ◌+◌, IsTrue, length, map, slice_index, slice_set, slice_get, option_map, IfOk, IfErr, OnOk};
 ghost use Rattle.po_ada_unit.specs.Object.{ada_meaning};
 ghost use Rattle.po_explore.specs.Commands.{value_cells, after_operation, after_asking, after_abort};
-ghost use Rattle.po_explore.specs.Scenes.{views_of, stage_of, changed, after_command, acted, next_of as next_command, latest_at, number_in, IsBeginning, IsOver, IsStuck, command_at as the_command, waits as is_waiting};
+ghost use Rattle.po_explore.specs.Scenes.{views_of, stage_of, changed, after_command, acted, next_of as next_command, latest_at, number_in, IsBeginning, CantBegin, IsOver, IsStuck, command_at as the_command, waits as is_waiting};
 
 use crate::news::News;
 use crate::object::Object;
@@ -37,7 +37,7 @@ pub(crate) fn object_count(scene: &Scene) -> u16
 }
 
 /// Returns the command of the caller with this position among its commands.
-fn command_at(scene: &Scene, caller: u16, position: u32) -> Option<Command>
+pub(crate) fn command_at(scene: &Scene, caller: u16, position: u32) -> Option<Command>
     ensures { result ≡ the_command scene.now caller position }
 {
     let commands = &scene.callers.get(usize::from(caller))?.commands;
@@ -47,7 +47,8 @@ fn command_at(scene: &Scene, caller: u16, position: u32) -> Option<Command>
 impl Stage {
     /// Returns how the scene begins, on new objects.
     pub(crate) fn new(alloc: Global, scene: &Scene) -> Result<Stage, Stop>
-        ensures { IfOk result (λ stage. IsBeginning scene.now (stage_of stage)) }
+        ensures begins { IfOk result (λ stage. IsBeginning scene.now (stage_of stage)) }
+        ensures fails { IfErr result (λ stop. (stop ≡ Stop.OutOfMemory) ⊎ CantBegin scene.now) }
     {
         let mut objects = Vec::with_capacity(alloc, scene.objects.len())?;
         for named in scene.objects.iter() {

@@ -1,8 +1,8 @@
 // SPDX-License-Identifier: MIT
 //! A walk through a scene: one order of its callers' commands.
 
-ghost use Rattle.std.specs.Prelude.{◌≡◌, ◌↔◌, IsTrue, IsSome, IfOk, IfSome, OnOk};
-ghost use Rattle.po_explore.specs.Scenes.{StageView, stage_of, next_of, after_command, after_order, IsBeginning, Shows, AllShown, LeadsTo};
+ghost use Rattle.std.specs.Prelude.{◌≡◌, ◌↔◌, ◌⊎◌, IsTrue, IsSome, IfOk, IfErr, IfSome, OnOk};
+ghost use Rattle.po_explore.specs.Scenes.{StageView, stage_of, next_of, after_command, after_order, IsBeginning, CantBegin, Shows, AllShown, LeadsTo};
 ghost use Rattle.po_scene.specs.declared.scene.Scene.{Scene};
 
 use crate::finding::{Found, Kind};
@@ -25,7 +25,8 @@ impl Walk {
     ///
     /// Fails only if an object can't be made or memory runs out.
     pub fn new(alloc: Global, scene: &Scene) -> Result<Walk, Stop>
-        ensures { IfOk result (λ walk. IsBeginning scene.now (stage_of walk.stage)) }
+        ensures begins { IfOk result (λ walk. IsBeginning scene.now (stage_of walk.stage)) }
+        ensures fails { IfErr result (λ stop. (stop ≡ Stop.OutOfMemory) ⊎ CantBegin scene.now) }
     {
         Ok(Walk {
             stage: Stage::new(alloc, scene)?,

@@ -51,7 +51,7 @@ struct Repetition {
 
 /// What has been read of a scene.
 #[derive(Drop)]
-struct Reading {
+pub(crate) struct Reading {
     scene: Scene,
     /// The names of all callers, those that are still to come among them.
     callers: Vec<String>,
@@ -106,16 +106,27 @@ fn caller_names(alloc: Global, text: &[u8]) -> Result<Vec<String>, Stop> {
 }
 
 impl Reading {
-    fn new(alloc: Global, callers: Vec<String>) -> Reading {
-        Reading {
+    /// Returns what has been read of a scene with this text before its first line.
+    pub(crate) fn new(alloc: Global, text: &[u8]) -> Result<Reading, Stop> {
+        Ok(Reading {
             scene: Scene {
                 objects: Vec::new(alloc),
                 callers: Vec::new(alloc),
                 lines: Vec::new(alloc),
             },
-            callers,
+            callers: caller_names(alloc, text)?,
             repetition: None,
-        }
+        })
+    }
+
+    /// Returns the objects.
+    pub(crate) fn objects(&self) -> &[SceneObject] {
+        self.scene.objects.as_slice()
+    }
+
+    /// Returns whether no caller has begun.
+    pub(crate) fn is_before_callers(&self) -> bool {
+        self.scene.callers.is_empty()
     }
 
     /// Makes the object that the words ask for, under this name.
@@ -288,7 +299,7 @@ impl Reading {
     }
 
     /// Returns the scene, if it is complete.
-    fn end(mut self, alloc: Global) -> Result<Scene, Stop> {
+    pub(crate) fn end(mut self, alloc: Global) -> Result<Scene, Stop> {
         self.end_repetition(alloc)?;
         if self.scene.callers.is_empty() {
             return Err(refused(alloc, NO_CALLERS));
@@ -297,7 +308,7 @@ impl Reading {
     }
 
     /// Reads a line.
-    fn take_line<T: Texts<SceneObject>>(
+    pub(crate) fn take_line<T: Texts<SceneObject>>(
         &mut self,
         alloc: Global,
         texts: &mut T,
@@ -330,8 +341,8 @@ pub fn read_scene<T: Texts<SceneObject>>(
     texts: &mut T,
     text: &[u8],
 ) -> Result<Scene, RunFault> {
-    let mut reading = match caller_names(alloc, text) {
-        Ok(names) => Reading::new(alloc, names),
+    let mut reading = match Reading::new(alloc, text) {
+        Ok(reading) => reading,
         Err(stop) => return Err(fault_at(0, stop)),
     };
     let mut number = 0u64;

@@ -2,14 +2,14 @@
 //! What the words of the command line ask of this program.
 
 use clap::error::ErrorKind;
-use clap::{Arg, ArgAction, Command, Error};
-use po_command_line::{CommandError, EXPLORE, explore_command, pobj, words};
+use clap::{Arg, ArgAction, ArgMatches, Command, Error};
+use po_command_line::{CHECK, CommandError, EXPLORE, check_command, explore_command, pobj, words};
 use po_explore::Options;
 use std::alloc::{AllocError, Global};
 use std::env::Env;
 
 /// The message for words that ask for nothing that this program does.
-const ELSEWHERE: &str = "pobj_explore carries out `explore SCENE`";
+const ELSEWHERE: &str = "pobj_explore carries out `explore SCENE` and `check --scene SCENE`";
 
 /// The message for a limit that isn't one.
 const NO_LIMIT: &str = "the value of '--most' is a number of situations, from 1 on";
@@ -43,7 +43,25 @@ The language is described in docs/EXPLORE.md.";
 
 /// What the words of the command line ask for.
 #[derive(Debug, Drop)]
-pub(crate) struct Asked {
+pub(crate) enum Asked {
+    /// Every order of the callers.
+    Explore(ExploreAsked),
+    /// The faults of a scene.
+    Check(CheckAsked),
+}
+
+/// What the words after `check` ask for.
+#[derive(Debug, Drop)]
+pub(crate) struct CheckAsked {
+    /// The scene's file.
+    pub(crate) scene: String,
+    /// The file of the object that the scene doesn't name.
+    pub(crate) unit: Option<String>,
+}
+
+/// What the words after `explore` ask for.
+#[derive(Debug, Drop)]
+pub(crate) struct ExploreAsked {
     /// The scene's file.
     pub(crate) scene: String,
     /// The file of the object that the scene doesn't name.
@@ -107,6 +125,15 @@ fn scene<'a>(alloc: Global) -> Arg<'a> {
         .help("The file of the scene")
 }
 
+/// Makes the argument that names the scene after `--scene`.
+fn named_scene<'a>(alloc: Global) -> Arg<'a> {
+    Arg::new(alloc, "scene")
+        .long("scene")
+        .value_name("SCENE")
+        .required(true)
+        .help("The file of the scene")
+}
+
 /// Makes the command line.
 fn command<'a>(alloc: Global) -> Result<Command<'a>, AllocError> {
     let explore = explore_command(alloc)
@@ -117,7 +144,11 @@ fn command<'a>(alloc: Global) -> Result<Command<'a>, AllocError> {
         .arg(answers(alloc))?
         .arg(progress(alloc))?
         .arg(until(alloc))?;
-    pobj(alloc).subcommand(explore)
+    let check = check_command(alloc)
+        .about("Reads a scene and carries out nothing: explains each line with a fault")
+        .arg(named_scene(alloc))?
+        .arg(unit(alloc))?;
+    pobj(alloc).subcommand(explore)?.subcommand(check)
 }
 
 /// Returns the refusal of words for this reason.
@@ -144,35 +175,53 @@ fn owned(alloc: Global, name: Option<&str>) -> Result<Option<String>, AllocError
     }
 }
 
+/// Returns what the words after `explore` ask for, or what is wrong with them.
+fn explore_asked(alloc: Global, matches: &ArgMatches) -> Result<Asked, CommandError> {
+    let scene = owned(alloc, matches.get_str("SCENE"))?;
+    let most = situations(matches.get_str("most"));
+    match (scene, most) {
+        (Some(scene), Some(situations)) => Ok(Asked::Explore(ExploreAsked {
+            scene,
+            unit: owned(alloc, matches.get_str("unit"))?,
+            options: Options {
+                situations,
+                answers: matches.get_flag("answers"),
+            },
+            watched: Watched {
+                progress: matches.get_flag("progress"),
+                until: owned(alloc, matches.get_str("until"))?,
+            },
+        })),
+        _ => Err(refused(alloc, ErrorKind::InvalidValue, NO_LIMIT)?),
+    }
+}
+
+/// Returns what the words after `check` ask for.
+fn check_asked(alloc: Global, matches: &ArgMatches) -> Result<Asked, CommandError> {
+    match owned(alloc, matches.get_str("scene"))? {
+        Some(scene) => Ok(Asked::Check(CheckAsked {
+            scene,
+            unit: owned(alloc, matches.get_str("unit"))?,
+        })),
+        None => Err(refused(alloc, ErrorKind::InvalidSubcommand, ELSEWHERE)?),
+    }
+}
+
+/// Returns why words are refused for this reason.
+fn refused(alloc: Global, kind: ErrorKind, reason: &str) -> Result<CommandError, AllocError> {
+    Ok(CommandError::from(refusal(alloc, kind, reason)?))
+}
+
 /// Returns what the words ask for. Fails if they ask for help, or are refused.
 pub(crate) fn parse<R: Env + AllocGlobal>(rt: &R) -> Result<Asked, CommandError> {
     let alloc = rt.alloc();
     let words = words(rt)?;
     let matches = command(alloc)?.try_get_matches_from(words.as_slice())?;
-    let explore = matches.subcommand_matches(EXPLORE);
-    let scene = owned(alloc, explore.and_then(|matches| matches.get_str("SCENE")))?;
-    let unit = owned(alloc, explore.and_then(|matches| matches.get_str("unit")))?;
-    let most = situations(explore.and_then(|matches| matches.get_str("most")));
-    let answers = explore.is_some_and(|matches| matches.get_flag("answers"));
-    let progress = explore.is_some_and(|matches| matches.get_flag("progress"));
-    let until = owned(alloc, explore.and_then(|matches| matches.get_str("until")))?;
-    match (scene, most) {
-        (Some(scene), Some(situations)) => Ok(Asked {
-            scene,
-            unit,
-            options: Options {
-                situations,
-                answers,
-            },
-            watched: Watched { progress, until },
-        }),
-        (Some(_), None) => {
-            let error = refusal(alloc, ErrorKind::InvalidValue, NO_LIMIT)?;
-            Err(CommandError::from(error))
-        }
-        (None, _) => {
-            let error = refusal(alloc, ErrorKind::InvalidSubcommand, ELSEWHERE)?;
-            Err(CommandError::from(error))
-        }
+    if let Some(matches) = matches.subcommand_matches(EXPLORE) {
+        return explore_asked(alloc, matches);
+    }
+    match matches.subcommand_matches(CHECK) {
+        Some(matches) => check_asked(alloc, matches),
+        None => Err(refused(alloc, ErrorKind::InvalidSubcommand, ELSEWHERE)?),
     }
 }

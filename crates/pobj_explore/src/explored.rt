@@ -1,7 +1,7 @@
 // SPDX-License-Identifier: MIT
 //! Explores a scene, and prints the report.
 
-use crate::asked::{Asked, Watched};
+use crate::asked::{ExploreAsked, Watched};
 use crate::scene::read;
 use crate::watch::Watch;
 use po_ada_command::print_fault;
@@ -53,7 +53,7 @@ fn reported<R: Eprint + Clock + Files + AllocGlobal>(
 /// Explores the scene that is asked for, and prints the report.
 fn explored<R: Print + Eprint + Clock + Files + AllocGlobal>(
     rt: &R,
-    asked: Asked,
+    asked: ExploreAsked,
 ) -> Result<Verdict, RunFault> {
     let scene = read(rt, asked.scene, asked.unit)?;
     match reported(rt, &scene, asked.options, asked.watched) {
@@ -78,7 +78,10 @@ fn status_of(verdict: Verdict) -> u8 {
 }
 
 /// Explores the scene that is asked for, prints the report, and returns the status.
-pub(crate) fn run<R: Print + Eprint + Clock + Files + AllocGlobal>(rt: &R, asked: Asked) -> u8 {
+pub(crate) fn run<R: Print + Eprint + Clock + Files + AllocGlobal>(
+    rt: &R,
+    asked: ExploreAsked,
+) -> u8 {
     match explored(rt, asked) {
         Ok(verdict) => status_of(verdict),
         Err(fault) => print_fault(rt, &fault),

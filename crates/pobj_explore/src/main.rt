@@ -1,12 +1,15 @@
 // SPDX-License-Identifier: MIT
-//! The program for `pobj explore SCENE`: it tries every order of the callers of a scene.
+//! The program for scenes: `pobj explore SCENE` tries every order of the callers, and `pobj check --scene SCENE` tells the faults
+//! of the scene.
 #![tactic(auto)]
 
 mod asked;
+mod checked;
 mod explored;
 mod scene;
 mod watch;
 
+use crate::asked::Asked;
 use po_command_line::CommandError;
 use std::env::Env;
 use std::io::{Eprint, Print};
@@ -18,7 +21,10 @@ use std::time::Clock;
 fn start<R: Env + Print + Eprint + Clock + Files + AllocGlobal>(
     rt: &R,
 ) -> Result<u8, CommandError> {
-    Ok(explored::run(rt, asked::parse(rt)?))
+    match asked::parse(rt)? {
+        Asked::Explore(asked) => Ok(explored::run(rt, asked)),
+        Asked::Check(asked) => Ok(checked::run(rt, asked)),
+    }
 }
 
 fn main(rt: HostRuntime) -> ExitCode {

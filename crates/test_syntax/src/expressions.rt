@@ -257,7 +257,7 @@ impl<'a> Printer<'a> {
         Ok(())
     }
 
-    /// Writes choices with bars between them. A membership test before a bar needs parentheses.
+    /// Writes choices with bars between them. A membership test before a bar, `..` or `range` needs parentheses.
     pub fn choices(&mut self, choices: &'a Vec<Choice>, least: u32) -> Result<(), AllocError> {
         let mut before = "";
         let mut left = choices.len();
@@ -275,11 +275,11 @@ impl<'a> Printer<'a> {
         match choice {
             Choice::Value(value) => self.expression(value, least),
             Choice::Range(low, high) => {
-                self.expression(low, least)?;
+                self.expression(low, SUM)?;
                 self.after(" .. ", high, SUM)
             }
             Choice::Constrained(mark, low, high) => {
-                self.expression(mark, least)?;
+                self.expression(mark, SUM)?;
                 self.after(" range ", low, SUM)?;
                 self.after(" .. ", high, SUM)
             }

@@ -1,24 +1,33 @@
 // SPDX-License-Identifier: MIT
 //! A program for the gate: it reads Ada texts from standard input, each after a line `-- text NAME`. It writes each tree as a
-//! text, reads that again and compares; and it makes an object of the text. Then it does both with changed texts: its arguments
-//! say how many, and what number the lot begins with.
+//! text, reads that again and compares; and it makes an object of the text. Then it does both with changed texts, and it writes and
+//! reads random trees. Its arguments say how many texts to change, what number the lot begins with, and how many trees to make.
 #![tactic(auto)]
 
 mod declarations;
 mod expressions;
+mod heights;
 mod items;
 mod likeness;
+mod make_declarations;
+mod make_expressions;
+mod make_items;
+mod make_names;
+mod make_statements;
+mod maker;
 mod mutation;
 mod outcome;
 mod precedence;
 mod printer;
+mod random_trees;
 mod reading;
 mod statements;
 mod whole;
 
 use crate::mutation::mutant;
 use crate::outcome::{Counts, Outcome};
-use crate::reading::{read_and_written, round_trip};
+use crate::random_trees::{RandomTree, trees_wanted, written_tree};
+use crate::reading::{line_read, read_and_written, round_trip};
 use crate::whole::whole_way;
 use anyhow::Result;
 use po_ada_samples::{Lot, Sample, argument, samples};
@@ -146,12 +155,42 @@ fn test_all_changed(
     tally.write(rt, "changed texts")
 }
 
+/// Writes a random tree that didn't come back: its text, what the tree of that is written as, and both trees as lines.
+fn write_lost(rt: &(impl Print + AllocGlobal), made: &RandomTree) -> Result<()> {
+    println!(rt; "a random tree doesn't come back:")?;
+    write_wrong(rt, made.text.as_slice())?;
+    write_bytes(rt, made.line.as_slice())?;
+    if let Ok(line) = line_read(rt.alloc(), made.text.as_slice())? {
+        write_bytes(rt, line.as_slice())?;
+    }
+    Ok(())
+}
+
+/// Tests as many random trees as this.
+fn test_random_trees(rt: &(impl Print + AllocGlobal), count: usize, lot: &mut Lot) -> Result<()> {
+    let mut came_back = 0usize;
+    for _ in 0..count {
+        let made = written_tree(rt.alloc(), lot)?;
+        if made.comes_back(rt.alloc())? {
+            came_back = came_back.saturating_add(1);
+        } else {
+            write_lost(rt, &made)?;
+        }
+    }
+    let differ = count.saturating_sub(came_back);
+    println!(rt; "{count} random trees: {came_back} came back, {differ} differ")?;
+    Ok(())
+}
+
 fn main(rt: HostRuntime) -> Result<()> {
     let (count, seed) = (argument(&rt, 1)?, argument(&rt, 2)?);
+    let trees = trees_wanted(&rt)?;
     let mut bytes = Vec::new(rt.alloc());
     rt.reader().read_to_end(&mut bytes)?;
     let list = samples(rt.alloc(), bytes.as_slice())?;
     test_texts(&rt, list.as_slice())?;
     let mut lot = Lot::new(seed as u64);
-    test_all_changed(&rt, list.as_slice(), count, &mut lot)
+    test_all_changed(&rt, list.as_slice(), count, &mut lot)?;
+    let mut lot = Lot::new(seed as u64);
+    test_random_trees(&rt, trees, &mut lot)
 }

@@ -20,7 +20,7 @@ pub enum Piece<'a> {
     Expression(&'a Expression, u32),
     /// An expression between parentheses that are there.
     Enclosed(&'a Expression),
-    /// A choice, whose first expression is in parentheses unless its operator binds at least this tight.
+    /// A choice: a value is in parentheses unless its operator binds at least this tight.
     Choice(&'a Choice, u32),
     Statement(&'a Statement),
 }

@@ -37,6 +37,14 @@ pub fn read_and_written(alloc: Global, bytes: &[u8]) -> Result<Result<Written, u
     }
 }
 
+/// The tree of these bytes as a line, or how many faults they have.
+pub fn line_read(alloc: Global, bytes: &[u8]) -> Result<Result<Vec<u8>, usize>> {
+    match tree(alloc, bytes)? {
+        Ok(read) => Ok(Ok(line_of(alloc, &read, bytes)?)),
+        Err(count) => Ok(Err(count)),
+    }
+}
+
 /// Reads a text, writes its tree, reads that again and compares.
 pub fn round_trip(alloc: Global, bytes: &[u8]) -> Result<Outcome> {
     let first = match read_and_written(alloc, bytes)? {

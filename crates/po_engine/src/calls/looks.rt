@@ -1,7 +1,7 @@
 // SPDX-License-Identifier: MIT
 //! What can be read off the calls of an object.
 
-ghost use Rattle.std.specs.Prelude.{◌≡◌, ◌<◌, map, length, count_by, nat_lt, Some, None, true, IfOk, IfSome, find, option_map, drop};
+ghost use Rattle.std.specs.Prelude.{◌≡◌, ◌<◌, map, length, count_by, nat_lt, Some, None, true, IfOk, IfSome, find, option_map, if◌then◌else◌, drop};
 ghost use Rattle.po_engine.specs.WaitingCalls.{is_on, is_of, is_due, counts_of};
 ghost use Rattle.po_engine.specs.Tickets.{status_among, waiting_among, is_live, uncollected};
 ghost use Rattle.po_calls.specs.declared.call.Call.{Call};
@@ -162,6 +162,17 @@ impl<V: Copy> Calls<V> {
         ensures { result ≡ self.now.next }
     {
         self.next
+    }
+
+    /// Returns how many calls may be uncollected at once, if that number is fixed.
+    pub fn capacity(&self) -> Option<usize>
+        ensures { result ≡ (if self.now.is_fixed then Some self.now.capacity else None) }
+    {
+        if self.is_fixed {
+            Some(self.capacity)
+        } else {
+            None
+        }
     }
 
     /// Returns the clock.

@@ -1,7 +1,7 @@
 // SPDX-License-Identifier: MIT
 //! What can be read off the state of an object, and which event comes next.
 
-ghost use Rattle.std.specs.Prelude.{◌≡◌, ◌↔◌, ◌<◌, ◌≤◌, [], true, slice_index, map, All, drop, nat_lt, Option, None, Some, IsTrue, IfOk, IfNone, IfSome, IsSome, find, option_map};
+ghost use Rattle.std.specs.Prelude.{◌≡◌, ◌↔◌, ◌<◌, ◌≤◌, [], true, slice_index, map, All, drop, nat_lt, Option, None, Some, IsTrue, IfOk, IfNone, IfSome, IsSome, find, option_map, if◌then◌else◌};
 ghost use Rattle.po_engine.specs.WaitingCalls.{is_on, is_of, is_due};
 ghost use Rattle.po_engine.specs.ObjectState.{counts_in};
 ghost use Rattle.po_engine.specs.Pick.{event_of, next_turn, pick, owed};
@@ -134,6 +134,13 @@ impl<U: Unit> State<U> {
         ensures { result ≡ self.now.state.finalized }
     {
         self.finalized
+    }
+
+    /// Returns how many calls may be uncollected at once, if that number is fixed.
+    pub fn capacity(&self) -> Option<usize>
+        ensures { result ≡ (if self.now.is_fixed then Some self.now.capacity else None) }
+    {
+        self.calls.capacity()
     }
 
     /// Returns the clock.
