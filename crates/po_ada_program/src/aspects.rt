@@ -8,6 +8,9 @@ use po_ada_tree::tree::{Aspect, Expression, Kind, Name, Profile};
 /// The aspects that mean something and aren't in the subset.
 const REFUSED: [&str; 4] = ["pre'class", "post'class", "import", "address"];
 
+/// The aspects with a meaning here that stand at a declaration alone.
+const DECLARED: [&str; 5] = ["pre", "post", "pre'class", "post'class", "max_queue_length"];
+
 impl<'a> Making<'a> {
     /// Whether the name is one of these.
     pub fn is_one_of(&self, name: Name, texts: &[&str]) -> bool {
@@ -27,6 +30,23 @@ impl<'a> Making<'a> {
                         "the aspect ",
                         aspect.name.number,
                         " isn't in this subset yet: write pragma Assert in the body",
+                    ),
+                );
+            }
+        }
+        Ok(())
+    }
+
+    /// Refuses aspects of a body that belong to its declaration (13.1.1).
+    pub fn admit_body_aspects(&mut self, profile: &'a Profile) -> Result<(), Stop> {
+        for aspect in profile.aspects.iter() {
+            if self.is_one_of(aspect.name, &DECLARED) {
+                return Err(
+                    self.lowering.known.refuse_name(
+                        aspect.name.place,
+                        "the aspect ",
+                        aspect.name.number,
+                        " stands at the operation's declaration, not at its body (13.1.1)",
                     ),
                 );
             }

@@ -47,7 +47,11 @@ impl<'a> Making<'a> {
     /// Declares an operation outside of the protected unit, unless that was done, and notes its body.
     fn note_outer(&mut self, body: &'a Body) -> Result<(), Stop> {
         let number = match self.lowering.known.look_up(body.profile.name.number) {
-            Some(Meaning::Operation(number)) if self.lowering.is_outside(number) => number,
+            Some(Meaning::Operation(number)) if self.lowering.is_outside(number) => {
+                let admitted = self.admit_body_aspects(&body.profile);
+                self.keep_on(admitted)?;
+                number
+            }
             _ => self.declare(&body.profile, false, true)?,
         };
         if matches!(body.content, Content::Declared) {

@@ -290,7 +290,11 @@ impl<'a> Making<'a> {
     fn attach(&mut self, body: &'a Body) -> Result<(), Stop> {
         let name = body.profile.name;
         let number = match self.lowering.known.look_up(name.number) {
-            Some(Meaning::Operation(number)) if !self.lowering.is_outside(number) => number,
+            Some(Meaning::Operation(number)) if !self.lowering.is_outside(number) => {
+                let admitted = self.admit_body_aspects(&body.profile);
+                self.keep_on(admitted)?;
+                number
+            }
             Some(Meaning::Faulty) => return Err(Stop::Fault),
             _ if body.profile.kind == Kind::Entry => {
                 return Err(

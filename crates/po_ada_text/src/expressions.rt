@@ -9,6 +9,7 @@ use crate::operators::{
 };
 use crate::reader::{MOST_LEVELS, Reader};
 use crate::sign::Sign;
+use crate::statements::go_on;
 use po_ada_tree::fault::Stop;
 use po_ada_tree::reserved::Reserved;
 use po_ada_tree::tree::{
@@ -46,6 +47,13 @@ fn no_value(element: Element) -> Option<&'static str> {
         ),
         _ => None,
     }
+}
+
+/// Whether `others` is among these choices.
+pub fn are_others(choices: &[Choice]) -> bool {
+    choices
+        .iter()
+        .any(|choice| matches!(choice, Choice::Others(_)))
 }
 
 /// How a loop goes over a range or an array: the words before it (5.5, 5.5.2).
@@ -262,6 +270,7 @@ impl<'a> Reader<'a> {
             let choices = self.choices(SUM, levels)?;
             self.needs_sign(Sign::Arrow)?;
             let value = self.operation(LOGICAL, levels)?;
+            let is_others = are_others(choices.as_slice());
             arms.push(CaseArm {
                 place,
                 choices,
@@ -270,6 +279,7 @@ impl<'a> Reader<'a> {
             if !self.takes_sign(Sign::Comma) {
                 break;
             }
+            self.needs_last(is_others)?;
         }
         self.case_form(start, subject, arms)
     }
@@ -305,6 +315,44 @@ impl<'a> Reader<'a> {
         self.quantified_form(place, is_all, name, iteration, condition)
     }
 
+    /// Tells a fault if a part can't come after the part before it: after `others` none can, and after one with a name none without
+    /// (4.3.1, 4.3.3, 6.4).
+    fn needs_order(&mut self, list: &[Association], next: &Association) -> Result<(), Stop> {
+        let Some(before) = list.last() else {
+            return Ok(());
+        };
+        if are_others(before.choices.as_slice()) {
+            return go_on(self.refuse(next.place, "'others' comes last (4.3.1, 4.3.3)"));
+        }
+        if !before.choices.is_empty() && next.choices.is_empty() {
+            return go_on(self.refuse(
+                next.place,
+                "a part without a name comes before those that have one (4.3.1, 6.4)",
+            ));
+        }
+        Ok(())
+    }
+
+    /// Tells a fault if one more alternative, arm or handler comes after that of `others` (5.4, 11.2).
+    pub fn needs_last(&mut self, is_others: bool) -> Result<(), Stop> {
+        if !is_others || !self.sees(Reserved::When) {
+            return Ok(());
+        }
+        let place = self.place();
+        go_on(self.refuse(place, "'when others' comes last (5.4, 11.2)"))
+    }
+
+    /// Tells a fault if `others` stands beside other choices (3.8.1).
+    fn needs_alone(&mut self, place: usize, choices: &[Choice]) -> Result<(), Stop> {
+        if choices.len() < 2 || !are_others(choices) {
+            return Ok(());
+        }
+        go_on(self.refuse(
+            place,
+            "'others' stands alone, without other choices (3.8.1)",
+        ))
+    }
+
     /// Reads associations up to the sign that closes them: an expression, `A | B => ..`, or a conditional or quantified
     /// expression without parentheses of its own.
     #[cycle(operators)]
@@ -329,6 +377,7 @@ impl<'a> Reader<'a> {
             } else {
                 self.unnamed(place, choices)?
             };
+            self.needs_order(list.as_slice(), &association)?;
             list.push(association)?;
             if !self.takes_sign(Sign::Comma) {
                 break;
@@ -341,6 +390,7 @@ impl<'a> Reader<'a> {
     /// Reads choices, whose first expressions have operators of this precedence: `A | B .. C | others`.
     #[cycle(operators)]
     fn choices(&mut self, least: u32, levels: usize) -> Result<Vec<Choice>, Stop> {
+        let place = self.place();
         let mut list = Vec::new(self.alloc);
         for _ in 0..self.turns() {
             list.push(self.choice(least, levels)?)?;
@@ -348,6 +398,7 @@ impl<'a> Reader<'a> {
                 break;
             }
         }
+        self.needs_alone(place, list.as_slice())?;
         Ok(list)
     }
 

@@ -2,6 +2,7 @@
 //! Makes expressions of what was read, each with its height.
 
 use crate::reader::{MOST_LEVELS, Reader};
+use crate::statements::go_on;
 use po_ada_tree::fault::Stop;
 use po_ada_tree::tree::{
     Arm, Association, Attribute, CaseArm, Choice, Expression, Form, Infix, Iteration, Name, Prefix,
@@ -125,6 +126,19 @@ impl<'a> Reader<'a> {
         self.node(place, below, Form::Prefix(operator, operand))
     }
 
+    /// Tells a fault if a subtype with a range is among the choices after `in` (4.4).
+    fn needs_members(&mut self, choices: &[Choice]) -> Result<(), Stop> {
+        for choice in choices {
+            if let Choice::Constrained(mark, _, _) = choice {
+                go_on(self.refuse(
+                    mark.place,
+                    "after 'in' a range stands without a subtype: write 'A .. B' alone (4.4)",
+                ))?;
+            }
+        }
+        Ok(())
+    }
+
     /// `A in B | C`, or `A not in B | C` (4.5.2).
     pub fn membership(
         &mut self,
@@ -133,6 +147,7 @@ impl<'a> Reader<'a> {
         operand: Expression,
         choices: Vec<Choice>,
     ) -> Result<Expression, Stop> {
+        self.needs_members(choices.as_slice())?;
         let below = operand.height.max(choices_height(choices.as_slice()));
         let operand = self.boxed(operand)?;
         let test = self.node(place, below, Form::Member(operand, choices))?;

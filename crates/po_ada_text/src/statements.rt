@@ -1,6 +1,7 @@
 // SPDX-License-Identifier: MIT
 //! Reads statements (5.1). The functions call one another; `levels` says how much deeper they may.
 
+use crate::expressions::are_others;
 use crate::lexer::Element;
 use crate::reader::{MOST_LEVELS, Reader};
 use crate::sign::Sign;
@@ -153,9 +154,19 @@ impl<'a> Reader<'a> {
         self.semicolon()
     }
 
+    /// Tells a fault if no statement comes next (5.1).
+    fn needs_statement(&mut self) -> Result<(), Stop> {
+        if !ends_statements(self.peek()) {
+            return Ok(());
+        }
+        let stop = self.expected("a statement ('null;' does nothing)");
+        go_on(stop)
+    }
+
     /// Reads statements up to a word that ends them. After a fault, goes on at the next statement.
     #[cycle(blocks)]
     pub fn statements(&mut self, levels: usize) -> Result<Vec<Statement>, Stop> {
+        self.needs_statement()?;
         let mut list = Vec::new(self.alloc);
         for _ in 0..self.turns() {
             if ends_statements(self.peek()) {
@@ -377,6 +388,7 @@ impl<'a> Reader<'a> {
             }
             let choices = self.alternative_choices()?;
             let statements = self.statements(levels)?;
+            self.needs_last(are_others(choices.as_slice()))?;
             alternatives.push(Alternative {
                 place,
                 choices,
@@ -491,16 +503,18 @@ impl<'a> Reader<'a> {
         }
         for _ in 0..self.turns() {
             let place = self.place();
-            if !self.takes(Reserved::When) {
-                break;
-            }
+            self.needs(Reserved::When)?;
             let exceptions = self.handled()?;
             let statements = self.statements(levels)?;
+            self.needs_last(exceptions.is_empty())?;
             handlers.push(Handler {
                 place,
                 exceptions,
                 statements,
             })?;
+            if !self.sees(Reserved::When) {
+                break;
+            }
         }
         Ok(Sequence {
             statements,

@@ -152,14 +152,31 @@ impl<'a> Reader<'a> {
         self.semicolon()
     }
 
+    /// Tells a fault if the operation whose body is `null` isn't a procedure (6.7).
+    fn needs_procedure(&mut self, kind: Kind, place: usize) -> Result<(), Stop> {
+        if kind == Kind::Procedure {
+            return Ok(());
+        }
+        go_on(self.refuse(
+            place,
+            "only a procedure's body is 'null': write 'begin', statements and 'end' (6.7)",
+        ))
+    }
+
     /// Reads what comes after the head of a body, up to its semicolon. Aspects that come late are added to the others.
-    fn content(&mut self, name: Name, aspects: &mut Vec<Aspect>) -> Result<Content, Stop> {
+    fn content(
+        &mut self,
+        kind: Kind,
+        name: Name,
+        aspects: &mut Vec<Aspect>,
+    ) -> Result<Content, Stop> {
         if self.takes_sign(Sign::Semicolon) {
             return Ok(Content::Declared);
         }
         self.needs(Reserved::Is)?;
         let place = self.place();
         if self.takes(Reserved::Null) {
+            self.needs_procedure(kind, place)?;
             self.later_aspects(aspects)?;
             return Ok(Content::Statements(Vec::new(self.alloc), self.null_sequence(place)?));
         }
@@ -199,7 +216,7 @@ impl<'a> Reader<'a> {
     pub fn body(&mut self) -> Result<Body, Stop> {
         let mut profile = self.profile()?;
         let barrier = self.barrier(profile.kind)?;
-        let content = self.content(profile.name, &mut profile.aspects)?;
+        let content = self.content(profile.kind, profile.name, &mut profile.aspects)?;
         Ok(Body {
             profile,
             barrier,

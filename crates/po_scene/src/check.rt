@@ -99,8 +99,8 @@ fn read_line<T: Texts<SceneObject>>(
     }
 }
 
-/// Reads the lines one after the other, past those with a fault. A fault before the first caller is one of an object: it ends the
-/// reading, since nothing can be said of commands then. Returns the number of the last line that was read.
+/// Reads the lines one after the other, past those with a fault. A fault before the first caller ends the reading, since nothing can
+/// be said of commands then. Returns the number of the last line that was read.
 fn read_lines<T: Texts<SceneObject>>(
     alloc: Global,
     texts: &mut T,

@@ -31,6 +31,13 @@ const INFIXES: [Infix; 19] = [
     Infix::Power,
 ];
 
+/// Whether these choices are `others`.
+pub fn are_others(choices: &[Choice]) -> bool {
+    choices
+        .iter()
+        .any(|choice| matches!(choice, Choice::Others(_)))
+}
+
 impl Maker {
     /// An expression.
     pub fn expression(&mut self) -> Result<Expression, AllocError> {
@@ -91,7 +98,7 @@ impl Maker {
     /// `A in B | C`, or `A not in B | C` (4.5.2).
     fn member(&mut self) -> Result<Expression, AllocError> {
         let tested = self.boxed()?;
-        let choices = self.choices()?;
+        let choices = self.members()?;
         let test = expression_of(Form::Member(tested, choices));
         if self.one_in(2) {
             return Ok(test);
@@ -119,11 +126,15 @@ impl Maker {
         for _ in 0..self.few() {
             let choices = self.choices()?;
             let value = self.operand()?;
+            let is_last = are_others(choices.as_slice());
             arms.push(CaseArm {
                 place: 0,
                 choices,
                 value,
             })?;
+            if is_last {
+                break;
+            }
         }
         Ok(expression_of(Form::Case(subject, arms)))
     }
@@ -156,24 +167,43 @@ impl Maker {
         Ok(Iteration::In(reversed, Box::new(self.alloc, range)?))
     }
 
-    /// A choice or a discrete range (3.6.1, 3.8.1).
-    pub fn choice(&mut self) -> Result<Choice, AllocError> {
+    /// A value or a range, for `in` (4.4).
+    fn member_choice(&mut self) -> Result<Choice, AllocError> {
         let first = self.operand()?;
-        match self.draw(8) {
-            0 => Ok(Choice::Others(0)),
-            1 => {
-                let low = self.operand()?;
-                let high = self.operand()?;
-                Ok(Choice::Constrained(first, low, high))
-            }
-            2 | 3 | 4 => Ok(Choice::Range(first, self.operand()?)),
-            _ => Ok(Choice::Value(first)),
+        if self.one_in(2) {
+            return Ok(Choice::Range(first, self.operand()?));
         }
+        Ok(Choice::Value(first))
     }
 
-    /// One to three choices.
+    /// One to three values or ranges, for `in` (4.4).
+    fn members(&mut self) -> Result<Vec<Choice>, AllocError> {
+        let mut list = Vec::new(self.alloc);
+        for _ in 0..self.few() {
+            let choice = self.member_choice()?;
+            list.push(choice)?;
+        }
+        Ok(list)
+    }
+
+    /// A choice other than `others`, or a discrete range (3.6.1, 3.8.1).
+    pub fn choice(&mut self) -> Result<Choice, AllocError> {
+        if !self.one_in(8) {
+            return self.member_choice();
+        }
+        let mark = self.operand()?;
+        let low = self.operand()?;
+        let high = self.operand()?;
+        Ok(Choice::Constrained(mark, low, high))
+    }
+
+    /// One to three choices, or `others` (3.8.1).
     pub fn choices(&mut self) -> Result<Vec<Choice>, AllocError> {
         let mut list = Vec::new(self.alloc);
+        if self.one_in(8) {
+            list.push(Choice::Others(0))?;
+            return Ok(list);
+        }
         for _ in 0..self.few() {
             let choice = self.choice()?;
             list.push(choice)?;
@@ -182,9 +212,9 @@ impl Maker {
     }
 
     /// A part of an aggregate or of actual parameters: `A`, `B => A`, `B => <>` (4.3, 6.4).
-    fn association(&mut self) -> Result<Association, AllocError> {
+    fn association(&mut self, named: bool) -> Result<Association, AllocError> {
         let mut choices = Vec::new(self.alloc);
-        if self.one_in(2) {
+        if named {
             choices = self.choices()?;
         }
         let value = if self.one_in(8) {
@@ -199,12 +229,18 @@ impl Maker {
         })
     }
 
-    /// One to three parts of an aggregate or of actual parameters.
+    /// One to three parts of an aggregate or of actual parameters: those without names first, `others` last.
     pub fn associations(&mut self) -> Result<Vec<Association>, AllocError> {
         let mut list = Vec::new(self.alloc);
+        let mut named = false;
         for _ in 0..self.few() {
-            let association = self.association()?;
+            named = named || self.one_in(2);
+            let association = self.association(named)?;
+            let is_last = are_others(association.choices.as_slice());
             list.push(association)?;
+            if is_last {
+                break;
+            }
         }
         Ok(list)
     }

@@ -1,6 +1,7 @@
 // SPDX-License-Identifier: MIT
 //! Makes random statements (5.1).
 
+use crate::make_expressions::are_others;
 use crate::maker::Maker;
 use po_ada_tree::tree::{
     Action, Alternative, Branch, Expression, Handler, LoopHead, Sequence, Statement,
@@ -116,11 +117,15 @@ impl Maker {
         for _ in 0..self.few() {
             let choices = self.choices()?;
             let statements = self.statement_list()?;
+            let is_last = are_others(choices.as_slice());
             alternatives.push(Alternative {
                 place: 0,
                 choices,
                 statements,
             })?;
+            if is_last {
+                break;
+            }
         }
         Ok(Action::Case(subject, alternatives))
     }
@@ -186,11 +191,15 @@ impl Maker {
         for _ in 0..self.draw(4).saturating_sub(1) {
             let exceptions = self.exceptions()?;
             let statements = self.statement_list()?;
+            let is_last = exceptions.is_empty();
             handlers.push(Handler {
                 place: 0,
                 exceptions,
                 statements,
             })?;
+            if is_last {
+                break;
+            }
         }
         Ok(Sequence {
             statements,
