@@ -5,7 +5,7 @@
 # Sets `program` to the one that carries out the words: the first of them names it, or `--unit` with an Ada text after it.
 program_of() {
   case "$* " in
-    "explore "* | "check "*--scene*) program=pobj_explore ;;
+    "explore "* | "check "*--scene* | "stress "*--scene*) program=pobj_explore ;;
     "run --unit"* | "check --unit"*) program=pobj_text ;;
     "check "* | "stress "*) program=pobj_$1 ;;
     *) program=pobj_run ;;

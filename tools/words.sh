@@ -17,6 +17,7 @@ all_rows() {
   explore SCENE --picture DIR   Does the same, and draws what it finds in SVG: DIR/1.svg, DIR/2.svg and so on
   picture [FILE] [-o PICTURE]   Draws what a script does as a time line, in SVG
   stress --unit NAME ..         Has threads share an object, and compares each answer with its history
+  stress --scene SCENE          Has a thread for each caller of a scene, and compares each answer with its history
   ada DEST [--target TARGET]    Makes a runtime folder for Ada programs of GNAT
   ada --check [DEST]            Compiles and runs a program on such a folder, or on a new one
   ada --linked PROGRAM          Says whether a linked Ada program runs over pobj or on GNAT's own runtime
@@ -68,7 +69,7 @@ The statuses:
   0  a good end
   1  the script is faulty, or `check` finds something
   2  the words of the command line are refused
-  3  `stress` finds answers that differ from the history, or `explore` finds something
+  3  `stress` finds answers that differ from the history, or `explore` or `stress --scene` finds something
   4  memory runs out, or a file, a read, a write or GNAT fails
   5  a build fails, or a trial gives no answer
   6  the toolchain or Python isn't there
@@ -177,11 +178,11 @@ take_script() {
   [ -z "$text" ] || need_file "$text"
 }
 
-# Whether the words are about a scene: `explore`, or `check` with --scene.
+# Whether the words are about a scene: `explore`, or `check` or `stress` with --scene.
 is_of_scene() {
   case $1 in
     explore) return 0 ;;
-    check) ;;
+    check | stress) ;;
     *) return 1 ;;
   esac
   for word; do
@@ -195,7 +196,7 @@ need_scene() {
   before=
   for word; do
     case "$before $word" in
-      "--most "* | "--until "* | *" -"*) ;;
+      "--most "* | "--until "* | "--runs "* | *" -"*) ;;
       *) need_file "$word" ;;
     esac
     before=$word

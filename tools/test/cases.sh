@@ -135,7 +135,7 @@ lay_out_texts() {
 
 # The paths of all scenes, without their endings. NAME.out has what `explore` answers, and NAME.status its status; NAME.err and
 # NAME.words, if they are there, have the errors and words that follow the scene's name. NAME.check, if it is there, has what
-# `check` answers.
+# `check` answers, and NAME.stress what `stress` with ten runs does.
 all_scenes() {
   local file
   for file in examples/scenes/*.scene cases/*.scene; do
@@ -162,8 +162,21 @@ scenes_by_program() {
       fail "$base.scene: status $got: $(diff "$scratch/want" "$scratch/err") $(diff "$base.out" "$scratch/out")"
     fi
     if [ -f "$base.check" ]; then same "$("$path" check --scene "$base.scene")" "$(cat "$base.check")" "$base.scene, checked"; fi
+    if [ -f "$base.stress" ]; then same "$("$path" stress --scene "$base.scene" --runs 10)" "$(cat "$base.stress")" "$base.scene, with threads"; fi
   done
+  stuck_threads
   if timeout 120 python3 tools/test/terminal.py ./pobj explore; then pass; else fail "a search that is ended by ^C"; fi
+}
+
+# Whether threads that take two forks in opposite orders get stuck once in 1,000 runs.
+stuck_threads() {
+  "$path" stress --scene examples/scenes/crossed.scene --runs 1000 >"$scratch/out" 2>&1
+  if [ $? -eq 3 ] && grep -q '^callers waited for ever in [0-9]* runs\?; in run [0-9]*:$' "$scratch/out" \
+    && grep -q '^1000 runs, [0-9]* calls: each answer is that of its object.s history$' "$scratch/out"; then
+    pass
+  else
+    fail "crossed.scene with threads: $(cat "$scratch/out")"
+  fi
 }
 
 # Lays out words for a trial, which have this status: lay_out_words PROGRAM NAME STATUS ANSWER WORD..
@@ -184,6 +197,7 @@ lay_out_scenes() {
       # shellcheck disable=SC2046
       lay_out_words "$1" "scene-$name" "$(cat "$base.status")" "$base.out" explore "$base.scene" $(scene_words "$base")
       [ ! -f "$base.check" ] || lay_out_words "$1" "check-$name" 1 "$base.check" check --scene "$base.scene"
+      [ ! -f "$base.stress" ] || lay_out_words "$1" "stress-$name" "$(cat "$base.status")" "$base.stress" stress --scene "$base.scene" --runs 10
     fi
   done
 }

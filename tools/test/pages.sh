@@ -7,7 +7,7 @@
 most_edits=234
 
 # How many words all pages together may have, outside of code.
-most_words=28100
+most_words=28500
 
 # Each crate of crates.txt has a row in the map, and each row has a crate.
 map_is_whole() {
@@ -132,7 +132,7 @@ edits_are_few() {
 steps_are_asked() {
   local file uses asks files
   files=$(grep -rlE '\b(RwLock|Mutex|Condvar|OnceLock|Parker|Unparker|Atomic[A-Z][a-z0-9]*)\b' crates/*/src | grep -vE 'crates/(test|example|bench)_' | sed 's:^crates/::; s:/src/:/:' | LC_ALL=C sort | tr '\n' ' ')
-  if [ "$files" = "po_object/object.rt po_object/opening.rt po_object/pass.rt po_object/seat.rt po_stress/progress.rt po_threads/watch.rt pobj_stress/watch.rt " ]; then pass; else fail "files with locks, flags or parkers: $files"; fi
+  if [ "$files" = "po_object/object.rt po_object/opening.rt po_object/pass.rt po_object/seat.rt po_scene_stress/course.rt po_scene_stress/tally.rt po_scene_stress/turns.rt po_stress/progress.rt po_threads/watch.rt pobj_stress/watch.rt " ]; then pass; else fail "files with locks, flags or parkers: $files"; fi
   for file in object pass seat; do
     uses=$(grep -cE '\.(try_write|try_read|unpark)\(\)|\.(write|read|park)\(rt\)|\.(load|store|swap|compare_exchange)\(' "crates/po_object/src/$file.rt")
     asks=$(grep -cE 'steps\.(reach|sleeps)\(' "crates/po_object/src/$file.rt")

@@ -115,6 +115,7 @@ findings_there() {
   same "$(cat "$scratch/err")" "pobj: drawn: $to/other/1.svg" "what is said of pictures"
   if cmp -s "$to/one/1.svg" docs/pictures/crossed.svg && cmp -s "$to/other/1.svg" docs/pictures/crossed.svg; then pass; else fail "explore --picture draws another picture"; fi
   answers_there 3 out "check --scene $scene" check --scene "$scene"
+  answers_there 3 out "stress --scene $scene --runs 9" stress --scene "$scene" --runs 9
   answers_there 4 err "pobj: $scratch/none can't be opened: No such file or directory" check --scene "$scratch/none"
   answers_there 2 err "--picture takes a folder" explore "$scene" --picture
   answers_there 4 err "$scratch/out is a file" explore "$scene" --picture "$scratch/out"
@@ -230,6 +231,7 @@ packs_there() {
   same "$("$to/bin/pobj" run "$to/VERSION")" "pobj_run run"$'\n'"$(cat VERSION)" "the packed program's input"
   same "$("$to/bin/pobj" run --unit "$to/VERSION" "$to/VERSION")" "pobj_text run --unit $to/VERSION"$'\n'"$(cat VERSION)" "the packed program for Ada texts"
   same "$("$to/bin/pobj" explore --picture "$to/found" "$to/VERSION" </dev/null)" "pobj_explore explore $to/VERSION" "the packed program that explores"
+  same "$("$to/bin/pobj" stress --scene "$to/VERSION")" "pobj_explore stress --scene $to/VERSION" "the packed program that has threads for callers"
   same "$("$to/bin/pobj" run "$to/none" 2>&1)" "pobj: $to/none can't be opened: No such file or directory" "a file that isn't there"
   if git check-ignore -q "$name.tar.gz"; then pass; else fail "git doesn't ignore $name.tar.gz"; fi
 }

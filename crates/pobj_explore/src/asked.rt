@@ -3,16 +3,27 @@
 
 use clap::error::ErrorKind;
 use clap::{Arg, ArgAction, ArgMatches, Command, Error};
-use po_command_line::{CHECK, CommandError, EXPLORE, check_command, explore_command, pobj, words};
+use po_command_line::{
+    CHECK, CommandError, EXPLORE, STRESS, check_command, explore_command, pobj, stress_command,
+    words,
+};
 use po_explore::Options;
+use po_scene_stress::MOST_RUNS;
 use std::alloc::{AllocError, Global};
 use std::env::Env;
 
 /// The message for words that ask for nothing that this program does.
-const ELSEWHERE: &str = "pobj_explore carries out `explore SCENE` and `check --scene SCENE`";
+const ELSEWHERE: &str =
+    "pobj_explore carries out `explore SCENE`, `check --scene SCENE` and `stress --scene SCENE`";
 
 /// The message for a limit that isn't one.
 const NO_LIMIT: &str = "the value of '--most' is a number of situations, from 1 on";
+
+/// The message for a number of runs that isn't one.
+const NO_RUNS: &str = "the value of '--runs' is a number from 1 to 1000000";
+
+/// A scene is run this often, if the words don't say how often.
+const RUNS: u32 = 100;
 
 /// A search ends when it has met more situations than these, if the words don't say how many.
 const SITUATIONS: usize = 1_000_000;
@@ -41,6 +52,18 @@ nothing was found, but not all orders were tried.
 
 The language is described in docs/EXPLORE.md.";
 
+/// The end of the help on `stress --scene`.
+const THREADS: &str = "\
+Each caller of the scene is a thread, and all of them begin at the same time. The report says in how
+many runs callers waited for ever, and which of them, and how often commands raised exceptions, ended
+by Program_Error or were refused, or invariants didn't hold. Each answer that a caller got is compared
+with the history of its object.
+
+The statuses: 0 if nothing was found, 1 at a fault of the scene, 2 if the words are refused, 3 if
+something was found or an answer isn't its history's, 4 if memory runs out, or a read or a write fails.
+
+Scenes are described in docs/EXPLORE.md.";
+
 /// What the words of the command line ask for.
 #[derive(Debug, Drop)]
 pub(crate) enum Asked {
@@ -48,6 +71,19 @@ pub(crate) enum Asked {
     Explore(ExploreAsked),
     /// The faults of a scene.
     Check(CheckAsked),
+    /// Runs of a scene in which each caller is a thread.
+    Stress(StressAsked),
+}
+
+/// What the words after `stress` ask for.
+#[derive(Debug, Drop)]
+pub(crate) struct StressAsked {
+    /// The scene's file.
+    pub(crate) scene: String,
+    /// The file of the object that the scene doesn't name.
+    pub(crate) unit: Option<String>,
+    /// How often the scene is run.
+    pub(crate) runs: u32,
 }
 
 /// What the words after `check` ask for.
@@ -92,6 +128,13 @@ fn most<'a>(alloc: Global) -> Arg<'a> {
         .long("most")
         .value_name("SITUATIONS")
         .help("Ends after this many situations; 1000000 if it is left out")
+}
+
+/// Makes the argument that says how often a scene is run.
+fn runs<'a>(alloc: Global) -> Arg<'a> {
+    Arg::new(alloc, "runs").long("runs").value_name("N").help(
+        "Runs the scene this often, from 1 to 1000000; 100 if it is left out",
+    )
 }
 
 /// Makes the argument that asks for answers that depend on the order.
@@ -148,7 +191,16 @@ fn command<'a>(alloc: Global) -> Result<Command<'a>, AllocError> {
         .about("Reads a scene and carries out nothing: explains each line with a fault")
         .arg(named_scene(alloc))?
         .arg(unit(alloc))?;
-    pobj(alloc).subcommand(explore)?.subcommand(check)
+    let stress = stress_command(alloc, STRESS)
+        .about("Has a thread for each caller of a scene, and compares each answer with its history")
+        .after_help(THREADS)
+        .arg(named_scene(alloc))?
+        .arg(unit(alloc))?
+        .arg(runs(alloc))?;
+    pobj(alloc)
+        .subcommand(explore)?
+        .subcommand(check)?
+        .subcommand(stress)
 }
 
 /// Returns the refusal of words for this reason.
@@ -163,6 +215,17 @@ fn situations(word: Option<&str>) -> Option<usize> {
         Some(word) => match word.parse::<usize>() {
             Ok(0) | Err(_) => None,
             Ok(most) => Some(most),
+        },
+    }
+}
+
+/// Returns how many runs the word asks for, if it is a number from 1 to 1,000,000.
+fn run_count(word: Option<&str>) -> Option<u32> {
+    match word {
+        None => Some(RUNS),
+        Some(word) => match word.parse::<u32>() {
+            Ok(runs) if runs >= 1 && runs <= MOST_RUNS => Some(runs),
+            _ => None,
         },
     }
 }
@@ -207,6 +270,19 @@ fn check_asked(alloc: Global, matches: &ArgMatches) -> Result<Asked, CommandErro
     }
 }
 
+/// Returns what the words after `stress` ask for, or what is wrong with them.
+fn stress_asked(alloc: Global, matches: &ArgMatches) -> Result<Asked, CommandError> {
+    let scene = owned(alloc, matches.get_str("scene"))?;
+    match (scene, run_count(matches.get_str("runs"))) {
+        (Some(scene), Some(runs)) => Ok(Asked::Stress(StressAsked {
+            scene,
+            unit: owned(alloc, matches.get_str("unit"))?,
+            runs,
+        })),
+        _ => Err(refused(alloc, ErrorKind::InvalidValue, NO_RUNS)?),
+    }
+}
+
 /// Returns why words are refused for this reason.
 fn refused(alloc: Global, kind: ErrorKind, reason: &str) -> Result<CommandError, AllocError> {
     Ok(CommandError::from(refusal(alloc, kind, reason)?))
@@ -219,6 +295,9 @@ pub(crate) fn parse<R: Env + AllocGlobal>(rt: &R) -> Result<Asked, CommandError>
     let matches = command(alloc)?.try_get_matches_from(words.as_slice())?;
     if let Some(matches) = matches.subcommand_matches(EXPLORE) {
         return explore_asked(alloc, matches);
+    }
+    if let Some(matches) = matches.subcommand_matches(STRESS) {
+        return stress_asked(alloc, matches);
     }
     match matches.subcommand_matches(CHECK) {
         Some(matches) => check_asked(alloc, matches),

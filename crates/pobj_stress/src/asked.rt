@@ -41,7 +41,9 @@ With --bounded the object's memory is fixed when it is opened, so no history is 
 answer can be compared. The line ends with `agreed` if the object issued as many calls as the
 threads saw end. Otherwise it ends with `differ`, and the status is 3.
 
-On a terminal a long run shows how many calls have ended.";
+On a terminal a long run shows how many calls have ended.
+
+'pobj stress --scene SCENE' has a thread for each caller of a scene; with --help it says more.";
 
 /// Returns the unit that a word names.
 fn unit_of(word: &str) -> Option<StressUnit> {
