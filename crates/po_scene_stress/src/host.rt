@@ -19,40 +19,28 @@ use std::sync::ledger::{Blank, Ledger};
 use std::sync::{Arc, Wait};
 use std::thread::{self, JoinHandle, Threads};
 
-/// What an object is made of.
-#[derive(Drop)]
-pub(crate) struct Parts {
-    pub(crate) unit: AdaUnit,
-    pub(crate) shape: Shape,
+/// How an object is made, and where it stands in its scene.
+#[derive(Clone, Copy)]
+pub(crate) struct Place {
+    /// The position of the object.
+    pub(crate) object: u16,
     pub(crate) order: Order,
     pub(crate) max_queue: Option<u64>,
 }
 
-/// What the host of an object is given.
-#[derive(Drop)]
-pub(crate) struct Hosted {
-    pub(crate) parts: Parts,
-    /// The position of the object.
-    pub(crate) object: u16,
-    /// By caller.
-    pub(crate) jobs: Vec<Steps>,
-    pub(crate) course: Arc<Course>,
-}
-
 /// Makes the core of an object. Fails if memory runs out.
-fn core_of(alloc: Global, parts: Parts) -> Result<Core<AdaUnit>, AllocError> {
-    let Parts {
-        unit,
-        shape,
-        order,
-        max_queue,
-    } = parts;
+fn core_of(
+    alloc: Global,
+    unit: AdaUnit,
+    shape: Shape,
+    place: Place,
+) -> Result<Core<AdaUnit>, AllocError> {
     let start = Start {
         first_number: 1,
         first_place: 0,
-        max_queue,
+        max_queue: place.max_queue,
     };
-    Core::start(alloc, unit, shape, order, start).map_err(|_| AllocError)
+    Core::start(alloc, unit, shape, place.order, start).map_err(|_| AllocError)
 }
 
 /// Returns the entries of an object.
@@ -115,7 +103,10 @@ fn start_all<
     idle: &mut Vec<Pass<Values, C, P>>,
     running: &mut Vec<JoinHandle<Pass<Values, C, P>>>,
 ) -> Result<(), AllocError> {
-    while let (Some(pass), Some(job)) = (passes.pop(), jobs.pop()) {
+    while let Some(pass) = passes.pop() {
+        let Some(job) = jobs.pop() else {
+            return Err(AllocError);
+        };
         if job.turns.is_empty() {
             idle.push(pass)?;
         } else {
@@ -210,12 +201,13 @@ fn host_core<
 /// Makes the object, has the callers do their steps, closes it, and reports on it.
 fn host_object<W: Threads + Wait + AllocGlobal + Copy + Send + 'static>(
     rt: W,
-    parts: Parts,
-    position: u16,
+    unit: AdaUnit,
+    shape: Shape,
+    place: Place,
     jobs: Vec<Steps>,
     course: &Course,
 ) -> Result<Report, AllocError> {
-    let core = core_of(rt.alloc(), parts)?;
+    let core = core_of(rt.alloc(), unit, shape, place)?;
     let Ok(seats) = u16::try_from(jobs.len()) else {
         return Err(AllocError);
     };
@@ -226,7 +218,7 @@ fn host_object<W: Threads + Wait + AllocGlobal + Copy + Send + 'static>(
     host_core::<Brand, Brand, W>(
         rt,
         core,
-        position,
+        place.object,
         seats,
         jobs,
         course,
@@ -237,24 +229,44 @@ fn host_object<W: Threads + Wait + AllocGlobal + Copy + Send + 'static>(
 }
 
 /// What the thread of a host does: it hosts the object, and counts what is said of it.
-fn host<W: Threads + Wait + AllocGlobal + Copy + Send + 'static>(rt: W, hosted: Hosted) {
-    let Hosted {
-        parts,
-        object,
-        jobs,
-        course,
-    } = hosted;
-    match host_object(rt, parts, object, jobs, &*course) {
+fn host<W: Threads + Wait + AllocGlobal + Copy + Send + 'static>(
+    rt: W,
+    unit: AdaUnit,
+    shape: Shape,
+    place: Place,
+    jobs: Vec<Steps>,
+    course: Arc<Course>,
+) {
+    match host_object(rt, unit, shape, place, jobs, &*course) {
         Ok(report) => course.tally.add(report),
         Err(_) => course.give_up(),
     }
 }
 
-/// Starts the host of an object. Fails if memory runs out, or no thread can be made.
-pub(crate) fn start_host<W: Threads + Wait + AllocGlobal + Copy + Send + 'static>(
+/// What a thread takes along: a unit. The prover takes from a bound on this type that it may go to another thread.
+pub(crate) trait Carried {
+    /// Returns the unit.
+    fn into_unit(self) -> AdaUnit;
+}
+
+impl Carried for AdaUnit {
+    fn into_unit(self) -> AdaUnit {
+        self
+    }
+}
+
+/// Starts the host of an object of this unit. Fails if memory runs out, or no thread can be made.
+pub(crate) fn start_host<
+    U: Carried + Drop + Send + 'static,
+    W: Threads + Wait + AllocGlobal + Copy + Send + 'static,
+>(
     rt: W,
-    hosted: Hosted,
+    unit: U,
+    shape: Shape,
+    place: Place,
+    jobs: Vec<Steps>,
+    course: Arc<Course>,
 ) -> Result<JoinHandle<()>, AllocError> {
-    let work = move || host(rt, hosted);
+    let work = move || host(rt, unit.into_unit(), shape, place, jobs, course);
     Ok(thread::spawn(&rt, work)?)
 }

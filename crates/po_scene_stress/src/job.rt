@@ -12,6 +12,7 @@ use po_core::{Deadline, End, Refusal};
 use po_object::{Object, Pass, Story};
 use po_program::ASSERTION_ERROR;
 use po_threads::Job;
+use po_unit::EntryRef;
 use std::sync::ledger::Ledger;
 use std::sync::{Arc, Wait};
 
@@ -69,19 +70,13 @@ fn call<C: Story<AdaUnit, Values>, P: Ledger, W: Wait>(
     rt: &W,
     object: &Object<AdaUnit, C, P>,
     pass: &mut Pass<Values, C, P>,
-    operation: Operation<Values>,
+    entry: EntryRef,
+    value: Values,
+    deadline: Deadline,
 ) -> Result<Option<Mishap>, Refusal>
     requires { pass.old.pending ≡ None }
     ensures { pass.new.pending ≡ None }
 {
-    let Operation::Call {
-        entry,
-        value,
-        deadline,
-    } = operation
-    else {
-        return Ok(None);
-    };
     let end = match deadline {
         Deadline::Never => object.call(rt, pass, entry, value)?,
         Deadline::At(time) => object.timed(rt, pass, entry, value, time)?,
@@ -100,7 +95,11 @@ fn operate<C: Story<AdaUnit, Values>, P: Ledger, W: Wait>(
     ensures { pass.new.pending ≡ None }
 {
     match operation {
-        Operation::Call { .. } => call(rt, object, pass, operation),
+        Operation::Call {
+            entry,
+            value,
+            deadline,
+        } => call(rt, object, pass, entry, value, deadline),
         Operation::Procedure { op, value } => {
             Ok(mishap_of_reply(object.procedure(rt, pass, op, value)?))
         }
@@ -224,7 +223,10 @@ impl<C: Story<AdaUnit, Values>, P: Ledger> Job<Object<AdaUnit, C, P>, Pass<Value
         object: &Object<AdaUnit, C, P>,
         mut pass: Pass<Values, C, P>,
     ) -> Pass<Values, C, P> {
-        if !pass.pending() {
+        // A pass of an object that was just opened has no call pending.
+        if pass.pending() {
+            self.course.give_up();
+        } else {
             self.carry_out(rt, object, &mut pass);
         }
         pass

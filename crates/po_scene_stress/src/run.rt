@@ -2,7 +2,7 @@
 //! Runs a scene again and again.
 
 use crate::course::Course;
-use crate::host::{Hosted, Parts, start_host};
+use crate::host::{Place, start_host};
 use crate::job::Steps;
 use crate::report::{Report, Stuck, report_of};
 use crate::step::{Step, steps_of, turns_at};
@@ -68,30 +68,25 @@ fn jobs_at(
     Ok(jobs)
 }
 
-/// Returns what an object of a scene is made of.
-fn parts_of(alloc: Global, named: &SceneObject) -> Result<Parts, Stop> {
-    Ok(Parts {
-        shape: shape_of(alloc, named.names.entries.as_slice())?,
-        unit: named.unit.copy()?,
-        order: named.order,
-        max_queue: smaller(named.names.max_queue, named.max_queue),
-    })
-}
-
-/// Returns what the host of the object with this position is given.
-fn hosted(
-    alloc: Global,
+/// Starts the host of the object with this position.
+fn start_at<W: Threads + Wait + AllocGlobal + Copy + Send + 'static>(
+    rt: W,
     named: &SceneObject,
     object: u16,
     steps: &[Vec<Step>],
     course: &Arc<Course>,
-) -> Result<Hosted, Stop> {
-    Ok(Hosted {
-        parts: parts_of(alloc, named)?,
+) -> Result<JoinHandle<()>, Stop> {
+    let alloc = rt.alloc();
+    let shape = shape_of(alloc, named.names.entries.as_slice())?;
+    let place = Place {
         object,
-        jobs: jobs_at(alloc, named, object, steps, course)?,
-        course: Arc::try_clone(course)?,
-    })
+        order: named.order,
+        max_queue: smaller(named.names.max_queue, named.max_queue),
+    };
+    let jobs = jobs_at(alloc, named, object, steps, course)?;
+    let unit = named.unit.copy()?;
+    let shared = Arc::try_clone(course)?;
+    Ok(start_host(rt, unit, shape, place, jobs, shared)?)
 }
 
 /// Starts the hosts of all objects.
@@ -104,8 +99,7 @@ fn start_hosts<W: Threads + Wait + AllocGlobal + Copy + Send + 'static>(
 ) -> Result<(), Stop> {
     let mut object = 0u16;
     for named in scene.objects.iter() {
-        let given = hosted(rt.alloc(), named, object, steps, course)?;
-        hosts.push(start_host(rt, given)?)?;
+        hosts.push(start_at(rt, named, object, steps, course)?)?;
         object = object.saturating_add(1);
     }
     Ok(())
