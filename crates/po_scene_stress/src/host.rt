@@ -19,7 +19,7 @@ use std::sync::ledger::{Blank, Ledger};
 use std::sync::{Arc, Wait};
 use std::thread::{self, JoinHandle, Threads};
 
-/// How an object is made, and where it stands in its scene.
+/// How an object is made, and its position in its scene.
 #[derive(Clone, Copy)]
 pub(crate) struct Place {
     /// The position of the object.
