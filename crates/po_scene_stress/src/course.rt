@@ -12,6 +12,9 @@ use std::time::Duration;
 /// How many milliseconds the host of an object sleeps at most before it looks anew.
 const PAUSE: u64 = 20;
 
+/// How many milliseconds pass before it is looked whether callers wait for ever.
+const LOOK: u64 = 5;
+
 /// Who waits at an object, as its host counted.
 #[derive(Drop)]
 pub(crate) struct Lookout {
@@ -40,8 +43,10 @@ pub(crate) struct Course {
     turns: Vec<Turns>,
     /// By object.
     lookouts: Vec<Lookout>,
-    /// The thread that watches over the run sleeps here.
+    /// The thread that watches over the run sleeps here until it is over.
     watcher: Parker,
+    /// It sleeps here while the hosts count.
+    counter: Parker,
     /// How many objects are open, with threads for their callers.
     ready: AtomicU64,
     /// Which count is asked for.
@@ -69,6 +74,7 @@ impl Course {
             turns,
             lookouts,
             watcher: Parker::new(),
+            counter: Parker::new(),
             ready: AtomicU64::new(0),
             round: AtomicU64::new(0),
             is_stopped: AtomicBool::new(false),
@@ -109,8 +115,14 @@ impl Course {
         for turns in self.turns.iter() {
             turns.wake_all();
         }
+        self.wake_watcher();
+    }
+
+    /// Wakes the hosts of all objects, and the thread that watches over the run.
+    fn wake_watcher(&self) {
         self.wake_hosts();
         self.watcher.unpark();
+        self.counter.unpark();
     }
 
     /// Wakes the hosts of all objects.
@@ -175,8 +187,7 @@ impl Course {
         };
         turns.advance(next);
         if turns.is_over() && self.is_over() {
-            self.wake_hosts();
-            self.watcher.unpark();
+            self.wake_watcher();
         }
     }
 
@@ -226,7 +237,7 @@ impl Course {
         if let Some(lookout) = self.lookouts.get(usize::from(object)) {
             lookout.waiting.store(waiting, Ordering::SeqCst);
             lookout.round.store(round, Ordering::SeqCst);
-            self.watcher.unpark();
+            self.counter.unpark();
         }
     }
 
@@ -237,9 +248,9 @@ impl Course {
         }
     }
 
-    /// Has the thread that watches over the run sleep until it is woken, or for a while.
+    /// Has the thread that watches over the run sleep until it is over, or for a while.
     pub(crate) fn sleep_as_watcher<W: Wait>(&self, rt: &W) {
-        self.watcher.park_timeout(rt, Duration::from_millis(PAUSE));
+        self.watcher.park_timeout(rt, Duration::from_millis(LOOK));
     }
 
     /// Returns whether all hosts have done this count.
@@ -269,7 +280,7 @@ impl Course {
             if self.is_counted(round) {
                 return Some(self.waiting());
             }
-            self.sleep_as_watcher(rt);
+            self.counter.park_timeout(rt, Duration::from_millis(LOOK));
         }
         unreachable!()
     }

@@ -108,13 +108,13 @@ fn start_hosts<W: Threads + Wait + AllocGlobal + Copy + Send + 'static>(
 /// Watches over a run until it is over. If callers wait for ever, ends it, and returns true.
 fn watch<W: Wait>(rt: &W, course: &Course) -> bool {
     for _ in rt.forever() {
+        course.sleep_as_watcher(rt);
         if course.is_over() || course.is_stopped() {
             return false;
         }
         if course.is_stuck(rt) {
             return true;
         }
-        course.sleep_as_watcher(rt);
     }
     unreachable!()
 }
