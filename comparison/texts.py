@@ -58,10 +58,17 @@ def wanted(script):
     return words[0][1] if words and words[0][0] == "unit" and len(words[0]) > 1 else ""
 
 
+def text_in(file):
+    """Returns the Ada text of the file. If it is NAME.ads or NAME.adb, and there are both, the text is that of both, as pobj's is."""
+    pair = [file.with_suffix(".ads"), file.with_suffix(".adb")]
+    files = pair if file in pair and all(part.exists() for part in pair) else [file]
+    return "\n".join(map(programs.text_of, files))
+
+
 def unit_of(file, name):
     """Returns the protected unit of the text in the file. The name is the unit's, if there are several."""
     try:
-        return text_program.read(file.read_bytes().decode(errors="replace"), name)
+        return text_program.read(text_in(file), name)
     except text_program.Refused as why:
         raise programs.Failed(f"{file}: {why}") from why
 

@@ -2,7 +2,7 @@
 # SPDX-License-Identifier: MIT
 # Carries out scripts by one trial of pobj's sources, which proves nothing, unless the program is built: trial.sh ROOM [TEXT..]. The
 # scripts are the files of ROOM/cases. If there are Ada texts, each script NAME is on the protected object of one of them: NAME.args
-# has pobj's words, with the text N as N/FILE, from 0. ROOM/answers gets the answers to each after a line "== NAME", and ROOM/said a
+# has pobj's words, with the text N as N/FILE, from 0. NAME.ads and NAME.adb are one text, if both are there. ROOM/answers gets the answers to each after a line "== NAME", and ROOM/said a
 # line "case=NAME run=ended status=STATUS .." for each. Statuses of its own: 3, the program is built, or isn't there; 6, there is no rt.
 set -eu
 top=$(cd "${BASH_SOURCE[0]%/*}/.." && pwd)
@@ -21,10 +21,14 @@ words=(-- run)
 data=()
 room=$1
 shift
+place=0
 for text; do
   program=pobj_text
   words=()
-  data+=(--data "$((${#data[@]} / 2))/${text##*/}=$(readlink -f "$text")")
+  for file in "$text" "${text%.adb}.ads" "${text%.ads}.adb"; do
+    [ ! -f "$file" ] || data+=(--data "$place/${file##*/}=$(readlink -f "$file")")
+  done
+  place=$((place + 1))
 done
 [ -d "$top/crates/$program" ] || exit 3
 list_crates "$program"

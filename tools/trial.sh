@@ -46,10 +46,21 @@ keep_file() {
   data+=(--data "$name=$(readlink -f "$1")")
 }
 
+# Hands over the file with this path. If it is NAME.ads or NAME.adb, hands over the other one too, if it is there: pobj reads both.
+keep_pair() {
+  local other=""
+  case $1 in
+    *.ads) other=${1%.ads}.adb ;;
+    *.adb) other=${1%.adb}.ads ;;
+  esac
+  [ ! -f "$other" ] || keep_file "$other"
+  keep_file "$1"
+}
+
 # Hands over the file that the third word names.
 keep_text() {
   local name
-  keep_file "${words[2]}"
+  keep_pair "${words[2]}"
   words[2]=$name
 }
 
@@ -66,10 +77,10 @@ keep_scene() {
         ;;
     esac
     if [ -f "$path" ]; then
-      keep_file "$path"
+      keep_pair "$path"
       words[position]=$option$name
       while read -r path; do
-        [ ! -f "$path" ] || keep_file "$path"
+        [ ! -f "$path" ] || keep_pair "$path"
       done < <(texts_in "$path")
     fi
   done

@@ -258,7 +258,8 @@ scripts() {
   esac
   case $1 in
     pobj_text | pobj_explore)
-      for file in examples/ada/*.adb examples/scenes/*.adb examples/scenes/*.scene cases/*.adb cases/*.scene; do
+      for file in {examples/ada,examples/scenes,cases}/*.{ads,adb,scene}; do
+        [ -f "$file" ] || continue
         data+=(--data "$file=$top/$file")
       done
       ;;

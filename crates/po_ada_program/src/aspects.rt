@@ -11,6 +11,12 @@ const REFUSED: [&str; 4] = ["pre'class", "post'class", "import", "address"];
 /// The aspects with a meaning here that stand at a declaration alone.
 const DECLARED: [&str; 5] = ["pre", "post", "pre'class", "post'class", "max_queue_length"];
 
+/// Why an aspect isn't read.
+const UNREAD: &str = " isn't in this subset yet: write pragma Assert in the body";
+
+/// Why an aspect can't stand at a body.
+const ELSEWHERE: &str = " stands at the operation's declaration, not at its body (13.1.1)";
+
 impl<'a> Making<'a> {
     /// Whether the name is one of these.
     pub fn is_one_of(&self, name: Name, texts: &[&str]) -> bool {
@@ -20,38 +26,34 @@ impl<'a> Making<'a> {
             .any(|text| names.find(text) == Some(name.number))
     }
 
-    /// Refuses aspects that mean something and aren't in the subset.
-    pub fn admit_aspects(&mut self, profile: &'a Profile) -> Result<(), Stop> {
+    /// Refuses an aspect of an operation that is one of these, for this reason.
+    fn refuse_aspects(
+        &mut self,
+        profile: &'a Profile,
+        refused: &[&str],
+        reason: &str,
+    ) -> Result<(), Stop> {
         for aspect in profile.aspects.iter() {
-            if self.is_one_of(aspect.name, &REFUSED) {
+            if self.is_one_of(aspect.name, refused) {
+                let Name { number, place } = aspect.name;
                 return Err(
-                    self.lowering.known.refuse_name(
-                        aspect.name.place,
-                        "the aspect ",
-                        aspect.name.number,
-                        " isn't in this subset yet: write pragma Assert in the body",
-                    ),
+                    self.lowering
+                        .known
+                        .refuse_name(place, "the aspect ", number, reason),
                 );
             }
         }
         Ok(())
     }
 
+    /// Refuses aspects that mean something and aren't in the subset.
+    pub fn admit_aspects(&mut self, profile: &'a Profile) -> Result<(), Stop> {
+        self.refuse_aspects(profile, &REFUSED, UNREAD)
+    }
+
     /// Refuses aspects of a body that belong to its declaration (13.1.1).
     pub fn admit_body_aspects(&mut self, profile: &'a Profile) -> Result<(), Stop> {
-        for aspect in profile.aspects.iter() {
-            if self.is_one_of(aspect.name, &DECLARED) {
-                return Err(
-                    self.lowering.known.refuse_name(
-                        aspect.name.place,
-                        "the aspect ",
-                        aspect.name.number,
-                        " stands at the operation's declaration, not at its body (13.1.1)",
-                    ),
-                );
-            }
-        }
-        Ok(())
+        self.refuse_aspects(profile, &DECLARED, ELSEWHERE)
     }
 
     /// An aspect of an operation.

@@ -1,5 +1,5 @@
 // SPDX-License-Identifier: MIT
-//! A file with an Ada text, as it was read.
+//! An Ada text, as it was read from its file.
 
 use po_ada_language::Stop;
 use po_ada_program::Made;
@@ -7,16 +7,28 @@ use po_ada_reading::{AdaText, read, unit_names};
 use po_ada_tree::{Fault, report};
 use std::alloc::{AllocError, Global};
 
-/// What the name of a file with an Ada text ends with.
-const ENDING: &str = ".adb";
+/// What the name of a file with a package's declaration ends with.
+pub const DECLARATION: &str = ".ads";
 
-/// A file with an Ada text, as it was read.
+/// What the name of a file with a body ends with. A main program is one.
+pub const BODY: &str = ".adb";
+
+/// The file whose text comes before that of another.
+#[derive(Debug, Drop)]
+struct Before {
+    name: String,
+    /// How many bytes of the whole text are from it.
+    length: usize,
+}
+
+/// An Ada text, as it was read from its file. A package's declaration can be in a file of its own, which comes first.
 #[derive(Debug, Drop)]
 pub struct TextFile {
-    /// The name by which the file was opened.
-    pub name: String,
-    /// What is in it.
-    pub bytes: Vec<u8>,
+    /// The name of the last file.
+    name: String,
+    /// What is in the files, one after the other.
+    bytes: Vec<u8>,
+    declaration: Option<Before>,
 }
 
 /// Returns the last part of a path.
@@ -27,12 +39,74 @@ fn last_part(path: &str) -> &str {
     }
 }
 
+/// Returns the name without what the names of such files end with.
+fn stem_of(name: &str) -> &str {
+    match name.strip_suffix(BODY).or(name.strip_suffix(DECLARATION)) {
+        Some(stem) => stem,
+        None => name,
+    }
+}
+
 impl TextFile {
+    /// Returns the text of one file.
+    pub fn new(name: String, bytes: Vec<u8>) -> TextFile {
+        TextFile {
+            name,
+            bytes,
+            declaration: None,
+        }
+    }
+
+    /// Returns the text of two files: the declaration of a package, which comes first, and its body, which is this text.
+    pub fn after(self, declaration: TextFile) -> Result<TextFile, AllocError> {
+        let TextFile {
+            name: before,
+            mut bytes,
+            ..
+        } = declaration;
+        bytes.reserve(self.bytes.len().saturating_add(1))?;
+        bytes.push(b'\n')?;
+        let length = bytes.len();
+        bytes.extend_from_slice(self.bytes.as_slice())?;
+        Ok(TextFile {
+            name: self.name,
+            bytes,
+            declaration: Some(Before {
+                name: before,
+                length,
+            }),
+        })
+    }
+
+    /// Returns what is in the files.
+    pub fn bytes(&self) -> &[u8] {
+        self.bytes.as_slice()
+    }
+
+    /// Returns whether one of the files has this name.
+    pub fn is_of(&self, name: &str) -> bool {
+        self.name.as_str() == name
+            || matches!(&self.declaration, Some(before) if before.name.as_str() == name)
+    }
+
     /// Returns whether the word is the file's name, without folder and ending.
     pub(crate) fn is_called(&self, word: &[u8]) -> bool {
-        match last_part(self.name.as_str()).strip_suffix(ENDING) {
-            Some(name) => name.as_bytes() == word,
-            None => false,
+        stem_of(last_part(self.name.as_str())).as_bytes() == word
+    }
+
+    /// Returns the file that has this place of the text: its name, what is in it, and how many bytes come before it.
+    fn part_with(&self, place: usize) -> (&str, &[u8], usize) {
+        let whole = self.bytes.as_slice();
+        match &self.declaration {
+            None => (self.name.as_str(), whole, 0),
+            Some(before) if place < before.length => {
+                let part = whole.get(..before.length).unwrap_or(whole);
+                (before.name.as_str(), part, 0)
+            }
+            Some(before) => {
+                let part = whole.get(before.length..).unwrap_or(&[]);
+                (self.name.as_str(), part, before.length)
+            }
         }
     }
 
@@ -40,7 +114,10 @@ impl TextFile {
     pub(crate) fn lines_of(&self, alloc: Global, faults: &[Fault]) -> Result<String, AllocError> {
         let mut lines = String::new(alloc);
         for fault in faults {
-            let told = report(alloc, self.name.as_str(), self.bytes.as_slice(), fault)?;
+            let (name, bytes, start) = self.part_with(fault.place);
+            let mut fault = fault.copy(alloc)?;
+            fault.place = fault.place.saturating_sub(start);
+            let told = report(alloc, name, bytes, &fault)?;
             lines.push_str(told.as_str())?;
         }
         Ok(lines)

@@ -14,6 +14,6 @@ mod session;
 mod texts;
 
 pub use crate::checking::hints_on;
-pub use crate::file::TextFile;
+pub use crate::file::{BODY, DECLARATION, TextFile};
 pub use crate::session::{Check, Run, Session};
 pub use crate::texts::{NO_FILE, NOT_TEXT, TextFiles, unit_of_file};

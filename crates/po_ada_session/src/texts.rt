@@ -106,7 +106,7 @@ impl TextFiles {
             return Err(no_object(alloc, NOT_TEXT));
         };
         match &self.named {
-            Some(file) if file.name.as_str() == name => Ok(file),
+            Some(file) if file.is_of(name) => Ok(file),
             _ => Err(Stop::Unread(String::from_str(alloc, name)?)),
         }
     }

@@ -209,7 +209,7 @@ impl<'a> Reader<'a> {
         }
     }
 
-    /// Reads an operand that begins with this word; of `raise` an expression (11.3).
+    /// Reads an operand that begins with this word. After `raise` this is a raise expression (11.3).
     #[cycle(operators)]
     fn worded(&mut self, word: Reserved, least: u32, levels: usize) -> Result<Expression, Stop> {
         match word {

@@ -16,7 +16,7 @@ use std::alloc::{AllocError, Global};
 /// A text has at most this many bytes.
 pub const MOST_BYTES: usize = 16_777_216;
 
-/// For each element of a text, this many are looked at to find protected units in main programs.
+/// The search for protected units in main programs looks at no more than this many elements for each element of the text.
 const MOST_LOOKS: usize = 16;
 
 impl<'a> Reader<'a> {
@@ -239,7 +239,7 @@ impl<'a> Reader<'a> {
     fn unread(&mut self, start: usize, told: usize) -> Result<Option<Item>, Stop> {
         self.next = start;
         self.step();
-        let name = self.name("the operation's name")?;
+        let name = self.operation_name()?;
         let item = self.unread_item(name, told)?;
         self.faults.truncate(told);
         if self.skip_profile() {

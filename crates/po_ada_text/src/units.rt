@@ -12,6 +12,9 @@ use po_ada_tree::tree::{
     Protected, ProtectedBody, Sequence, Statement, Subtype, Variables,
 };
 
+/// Why a function that is an operator isn't read.
+const OPERATOR: &str = "pobj doesn't read functions that are operators (6.6): give it a name";
+
 impl<'a> Reader<'a> {
     /// Reads the word that begins an operation.
     fn kind(&mut self) -> Result<Kind, Stop> {
@@ -92,10 +95,21 @@ impl<'a> Reader<'a> {
         Ok(list)
     }
 
+    /// Reads the name of an operation. Functions that are operators would change what expressions mean, so they are refused (6.6).
+    pub fn operation_name(&mut self) -> Result<Name, Stop> {
+        match self.peek() {
+            Element::Text(_, _) => {
+                let place = self.place();
+                Err(self.refuse(place, OPERATOR))
+            }
+            _ => self.name("the operation's name"),
+        }
+    }
+
     /// Reads the head of an operation, up to its aspects.
     fn profile(&mut self) -> Result<Profile, Stop> {
         let kind = self.kind()?;
-        let name = self.name("the operation's name")?;
+        let name = self.operation_name()?;
         let mut family = None;
         if kind == Kind::Entry && self.sees_family() {
             family = Some(self.family()?);

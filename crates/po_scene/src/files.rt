@@ -36,7 +36,7 @@ impl SceneFiles {
             return Err(no_object(alloc, NOT_TEXT));
         };
         for file in self.named.iter() {
-            if file.name.as_str() == name {
+            if file.is_of(name) {
                 return Ok(file);
             }
         }

@@ -3,7 +3,7 @@
 
 use crate::asked::CheckAsked;
 use crate::scene::check;
-use po_ada_command::print_fault;
+use po_ada_command::{print_fault, print_text};
 use po_ada_script::RunFault;
 use po_command_line::{FINDINGS, GOOD};
 use std::io::{Eprint, Print};
@@ -12,10 +12,8 @@ use std::rt::Files;
 /// Prints the faults of the scene. Returns whether it has none.
 fn checked<R: Print + Files + AllocGlobal>(rt: &R, asked: CheckAsked) -> Result<bool, RunFault> {
     let faults = check(rt, asked.scene, asked.unit)?;
-    match print!(rt; "{faults}") {
-        Ok(()) => Ok(faults.is_empty()),
-        Err(_) => Err(RunFault::Write),
-    }
+    print_text(rt, faults.as_str())?;
+    Ok(faults.is_empty())
 }
 
 /// Prints the faults of the scene that is asked for, and returns the status.

@@ -4,7 +4,7 @@
 use crate::asked::{ExploreAsked, Watched};
 use crate::scene::read;
 use crate::watch::Watch;
-use po_ada_command::print_fault;
+use po_ada_command::{print_fault, print_text};
 use po_ada_language::Stop;
 use po_ada_script::{RunFault, fault_at};
 use po_command_line::{CUT_OFF, FOUND, GOOD};
@@ -56,16 +56,10 @@ fn explored<R: Print + Eprint + Clock + Files + AllocGlobal>(
     asked: ExploreAsked,
 ) -> Result<Verdict, RunFault> {
     let scene = read(rt, asked.scene, asked.unit)?;
-    match reported(rt, &scene, asked.options, asked.watched) {
-        Ok(report) => {
-            let text = report.text.as_str();
-            match print!(rt; "{text}") {
-                Ok(()) => Ok(report.verdict),
-                Err(_) => Err(RunFault::Write),
-            }
-        }
-        Err(stop) => Err(fault_at(0, stop)),
-    }
+    let report = reported(rt, &scene, asked.options, asked.watched);
+    let report = report.map_err(|stop| fault_at(0, stop))?;
+    print_text(rt, report.text.as_str())?;
+    Ok(report.verdict)
 }
 
 /// Returns the status of a search that ended so.

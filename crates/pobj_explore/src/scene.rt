@@ -57,7 +57,7 @@ pub(crate) fn read<R: Files + AllocGlobal>(
     unit: Option<String>,
 ) -> Result<Scene, RunFault> {
     let (file, mut files) = opened(rt, name, unit)?;
-    scene_of(rt, &mut files, file.bytes.as_slice())
+    scene_of(rt, &mut files, file.bytes())
 }
 
 /// Returns the lines that tell what is wrong with the scene in the file of this name: no text if nothing is.
@@ -67,10 +67,8 @@ pub(crate) fn check<R: Files + AllocGlobal>(
     unit: Option<String>,
 ) -> Result<String, RunFault> {
     let (file, mut files) = opened(rt, name, unit)?;
-    match scene_of(rt, &mut files, file.bytes.as_slice()) {
-        Ok(_) | Err(RunFault::Line { .. }) => {
-            faults_of(rt.alloc(), &mut files, file.bytes.as_slice())
-        }
+    match scene_of(rt, &mut files, file.bytes()) {
+        Ok(_) | Err(RunFault::Line { .. }) => { faults_of(rt.alloc(), &mut files, file.bytes()) }
         Err(fault) => Err(fault),
     }
 }

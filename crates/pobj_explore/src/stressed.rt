@@ -3,7 +3,7 @@
 
 use crate::asked::StressAsked;
 use crate::scene::read;
-use po_ada_command::print_fault;
+use po_ada_command::{print_fault, print_text};
 use po_ada_script::{RunFault, fault_at};
 use po_command_line::{FOUND, GOOD};
 use po_scene_stress::{Verdict, stress_scene};
@@ -18,16 +18,9 @@ fn stressed<R: Print + Files + Threads + Wait + AllocGlobal + Copy + Send + 'sta
     asked: StressAsked,
 ) -> Result<Verdict, RunFault> {
     let scene = read(&rt, asked.scene, asked.unit)?;
-    match stress_scene(rt, &scene, asked.runs) {
-        Ok(report) => {
-            let text = report.text.as_str();
-            match print!(rt; "{text}") {
-                Ok(()) => Ok(report.verdict),
-                Err(_) => Err(RunFault::Write),
-            }
-        }
-        Err(stop) => Err(fault_at(0, stop)),
-    }
+    let report = stress_scene(rt, &scene, asked.runs).map_err(|stop| fault_at(0, stop))?;
+    print_text(&rt, report.text.as_str())?;
+    Ok(report.verdict)
 }
 
 /// Returns the status of runs that came to this.
