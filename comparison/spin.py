@@ -123,7 +123,7 @@ def run(words, statuses, counts_of):
 def run_side(side, pair, folder):
     """Runs the program of this side on a pair, and returns what it found, its time and its memory."""
     if side == "pobj":
-        return run([str(PROGRAM), "explore", pair.scene], (0, 3), counts_of_explore)
+        return run([str(PROGRAM), "explore", "--apart", pair.scene], (0, 3), counts_of_explore)
     return run([str(folder / pair.name() / side), *PAN], (0,), counts_of_pan)
 
 

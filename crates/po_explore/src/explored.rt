@@ -1,6 +1,7 @@
 // SPDX-License-Identifier: MIT
 //! What a search found.
 
+use crate::exchange::Exchange;
 use crate::finding::{Finding, Found, Kind};
 use crate::news::News;
 use crate::stage::command_at;
@@ -62,8 +63,10 @@ pub struct Explored {
     pub(crate) layers: Vec<Vec<Node>>,
     /// What was found, in the order in which the search met it: the fewest commands first.
     pub(crate) findings: Vec<Finding>,
+    /// By line: that of the same command of the first caller that is exchangeable for its own.
+    lines: Vec<usize>,
     /// By line: in how many moves a call of its commands was completed.
-    pub(crate) completed: Vec<u64>,
+    completed: Vec<u64>,
     /// How many states of objects there are.
     pub states: usize,
     /// How many situations there are.
@@ -84,10 +87,20 @@ pub struct Explored {
 
 impl Explored {
     /// Nothing has been looked at.
-    pub(crate) fn new(alloc: Global, scene: &Scene, answers: bool) -> Result<Explored, AllocError> {
+    pub(crate) fn new(
+        alloc: Global,
+        scene: &Scene,
+        exchange: &Exchange,
+        answers: bool,
+    ) -> Result<Explored, AllocError> {
+        let mut lines = Vec::with_capacity(alloc, scene.lines.len())?;
+        for line in 0..scene.lines.len() {
+            lines.push(exchange.line(line))?;
+        }
         Ok(Explored {
             layers: Vec::new(alloc),
             findings: Vec::new(alloc),
+            lines,
             completed: Vec::from_elem(alloc, 0u64, scene.lines.len())?,
             states: 0,
             situations: 0,
@@ -98,6 +111,28 @@ impl Explored {
             is_complete: false,
             answers,
         })
+    }
+
+    /// Returns the line that stands for this one and for the same command of exchangeable callers.
+    fn line(&self, line: usize) -> usize {
+        match self.lines.get(line) {
+            Some(first) => *first,
+            None => line,
+        }
+    }
+
+    /// Returns whether these are the same, or would be if exchangeable callers were one.
+    pub fn are_same(&self, one: Found, other: Found) -> bool {
+        one.kind == other.kind && self.have_same_line(one, other)
+    }
+
+    /// Returns whether these are of the same command, or would be if exchangeable callers were one.
+    fn have_same_line(&self, one: Found, other: Found) -> bool {
+        match (one.line, other.line) {
+            (Some(one), Some(other)) => self.line(one) == self.line(other),
+            (None, None) => true,
+            _ => false,
+        }
     }
 
     /// Notes what was found at this place, or after this caller's next command, unless the same was found before.
@@ -119,7 +154,7 @@ impl Explored {
         let mut count = 0usize;
         for finding in self.findings.iter() {
             let other = finding.found;
-            if other.line == found.line && other.kind.answered() == found.kind.answered() {
+            if self.have_same_line(other, found) && other.kind.answered() == found.kind.answered() {
                 count = count.saturating_add(1);
             }
         }
@@ -146,9 +181,15 @@ impl Explored {
 
     /// Notes that a call of this line was completed.
     fn note_completed(&mut self, line: usize) {
+        let line = self.line(line);
         if let Some(count) = self.completed.get_mut(line) {
             *count = count.saturating_add(1);
         }
+    }
+
+    /// Returns whether no call of this line was completed.
+    pub(crate) fn is_unserved(&self, line: usize) -> bool {
+        self.completed.get(self.line(line)) == Some(&0)
     }
 
     /// Notes what this news tells that is wrong, and the invariants that don't hold, after the caller's next command.
@@ -239,7 +280,7 @@ impl Explored {
     /// Returns whether this was found.
     pub fn has(&self, found: Found) -> bool {
         for finding in self.findings.iter() {
-            if finding.found == found {
+            if self.are_same(finding.found, found) {
                 return true;
             }
         }

@@ -22,59 +22,75 @@ fn bit(is: bool) -> i128 {
     if is { 1 } else { 0 }
 }
 
-/// Adds what tells a queued call apart: all of it but its number, which only later calls exceed.
-fn push_call(key: &mut Vec<i128>, call: &Call<Values>) -> Result<(), AllocError> {
-    key.push(i128::from(call.entry))?;
-    key.push(i128::from(call.owner))?;
-    key.push(time_of(call.deadline))?;
-    key.push(bit(call.without_abort))?;
-    key.push(bit(call.aborted))?;
-    key.push(i128::from(call.value.requeues))?;
-    key.extend_from_slice(&call.value.cells)
+/// What tells the states of an object apart.
+#[derive(Drop)]
+pub(crate) struct Key {
+    /// All but whose calls wait.
+    pub(crate) form: Vec<i128>,
+    /// The callers of the calls of which the form tells, in its order. One whose call can expire may be in it twice.
+    pub(crate) callers: Vec<u16>,
 }
 
-/// Adds the calls of each queue, in order of arrival.
-fn push_queues(key: &mut Vec<i128>, mut arrivals: Vec<Arrival<Values>>) -> Result<(), AllocError> {
-    arrivals.sort_by_key(|arrival| arrival.call.entry)?;
-    for arrival in arrivals.iter() {
-        push_call(key, &arrival.call)?;
+impl Key {
+    /// Adds what tells a queued call apart: all of it but its number, which only later calls exceed.
+    fn push_call(&mut self, call: &Call<Values>) -> Result<(), AllocError> {
+        self.callers.push(call.owner)?;
+        let form = &mut self.form;
+        form.push(i128::from(call.entry))?;
+        form.push(time_of(call.deadline))?;
+        form.push(bit(call.without_abort))?;
+        form.push(bit(call.aborted))?;
+        form.push(i128::from(call.value.requeues))?;
+        form.extend_from_slice(&call.value.cells)
     }
-    Ok(())
-}
 
-/// Adds the callers whose calls can expire, in order of arrival: so a tick cancels those that are due (9.7.2).
-fn push_expiring(key: &mut Vec<i128>, arrivals: &[Arrival<Values>]) -> Result<(), AllocError> {
-    for arrival in arrivals {
-        if arrival.call.deadline != Deadline::Never && !arrival.call.without_abort {
-            key.push(i128::from(arrival.call.owner))?;
+    /// Adds the calls of each queue, in order of arrival.
+    fn push_queues(&mut self, mut arrivals: Vec<Arrival<Values>>) -> Result<(), AllocError> {
+        arrivals.sort_by_key(|arrival| arrival.call.entry)?;
+        for arrival in arrivals.iter() {
+            self.push_call(&arrival.call)?;
         }
+        Ok(())
     }
-    Ok(())
-}
 
-/// Adds the queued calls. With `Oldest`, the order of arrival over all entries matters; else only that of each queue does, and that
-/// of the calls that can expire.
-fn push_calls(key: &mut Vec<i128>, core: &BoundedCore<AdaUnit>) -> Result<(), AllocError> {
-    let arrivals = core.arrivals()?;
-    if core.order() != Order::Oldest {
-        push_expiring(key, arrivals.as_slice())?;
-        return push_queues(key, arrivals);
+    /// Adds the callers whose calls can expire, in order of arrival: so a tick cancels those that are due (9.7.2).
+    fn push_expiring(&mut self, arrivals: &[Arrival<Values>]) -> Result<(), AllocError> {
+        for arrival in arrivals {
+            if arrival.call.deadline != Deadline::Never && !arrival.call.without_abort {
+                self.callers.push(arrival.call.owner)?;
+            }
+        }
+        Ok(())
     }
-    for arrival in arrivals.iter() {
-        push_call(key, &arrival.call)?;
+
+    /// Adds the queued calls. With `Oldest`, the order of arrival over all entries matters; else only that of each queue does, and
+    /// that of the calls that can expire.
+    fn push_calls(&mut self, core: &BoundedCore<AdaUnit>) -> Result<(), AllocError> {
+        let arrivals = core.arrivals()?;
+        if core.order() != Order::Oldest {
+            self.push_expiring(arrivals.as_slice())?;
+            return self.push_queues(arrivals);
+        }
+        for arrival in arrivals.iter() {
+            self.push_call(&arrival.call)?;
+        }
+        Ok(())
     }
-    Ok(())
 }
 
 /// Returns what tells an object apart from others with the same text: its data, its clock, whether it is finalized, its queues,
 /// and, with `Rotating`, the entry that was served last.
-pub(crate) fn key_of(alloc: Global, core: &BoundedCore<AdaUnit>) -> Result<Vec<i128>, AllocError> {
-    let mut key = Vec::from_slice(alloc, core.unit().cells())?;
-    key.push(i128::from(core.clock()))?;
-    key.push(bit(core.is_finalized()))?;
+pub(crate) fn key_of(alloc: Global, core: &BoundedCore<AdaUnit>) -> Result<Key, AllocError> {
+    let mut form = Vec::from_slice(alloc, core.unit().cells())?;
+    form.push(i128::from(core.clock()))?;
+    form.push(bit(core.is_finalized()))?;
     if core.order() == Order::Rotating {
-        key.push(core.last_served().map_or(NONE, i128::from))?;
+        form.push(core.last_served().map_or(NONE, i128::from))?;
     }
-    push_calls(&mut key, core)?;
+    let mut key = Key {
+        form,
+        callers: Vec::new(alloc),
+    };
+    key.push_calls(core)?;
     Ok(key)
 }

@@ -7,7 +7,7 @@ ghost use Rattle.po_ada_unit.specs.Object.{ada_meaning};
 ghost use Rattle.po_explore.specs.Scenes.{IsOpening, CantBeMade};
 ghost use Rattle.po_explore.specs.Commands.{is_want, value_cells, no_values, after_operation, after_asking, after_abort, function_holds};
 
-use crate::key::key_of;
+use crate::key::{Key, key_of};
 use crate::news::{Event, News};
 use po_ada_language::{Operation, Stop, no_object};
 use po_ada_names::ObjectNames;
@@ -295,7 +295,7 @@ impl Object {
     }
 
     /// Returns what tells this object apart from others with the same text.
-    pub(crate) fn key(&self, alloc: Global) -> Result<Vec<i128>, AllocError> {
+    pub(crate) fn key(&self, alloc: Global) -> Result<Key, AllocError> {
         key_of(alloc, &self.core)
     }
 }

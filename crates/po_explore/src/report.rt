@@ -161,7 +161,7 @@ fn push_unserved_of(
 ) -> Result<bool, AllocError> {
     let mut some = false;
     for command in caller.commands.iter() {
-        if is_call(command) && explored.completed.get(command.line) == Some(&0) {
+        if is_call(command) && explored.is_unserved(command.line) {
             let (name, line) = (caller.name.as_str(), scene.words_at(command.line));
             write!(text, "no order completes '{line}' of {name}\n")?;
             some = true;

@@ -1,6 +1,7 @@
 // SPDX-License-Identifier: MIT
 //! Looks at every situation of a scene, layer by layer.
 
+use crate::exchange::Exchange;
 use crate::explored::{Explored, Node, Place, Told};
 use crate::news::News;
 use crate::stage::{Stage, caller_count, command_at};
@@ -18,13 +19,17 @@ pub struct Options {
     pub situations: usize,
     /// Whether it notes how commands are answered.
     pub answers: bool,
+    /// Whether callers with the same commands are told apart.
+    pub apart: bool,
 }
 
-/// A situation of the next layer: how it was first reached, and how many orders lead to it.
-#[derive(Clone, Copy, Debug)]
+/// A situation of the next layer: how it was first reached, and how many orders lead to it or to one that counts as the same.
+#[derive(Debug, Drop)]
 struct Reached {
     node: Node,
     orders: u128,
+    /// The situation, if what tells it apart isn't the situation itself.
+    situation: Option<Situation>,
 }
 
 /// At most this many situations are looked at in one go.
@@ -37,7 +42,7 @@ const ROOT: Place = Place {
     orders: 1,
 };
 
-/// The situations to which the same number of commands lead.
+/// The situations to which the same number of commands lead, by what tells them apart.
 type Layer = IndexMap<Situation, Reached>;
 
 /// A search at work.
@@ -45,6 +50,7 @@ type Layer = IndexMap<Situation, Reached>;
 pub struct Search {
     alloc: Global,
     options: Options,
+    exchange: Exchange,
     explored: Explored,
     states: States,
     /// The situations that are looked at now.
@@ -57,9 +63,15 @@ pub struct Search {
     is_cut_off: bool,
 }
 
-/// Adds a situation to a layer, or the orders that lead to it.
-fn add(layer: &mut Layer, situation: Situation, place: Place, caller: u16) -> Result<(), Stop> {
-    if let Some(reached) = layer.get_mut(&situation) {
+/// Adds a situation to a layer, by its key, or the orders that lead to it.
+fn add(
+    layer: &mut Layer,
+    key: Situation,
+    situation: Option<Situation>,
+    place: Place,
+    caller: u16,
+) -> Result<(), AllocError> {
+    if let Some(reached) = layer.get_mut(&key) {
         reached.orders = reached.orders.saturating_add(place.orders);
         return Ok(());
     }
@@ -67,8 +79,12 @@ fn add(layer: &mut Layer, situation: Situation, place: Place, caller: u16) -> Re
         parent: place.node,
         caller,
     };
-    let orders = place.orders;
-    layer.insert(situation, Reached { node, orders })?;
+    let reached = Reached {
+        node,
+        orders: place.orders,
+        situation,
+    };
+    layer.insert(key, reached)?;
     Ok(())
 }
 
@@ -94,10 +110,12 @@ impl Search {
     ///
     /// Fails only if an object can't be made or memory runs out.
     pub fn new(alloc: Global, scene: &Scene, options: Options) -> Result<Search, Stop> {
+        let exchange = Exchange::new(alloc, scene, options.apart)?;
         let mut search = Search {
             alloc,
             options,
-            explored: Explored::new(alloc, scene, options.answers)?,
+            explored: Explored::new(alloc, scene, &exchange, options.answers)?,
+            exchange,
             states: States::new(alloc, scene)?,
             layer: IndexMap::new(alloc),
             looked: 0,
@@ -140,8 +158,26 @@ impl Search {
         let situation = self.first_situation(scene, stage)?;
         self.note(scene, situation.as_slice(), &[], ROOT, None)?;
         let mut layer = IndexMap::new(self.alloc);
-        add(&mut layer, situation, ROOT, 0)?;
+        self.add_to(scene, &mut layer, situation, ROOT, 0)?;
         Ok(self.turn_to(layer)?)
+    }
+
+    /// Adds a situation to a layer, or the orders that lead to it.
+    fn add_to(
+        &self,
+        scene: &Scene,
+        layer: &mut Layer,
+        situation: Situation,
+        place: Place,
+        caller: u16,
+    ) -> Result<(), AllocError> {
+        if !self.exchange.is_any() {
+            return add(layer, situation, None, place, caller);
+        }
+        let key = self
+            .states
+            .key(scene, &self.exchange, situation.as_slice())?;
+        add(layer, key, Some(situation), place, caller)
     }
 
     /// Notes what a command of this caller brought about, which led to this situation.
@@ -198,7 +234,25 @@ impl Search {
         let next = self.situation_after(scene, situation, caller, command, &mut news)?;
         self.explored.moves = self.explored.moves.saturating_add(1);
         self.note(scene, next.as_slice(), news.as_slice(), place, Some(caller))?;
-        add(following, next, place, caller)
+        Ok(self.add_to(scene, following, next, place, caller)?)
+    }
+
+    /// Returns how many callers can make the same command in the situation, from this one on. The bits say whose calls wait. If one
+    /// before it can, there are none: the command was made.
+    fn alike(&self, scene: &Scene, situation: &[u32], waiting: u64, caller: u16) -> u128 {
+        if !self.exchange.is_any() {
+            return 1;
+        }
+        let mut count = 0u128;
+        for other in 0..caller_count(scene) {
+            if waiting & bit_of(other) == 0 && self.exchange.are_alike(situation, caller, other) {
+                if other < caller {
+                    return 0;
+                }
+                count = count.saturating_add(1);
+            }
+        }
+        count
     }
 
     /// Looks at a situation: adds those that follow to the next layer. If none does, notes its end.
@@ -214,7 +268,12 @@ impl Search {
         for caller in 0..caller_count(scene) {
             if let Some(command) = next_of(scene, situation, waiting, caller) {
                 is_end = false;
-                self.follow(scene, situation, place, caller, command, following)?;
+                let alike = self.alike(scene, situation, waiting, caller);
+                if alike != 0 {
+                    let orders = place.orders.saturating_mul(alike);
+                    let place = Place { orders, ..place };
+                    self.follow(scene, situation, place, caller, command, following)?;
+                }
             }
         }
         if is_end {
@@ -244,6 +303,7 @@ impl Search {
             node,
             orders: reached.orders,
         };
+        let situation = reached.situation.as_ref().unwrap_or(situation);
         self.look_at(scene, situation.as_slice(), place, following)
     }
 

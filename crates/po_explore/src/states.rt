@@ -1,8 +1,10 @@
 // SPDX-License-Identifier: MIT
 //! The states of objects that a search has met, and what commands do to them: each command is carried out once in each state.
 
+use crate::exchange::Exchange;
 use crate::finding::{Found, Kind};
 use crate::invariants::broken_in;
+use crate::key::Key;
 use crate::news::News;
 use crate::object::Object;
 use crate::stage::{caller_count, object_count};
@@ -36,8 +38,10 @@ struct Move {
 /// The states of an object that were met, and what commands do to them.
 #[derive(Drop)]
 struct Met {
-    /// By what tells them apart.
-    states: IndexMap<Vec<i128>, State>,
+    /// By what tells them apart, but for the callers whose calls wait: their forms.
+    forms: IndexMap<Vec<i128>, ()>,
+    /// By what tells them apart: the number of their form, and the callers whose calls wait.
+    states: IndexMap<Vec<u32>, State>,
     /// By the state and the line of the command, which is of one caller.
     moves: IndexMap<u64, Move>,
 }
@@ -45,6 +49,7 @@ struct Met {
 /// The states of all objects that were met.
 #[derive(Drop)]
 pub(crate) struct States {
+    alloc: Global,
     /// By object.
     objects: Vec<Met>,
     /// The invariants that don't hold in states that were met since they were last taken.
@@ -85,6 +90,33 @@ fn move_key(state: u32, line: usize) -> u64 {
     (u64::from(state) << 32) | (line as u64 & 0xFFFF_FFFF)
 }
 
+/// Returns the callers whose calls wait, each once, in the order in which the states' keys have them.
+fn waiting_in(alloc: Global, keys: &[&[u32]]) -> Result<Vec<u16>, AllocError> {
+    let mut waiting = Vec::new(alloc);
+    for key in keys {
+        for caller in key.iter().skip(1) {
+            let caller = *caller as u16;
+            if !waiting.as_slice().contains(&caller) {
+                waiting.push(caller)?;
+            }
+        }
+    }
+    Ok(waiting)
+}
+
+/// Adds the key of a state, after callers have been exchanged.
+fn push_exchanged(key: &mut Situation, state: &[u32], becomes: &[u16]) -> Result<(), AllocError> {
+    if let Some(form) = state.first() {
+        key.push(*form)?;
+    }
+    for caller in state.iter().skip(1) {
+        if let Some(other) = becomes.get(*caller as usize) {
+            key.push(u32::from(*other))?;
+        }
+    }
+    Ok(())
+}
+
 /// Carries out what a command asks of the object, and adds what that brings about.
 fn act(
     object: &mut Object,
@@ -100,7 +132,36 @@ fn act(
     }
 }
 
+/// Returns the next number of a list with this many elements. Fails if there are too many.
+fn number_after(count: usize) -> Result<u32, AllocError> {
+    match u32::try_from(count) {
+        Ok(number) => Ok(number),
+        Err(_) => Err(AllocError),
+    }
+}
+
 impl Met {
+    /// Returns the number of the form, which is added if it is new.
+    fn form_number(&mut self, form: Vec<i128>) -> Result<u32, AllocError> {
+        if let Some(position) = self.forms.get_index_of(&form) {
+            return number_after(position);
+        }
+        let number = number_after(self.forms.len())?;
+        self.forms.insert(form, ())?;
+        Ok(number)
+    }
+
+    /// Returns what tells the object's state apart.
+    fn key(&mut self, alloc: Global, object: &Object) -> Result<Vec<u32>, AllocError> {
+        let Key { form, callers } = object.key(alloc)?;
+        let mut key = Vec::with_capacity(alloc, callers.len().saturating_add(1))?;
+        key.push(self.form_number(form)?)?;
+        for caller in callers.iter() {
+            key.push(u32::from(*caller))?;
+        }
+        Ok(key)
+    }
+
     /// Returns the number of the object's state, and whether it is new: then it is added.
     fn number(
         &mut self,
@@ -108,14 +169,12 @@ impl Met {
         scene: &Scene,
         object: Object,
     ) -> Result<(u32, bool), Stop> {
-        let key = object.key(alloc)?;
+        let key = self.key(alloc, &object)?;
         let (position, is_new) = match self.states.get_index_of(&key) {
             Some(position) => (position, false),
             None => (self.states.len(), true),
         };
-        let Ok(number) = u32::try_from(position) else {
-            return Err(Stop::OutOfMemory);
-        };
+        let number = number_after(position)?;
         if is_new {
             let waiting = waiting_on(scene, &object);
             self.states.insert(key, State { object, waiting })?;
@@ -138,11 +197,13 @@ impl States {
         let mut objects = Vec::with_capacity(alloc, scene.objects.len())?;
         for _ in scene.objects.iter() {
             objects.push(Met {
+                forms: IndexMap::new(alloc),
                 states: IndexMap::new(alloc),
                 moves: IndexMap::new(alloc),
             })?;
         }
         Ok(States {
+            alloc,
             objects,
             broken: Vec::new(alloc),
         })
@@ -170,6 +231,50 @@ impl States {
             }
         }
         waiting
+    }
+
+    /// Returns by object what tells its state in the situation apart: the number of its form, and the callers whose calls wait.
+    fn keys<'a>(&'a self, scene: &Scene, situation: &[u32]) -> Result<Vec<&'a [u32]>, AllocError> {
+        let mut keys = Vec::new(self.alloc);
+        for (met, number) in self
+            .objects
+            .iter()
+            .zip(situation.iter().skip(scene.callers.len()))
+        {
+            if let Some((key, _)) = met.states.get_index(*number as usize) {
+                keys.push(key.as_slice())?;
+            }
+        }
+        Ok(keys)
+    }
+
+    /// Returns what tells the situation apart, if callers are exchangeable: how many commands each has made, and by object the form
+    /// of its state and the callers whose calls wait, after callers have been exchanged.
+    pub(crate) fn key(
+        &self,
+        scene: &Scene,
+        exchange: &Exchange,
+        situation: &[u32],
+    ) -> Result<Situation, AllocError> {
+        let keys = self.keys(scene, situation)?;
+        let waiting = waiting_in(self.alloc, keys.as_slice())?;
+        let becomes = exchange.exchanged(self.alloc, situation, waiting.as_slice())?;
+        let mut key = Vec::from_slice(
+            self.alloc,
+            situation.get(..scene.callers.len()).unwrap_or(&[]),
+        )?;
+        for (caller, other) in becomes.iter().enumerate() {
+            if let (Some(made), Some(place)) = (
+                situation.get(caller),
+                key.get_mut(usize::from(*other)),
+            ) {
+                *place = *made;
+            }
+        }
+        for state in keys.iter() {
+            push_exchanged(&mut key, state, becomes.as_slice())?;
+        }
+        Ok(key)
     }
 
     /// Returns the invariants that don't hold in states that were met since they were last taken.

@@ -137,6 +137,14 @@ fn runs<'a>(alloc: Global) -> Arg<'a> {
     )
 }
 
+/// Makes the argument that asks for callers with the same commands to be told apart.
+fn apart<'a>(alloc: Global) -> Arg<'a> {
+    Arg::new(alloc, "apart")
+        .long("apart")
+        .action(ArgAction::SetTrue)
+        .help("Tells callers with the same commands apart: the same is found, more slowly")
+}
+
 /// Makes the argument that asks for answers that depend on the order.
 fn answers<'a>(alloc: Global) -> Arg<'a> {
     Arg::new(alloc, "answers")
@@ -185,6 +193,7 @@ fn command<'a>(alloc: Global) -> Result<Command<'a>, AllocError> {
         .arg(unit(alloc))?
         .arg(most(alloc))?
         .arg(answers(alloc))?
+        .arg(apart(alloc))?
         .arg(progress(alloc))?
         .arg(until(alloc))?;
     let check = check_command(alloc)
@@ -249,6 +258,7 @@ fn explore_asked(alloc: Global, matches: &ArgMatches) -> Result<Asked, CommandEr
             options: Options {
                 situations,
                 answers: matches.get_flag("answers"),
+                apart: matches.get_flag("apart"),
             },
             watched: Watched {
                 progress: matches.get_flag("progress"),

@@ -21,10 +21,8 @@ const NAMES: [&str; 3] = ["A", "B", "C"];
 pub fn files(alloc: Global, samples: &[Sample]) -> Result<SceneFiles> {
     let mut files = SceneFiles::new(alloc, None);
     for sample in samples {
-        files.take(TextFile {
-            name: String::from_str(alloc, sample.name.as_str())?,
-            bytes: sample.bytes.to_vec(alloc)?,
-        })?;
+        let name = String::from_str(alloc, sample.name.as_str())?;
+        files.take(TextFile::new(name, sample.bytes.to_vec(alloc)?))?;
     }
     Ok(files)
 }
@@ -92,19 +90,35 @@ fn some(least: usize, greatest: usize, lot: &mut Lot) -> usize {
     least.saturating_add(lot.below(numbers))
 }
 
-/// Returns a scene with one or two objects of these texts, and two or three callers with one to three commands each.
+/// Returns the lines of one to three commands on these objects.
+fn drawn_commands(
+    alloc: Global,
+    samples: &[Sample],
+    objects: &[usize],
+    lot: &mut Lot,
+) -> Result<String> {
+    let mut text = String::new(alloc);
+    for _ in 0..some(1, 3, lot) {
+        push_command(alloc, &mut text, samples, objects, lot)?;
+    }
+    Ok(text)
+}
+
+/// Returns a scene with one or two objects of these texts, and two or three callers with one to three commands each. Every third
+/// caller has those of the one before it.
 pub fn drawn(alloc: Global, samples: &[Sample], lot: &mut Lot) -> Result<String> {
     let mut text = String::new(alloc);
     let mut objects = Vec::new(alloc);
     for number in 0..some(1, 2, lot) {
         objects.push(push_object(&mut text, samples, number, lot)?)?;
     }
+    let mut commands = drawn_commands(alloc, samples, objects.as_slice(), lot)?;
     for number in 0..some(2, 3, lot) {
-        let caller = name(number);
-        write!(text, "caller {caller}\n")?;
-        for _ in 0..some(1, 3, lot) {
-            push_command(alloc, &mut text, samples, objects.as_slice(), lot)?;
+        if lot.below(3) > 0 {
+            commands = drawn_commands(alloc, samples, objects.as_slice(), lot)?;
         }
+        let (caller, lines) = (name(number), commands.as_str());
+        write!(text, "caller {caller}\n{lines}")?;
     }
     Ok(text)
 }

@@ -1,5 +1,6 @@
 // SPDX-License-Identifier: MIT
-//! A program for the gate: it explores scenes that are drawn by lot, and tries all orders of each of them too, one by one. It reads
+//! A program for the gate: it explores scenes that are drawn by lot, and tries all orders of each of them too, one by one. Each is
+//! explored twice: callers with the same commands are told apart, or not. It reads
 //! Ada texts from standard input, each after a line `-- text NAME`; the comments `-- does COMMAND` in a text say what its callers
 //! can do. Its arguments say how many scenes, and what number the lot begins with.
 #![tactic(auto)]
@@ -37,6 +38,18 @@ fn scene_of(alloc: Global, samples: &[Sample], text: &str) -> Result<Scene> {
     }
 }
 
+/// Returns how many things trying every order found, if callers that the search exchanges are one.
+fn different_ones(explored: &Explored, tried: &Tried) -> usize {
+    let mut count = 0usize;
+    for (place, found) in tried.found.iter().enumerate() {
+        let mut before = tried.found.iter().take(place);
+        if !before.any(|other| explored.are_same(*found, *other)) {
+            count = count.saturating_add(1);
+        }
+    }
+    count
+}
+
 /// Returns whether the search found what trying every order finds, with the same answers, and counted as many orders.
 fn is_equal(explored: &Explored, tried: &Tried) -> bool {
     for found in tried.found.iter() {
@@ -45,11 +58,25 @@ fn is_equal(explored: &Explored, tried: &Tried) -> bool {
         }
     }
     explored.is_complete
-        && explored.count() == tried.found.len()
+        && explored.count() == different_ones(explored, tried)
         && explored.orders == u128::from(tried.orders)
 }
 
-/// Explores the scene of this text, tries every order of it, and counts what came of it.
+/// Explores the scene, and returns whether that finds what trying every order finds. Callers with the same commands are told apart
+/// or not.
+fn agrees(alloc: Global, scene: &Scene, tried: &Tried, apart: bool) -> Result<bool> {
+    let options = Options {
+        situations: MOST,
+        answers: true,
+        apart,
+    };
+    match explore(alloc, scene, options) {
+        Ok(explored) => Ok(is_equal(&explored, tried)),
+        Err(_) => bail!("this scene can't be explored"),
+    }
+}
+
+/// Explores the scene of this text in both ways, tries every order of it, and counts what came of it.
 fn compare(
     rt: &(impl Print + AllocGlobal),
     samples: &[Sample],
@@ -58,17 +85,10 @@ fn compare(
 ) -> Result<()> {
     let alloc = rt.alloc();
     let scene = scene_of(alloc, samples, text)?;
-    let options = Options {
-        situations: MOST,
-        answers: true,
-    };
-    let Ok(explored) = explore(alloc, &scene, options) else {
-        bail!("this scene can't be explored");
-    };
     let tried = try_every_order(alloc, &scene)?;
     tally.orders = tally.orders.saturating_add(tried.orders);
     tally.findings = tally.findings.saturating_add(tried.found.len() as u64);
-    if is_equal(&explored, &tried) {
+    if agrees(alloc, &scene, &tried, true)? && agrees(alloc, &scene, &tried, false)? {
         tally.equal = tally.equal.saturating_add(1);
         return Ok(());
     }
