@@ -47,7 +47,7 @@ one=$(taskset -cp $$ | sed -E 's/.*: ([0-9]+).*/\1/')
 # Runs a command with libraries of the runtime folder, and after them those that this was run with.
 with_shared() { LD_LIBRARY_PATH=$dest/adalib${LD_LIBRARY_PATH:+:$LD_LIBRARY_PATH} "$@"; }
 
-# Whether a program writes what its .out says, in both ways, on one processor.
+# Whether a program writes what its .out says on one processor, linked with the runtime folder and with shared libraries.
 writes() {
   linked "$1" && timeout 60 taskset -c "$one" "${runner[@]}" "$scratch/$1-linked" | diff "$1.out" - || return
   shared "$1" && with_shared timeout 60 taskset -c "$one" "${runner[@]}" "$scratch/$1-shared" | diff "$1.out" -

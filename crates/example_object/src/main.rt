@@ -36,7 +36,7 @@ const SEATS: u16 = 5;
 /// How many parts each ledger has: one for each seat, and one that the object keeps.
 const PARTS: u64 = 6;
 
-/// How often the main thread tries to cancel that call, once a millisecond.
+/// How many times the main thread tries to cancel that call, one a millisecond.
 const ATTEMPTS: u32 = 10_000;
 
 /// The entry Put of the buffer.

@@ -75,7 +75,7 @@ impl<'a> Lowering<'a> {
         }
     }
 
-    /// The distance of a part is in a slot from here on, so that it may be used more than once.
+    /// Puts the distance of a part into a slot, so that it can be used more than once.
     pub fn steady(&mut self, place: usize, part: Part) -> Result<Steady, Stop> {
         let (area, first) = (part.area, part.first);
         match part.distance {

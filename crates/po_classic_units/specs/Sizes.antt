@@ -7,7 +7,7 @@ pub record IsSize (size : ℕ) : Type 0 where
   pub some : 1 ≤ size
   pub most : size ≤ 1024
 
--- If the unit has a size, this is one. Otherwise it may be any number, which means nothing.
+-- If the unit has a size, this is one. Otherwise it may be any number, and means nothing.
 abbrev pub IsSizeWhere : Bool → ℕ → Type 0
 IsSizeWhere true size = IsSize size
 IsSizeWhere false size = Unit {0}

@@ -101,8 +101,8 @@ fn limit_of(first: usize, arguments: &[u8]) -> Result<Option<u64>, WordError>
 
 /// Returns the number of the first word after the order. The first word after the unit has number `first`; it is the order if
 /// fewer bytes are left after the order than after the unit.
-fn word_behind_order(first: usize, behind_unit: usize, behind_order: usize) -> usize {
-    if behind_order < behind_unit {
+fn word_after_order(first: usize, after_unit: usize, after_order: usize) -> usize {
+    if after_order < after_unit {
         first.saturating_add(1)
     } else {
         first
@@ -115,10 +115,10 @@ pub(crate) fn beginning_of<L: UnitList>(arguments: &[u8]) -> Result<Beginning, W
     ensures valid { IfOk result (λ beginning. HasSize L.listed beginning.unit) }
     ensures kind { IfErr result (λ fault. kind_of fault.reason ≡ FaultKind.BadUnit) }
 {
-    let (unit, behind_unit) = unit_of::<L>(arguments)?;
-    let (order, rest) = with_order(behind_unit);
+    let (unit, after_unit) = unit_of::<L>(arguments)?;
+    let (order, rest) = with_order(after_unit);
     let first = if unit.size == 0 { 2 } else { 3 };
-    let first = word_behind_order(first, behind_unit.len(), rest.len());
+    let first = word_after_order(first, after_unit.len(), rest.len());
     let max_queue = limit_of(first, rest)?;
     Ok(Beginning {
         unit,

@@ -5,7 +5,7 @@ ghost use Rattle.std.specs.Prelude.{◌≡◌};
 
 use po_classic_units::UnitNames;
 
-/// The units that scripts know: one or more, in an order. Each has its number in it, which begins at 0 and has 16 bits.
+/// The units that scripts know: one or more, in an order. A unit's number, of 16 bits, is its position in this order, from 0.
 pub trait UnitList {
     ghost use Rattle.po_language.specs.Units.{UnitList as Listed, unit_number, names_at};
 
