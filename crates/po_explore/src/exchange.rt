@@ -19,7 +19,7 @@ pub(crate) struct Exchange {
     is_any: bool,
 }
 
-/// Returns the number at this place of the list, or itself.
+/// Returns the number at this place of the list. If there is none, that of the place.
 fn at(list: &[u16], place: u16) -> u16 {
     match list.get(usize::from(place)) {
         Some(number) => *number,
@@ -60,7 +60,7 @@ fn have_same_commands(scene: &Scene, one: &Caller, other: &Caller) -> bool {
             .all(|(a, b)| scene.words_at(a.line) == scene.words_at(b.line))
 }
 
-/// Returns the first caller with the same commands as this one. None of the two is named by another one's command.
+/// Returns the first caller with the same commands as this one; the caller itself if a command names one of them.
 fn leader_of(scene: &Scene, named: &[bool], caller: u16) -> u16 {
     let Some(own) = scene.callers.get(usize::from(caller)) else {
         return caller;
@@ -108,7 +108,7 @@ impl Exchange {
         Ok(exchange)
     }
 
-    /// Has the caller stand for itself, with the commands of the one that leads it.
+    /// Has the first caller with the same commands lead this one.
     fn follow(&mut self, scene: &Scene, caller: u16, leader: u16) {
         let (Some(own), Some(first)) = (
             scene.callers.get(usize::from(caller)),
@@ -188,8 +188,8 @@ impl Exchange {
         Ok(all)
     }
 
-    /// Returns by caller which of those with the same leader it becomes in the situation that stands for all that count as one with
-    /// this situation. The calls of these callers wait, in the order in which the objects have them.
+    /// Returns by caller which of those with the same leader it becomes, so that all situations that count as one become the same
+    /// one. `waiting` has the callers whose calls wait, in the order in which the objects have them.
     pub(crate) fn exchanged(
         &self,
         alloc: Global,

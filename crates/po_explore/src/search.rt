@@ -237,8 +237,8 @@ impl Search {
         Ok(self.add_to(scene, following, next, place, caller)?)
     }
 
-    /// Returns how many callers can make the same command in the situation, from this one on. The bits say whose calls wait. If one
-    /// before it can, there are none: the command was made.
+    /// Returns for how many callers the command of this one is made: for all with the same commands that are as far. None if one of
+    /// them comes before it, since that one's command was made for all. The bits say whose calls wait.
     fn alike(&self, scene: &Scene, situation: &[u32], waiting: u64, caller: u16) -> u128 {
         if !self.exchange.is_any() {
             return 1;

@@ -104,6 +104,21 @@ fn waiting_in(alloc: Global, keys: &[&[u32]]) -> Result<Vec<u16>, AllocError> {
     Ok(waiting)
 }
 
+/// Returns how many commands each caller has made, after callers have been exchanged.
+fn exchanged_made(
+    alloc: Global,
+    situation: &[u32],
+    becomes: &[u16],
+) -> Result<Vec<u32>, AllocError> {
+    let mut made = Vec::from_elem(alloc, 0u32, becomes.len())?;
+    for (count, other) in situation.iter().zip(becomes.iter()) {
+        if let Some(place) = made.get_mut(usize::from(*other)) {
+            *place = *count;
+        }
+    }
+    Ok(made)
+}
+
 /// Adds the key of a state, after callers have been exchanged.
 fn push_exchanged(key: &mut Situation, state: &[u32], becomes: &[u16]) -> Result<(), AllocError> {
     if let Some(form) = state.first() {
@@ -259,18 +274,7 @@ impl States {
         let keys = self.keys(scene, situation)?;
         let waiting = waiting_in(self.alloc, keys.as_slice())?;
         let becomes = exchange.exchanged(self.alloc, situation, waiting.as_slice())?;
-        let mut key = Vec::from_slice(
-            self.alloc,
-            situation.get(..scene.callers.len()).unwrap_or(&[]),
-        )?;
-        for (caller, other) in becomes.iter().enumerate() {
-            if let (Some(made), Some(place)) = (
-                situation.get(caller),
-                key.get_mut(usize::from(*other)),
-            ) {
-                *place = *made;
-            }
-        }
+        let mut key = exchanged_made(self.alloc, situation, becomes.as_slice())?;
         for state in keys.iter() {
             push_exchanged(&mut key, state, becomes.as_slice())?;
         }
