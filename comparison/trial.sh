@@ -2,8 +2,9 @@
 # SPDX-License-Identifier: MIT
 # Carries out scripts by one trial of pobj's sources, which proves nothing, unless the program is built: trial.sh ROOM [TEXT..]. The
 # scripts are the files of ROOM/cases. If there are Ada texts, each script NAME is on the protected object of one of them: NAME.args
-# has pobj's words, with the text N as N/FILE, from 0. NAME.ads and NAME.adb are one text, if both are there. ROOM/answers gets the answers to each after a line "== NAME", and ROOM/said a
-# line "case=NAME run=ended status=STATUS .." for each. Statuses of its own: 3, the program is built, or isn't there; 6, there is no rt.
+# has pobj's words, with the text N as N/FILE, from 0. If NAME.ads and NAME.adb are both there, they are one text. ROOM/answers gets
+# the answers to each after a line "== NAME", and ROOM/said a line "case=NAME run=ended status=STATUS .." for each. Statuses of its
+# own: 3, the program is built, or isn't there; 6, there is no rt.
 set -eu
 top=$(cd "${BASH_SOURCE[0]%/*}/.." && pwd)
 # shellcheck source=tools/crates.sh
