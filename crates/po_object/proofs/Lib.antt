@@ -3,6 +3,7 @@ pub mod Asking
 pub mod Clock
 pub mod Counting
 pub mod LatestKept
+pub mod Parts
 pub mod Refused
 pub mod Refusing
 pub mod Seating

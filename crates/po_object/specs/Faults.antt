@@ -27,6 +27,7 @@ abbrev pub IsWhy : {S V : Type 0} → CoreView S V → Unopened → Type 0
 IsWhy core WasUsed = next_place core.object ≢ core.object.setup.first_place
 IsWhy core WithoutMemory = next_place core.object ≡ core.object.setup.first_place
 
--- The object and the passes are handed back, with the lowest seat that doesn't have exactly one pass.
+-- The object is handed back with the same number of seats, which is all that contracts see of it, and so are the passes as they
+-- were, with the lowest seat that doesn't have exactly one of them.
 abbrev pub KeepsAll : {U C P F R Q S V : Type 0} → ℕ → List (PassView V) → CloseError U C P F R Q S V → Type 0
 KeepsAll seats passes (PassMissing seat object back) = (object ≡ seats) × (back.items ≡ passes) × IsMissing seats passes seat

@@ -4,6 +4,7 @@ pub mod Counted
 pub mod Faults
 pub mod Filing
 pub mod LatestCalls
+pub mod Parts
 pub mod Refused
 pub mod Reservations
 pub mod Seats

@@ -2,6 +2,7 @@
 //! How an object is closed, and what is left of it.
 
 ghost use Rattle.std.specs.Prelude.{◌≡◌, ◌↔◌, true, All, Some, ◌+◌, ◌^◌, ◌<◌, ◌≤◌, IfOk, IfErr, IfSome, IfNone, OnOk, length, vec_len, slice_index, slice_set, sum_by};
+ghost use mathlib.Core.List.{IsPrefix};
 ghost use Rattle.po_object.specs.Seats.{OneEach, IsMissing, AreBySeat, ArePlaced, AreCounts};
 ghost use Rattle.po_object.specs.Faults.{KeepsAll};
 ghost use Rattle.po_object.specs.Closing.{IsClosed};
@@ -10,7 +11,7 @@ ghost use Rattle.po_receipts.specs.OneHistory.{IsWholeHistory, IsWholeLog, state
 ghost use Rattle.po_receipts.specs.Told.{IsToldOf};
 
 use crate::error::CloseError;
-use crate::front::Log;
+use crate::front::{Front, Log};
 use crate::ledgers::{CallLedger, SeatParts, Story};
 use crate::object::Object;
 use crate::steps::Hook;
@@ -118,7 +119,8 @@ impl<
 > Object<U, C, P, F, R, Q, S> {
     /// Closes the object, if each seat has exactly one of the passes. Takes no memory.
     ///
-    /// Otherwise the error names the lowest seat that doesn't, and hands the object and the passes back.
+    /// Otherwise the error names the lowest seat that doesn't, and hands everything back: the passes as they were, and the
+    /// object with the same number of seats, which is all that contracts see of it.
     pub fn close(
         self,
         passes: Vec<Pass<U::Value, C, P, F, Q>>,
@@ -128,6 +130,23 @@ impl<
         ensures totals { IfOk result (λ closed. HasClosingTotals closed.core closed.passes) }
         // It is the object that was opened.
         ensures setup { IfOk result (λ closed. C.setup ≡ Some closed.core.object.setup) }
+        ensures fault { IfErr result (λ fault. KeepsAll self passes.items fault) }
+    {
+        let front = self.front();
+        self.close_after(&front, passes)
+    }
+
+    /// Closes the object as `close` does. What the front has seen is then a beginning of the closed object's history.
+    pub fn close_after(
+        self,
+        front: &Front<U::Value, C>,
+        passes: Vec<Pass<U::Value, C, P, F, Q>>,
+    ) -> Result<Closed<U, R, Q>, CloseError<U, C, P, F, R, Q, S>>
+        ensures one_each { OnOk result (OneEach self passes.items × (length passes.items ≡ self)) }
+        ensures by_seat { IfOk result (λ closed. AreBySeat self passes.items closed.passes) }
+        ensures totals { IfOk result (λ closed. HasClosingTotals closed.core closed.passes) }
+        ensures setup { IfOk result (λ closed. C.setup ≡ Some closed.core.object.setup) }
+        ensures seen { IfOk result (λ closed. IsPrefix front.now closed.log) }
         ensures fault { IfErr result (λ fault. KeepsAll self passes.items fault) }
     {
         let mut object = self;
@@ -148,7 +167,14 @@ impl<
             opening: _opening,
             steps: _steps,
         } = object;
-        let closed = gather(locked.into_inner(), room, passes, &calls, &procedures);
+        let closed = gather(
+            locked.into_inner(),
+            front,
+            room,
+            passes,
+            &calls,
+            &procedures,
+        );
         Ok(closed)
     }
 }
@@ -204,7 +230,7 @@ fn count_one(counts: &mut Vec<usize>, seat: u16)
     }
 }
 
-/// Takes the core out, with the passes by rising seat.
+/// Takes the core out, with the passes by rising seat. What the front has seen is a beginning of the log.
 fn gather<
     U: Unit,
     C: Story<U, U::Value>,
@@ -214,6 +240,7 @@ fn gather<
     Q: Receipts<U::Value>,
 >(
     locked: LockedCore<U, C, P, F, R, Q>,
+    front: &Front<U::Value, C>,
     room: Vec<ClosedPass<U::Value, Q>>,
     passes: Vec<Pass<U::Value, C, P, F, Q>>,
     calls: &SeatParts<C>,
@@ -226,6 +253,7 @@ fn gather<
     ensures by_seat { AreBySeat calls.now.seats passes.items result.passes }
     ensures totals { HasClosingTotals result.core result.passes }
     ensures setup { C.setup ≡ Some result.core.object.setup }
+    ensures seen { IsPrefix front.now result.log }
 {
     let (core, mut calls_book, mut procedures_book, mut made, mut ran, mut log) =
         locked.take_apart();
@@ -235,6 +263,7 @@ fn gather<
     let spent = collect(calls.seats, room, passes, &mut made, &mut ran, &mut log);
     calls_book.audit(&mut made);
     procedures_book.audit(&mut ran);
+    log.recall(front);
     Closed {
         core,
         passes: spent,

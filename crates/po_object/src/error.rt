@@ -49,7 +49,8 @@ impl<U: Unit, R: Record<U>> fmt::Debug for BoundedOpenError<U, R> {
     }
 }
 
-/// Why an object isn't closed, with the object and the passes, as they were.
+/// Why an object isn't closed, with the object and the passes. The passes are as they were. The object has the same number of
+/// seats, which is all that contracts see of it.
 #[derive(Drop, Error)]
 pub enum CloseError<
     U: Unit,

@@ -35,4 +35,4 @@ pub use object::{BoundedObject, Object};
 pub use pass::{BoundedPass, Pass};
 pub use po_log::Keeper;
 pub use po_receipts::{Agreed, Asked, ClosedPass, Receipt, Receipts, ReconcileError};
-pub use reconciliation::{every_answer, reconcile};
+pub use reconciliation::{are_volumes, every_answer, reconcile};

@@ -1,10 +1,11 @@
 // SPDX-License-Identifier: MIT
 //! An object that threads share: its core behind a lock, and the seats at which its callers wait.
 
-ghost use Rattle.std.specs.Prelude.{◌≡◌, ◌+◌, ◌≤◌, ◌⊎◌, List, [], None, Some, IfOk, IfErr, IfSome, IfNone, OnOk, OnErr, IsSome, find, unwrap_or};
+ghost use Rattle.std.specs.Prelude.{◌≡◌, ◌+◌, ◌≤◌, ◌⊎◌, List, [], ◌∷◌, ◌++◌, None, Some, IfOk, IfErr, IfSome, IfNone, OnOk, OnErr, IsSome, find, unwrap_or};
 ghost use Rattle.po_unit.specs.Numbering.{flat_number};
 ghost use Rattle.po_calls.specs.declared.call.Deadline.TheVariants.{Never, At};
 ghost use Rattle.po_history.specs.declared.event.Event.{Event};
+ghost use Rattle.po_history.specs.Histories.{VolumeView};
 ghost use Rattle.po_engine.specs.Finding.{IsFound};
 ghost use Rattle.po_engine.specs.WaitingCalls.{is_of};
 ghost use Rattle.po_core.specs.Commands.{entry_of};
@@ -13,6 +14,7 @@ ghost use Rattle.po_core.specs.declared.refusal.Refusal.{Refusal};
 ghost use Rattle.po_receipts.specs.Answers.{AskedBySeats};
 ghost use Rattle.po_receipts.specs.OneHistory.{Stands, HasEnded, IsAnswered, IsTicked, IsFunctionAt, IsCountAt, IsAttempted, IsCutOff, HoldsAt};
 ghost use Rattle.po_object.specs.Filing.{IsFinished, IsCalled, running, seeing};
+ghost use Rattle.po_object.specs.Parts.{AreParts};
 ghost use Rattle.po_object.specs.Refused.{IsCallRefusal, IsProcedureRefusal, IsFunctionRefusal, IsOutOfMemory, IsTickRefusal, IsTickRefusalOf, IsCutRefusal};
 
 use crate::front::Front;
@@ -112,6 +114,9 @@ impl<
     /// Cuts as `cut` does, after all that the front has seen. The front then sees the history up to this cut, or up to the
     /// refusal.
     ///
+    /// So a caller who makes all cuts with one front, keeps the volumes, and closes the object by `close_after` with this front
+    /// can prove by `are_volumes` that they are the volumes of all cuts.
+    ///
     /// Refused as `cut` is.
     pub fn cut_after<W: Wait>(
         &self,
@@ -119,6 +124,11 @@ impl<
         front: &mut Front<U::Value, C>,
     ) -> Result<Volume<U::Value>, Refusal>
         ensures cut_off { IfOk result (λ volume. IsFound (λ setup. IsCutOff U.meaning setup volume front.old front.new) C.setup) }
+        // What were parts of what the front had seen are parts of what it sees now, and so is the new volume.
+        ensures joins { IfOk result (λ volume. (volumes : List (VolumeView U.Value)) →
+            AreParts C.setup front.old volumes → AreParts C.setup front.new (volumes ++ volume ∷ [])) }
+        ensures keeps { OnErr result ((volumes : List (VolumeView U.Value)) →
+            AreParts C.setup front.old volumes → AreParts C.setup front.new volumes) }
         ensures asked { IfOk result (λ volume. AskedBySeats self.now volume.events) }
         ensures refused { IfErr result IsCutRefusal }
         ensures refused_at { IfErr result (λ r. IsFound (λ setup. HoldsAt U.meaning setup

@@ -1,14 +1,18 @@
 // SPDX-License-Identifier: MIT
 //! Reconciliation: whether the history of a closed object says what its callers were answered.
 
-ghost use Rattle.std.specs.Prelude.{◌≡◌, ◌⊎◌, ◌↔◌, [], IsOk};
+ghost use Rattle.std.specs.Prelude.{◌≡◌, ◌⊎◌, ◌↔◌, [], IsOk, Some};
+ghost use mathlib.Core.List.{IsPrefix};
 ghost use Rattle.po_engine.specs.ObjectState.{opening_state};
 ghost use Rattle.po_core.specs.Cutting.{AreVolumes, Leads};
 ghost use Rattle.po_receipts.specs.Agreement.{IsAgreed, IsFaultOf, history_of};
 ghost use Rattle.po_receipts.specs.Answers.{AnswersAreOwn, HasNoOthers, NonePending};
 ghost use Rattle.po_receipts.specs.declared.error.ReconcileError.{ReconcileError};
+ghost use Rattle.po_object.specs.Parts.{AreParts};
 
 use crate::closing::Closed;
+use crate::front::Front;
+use crate::ledgers::Story;
 use po_core::Volume;
 use po_receipts::{Agreed, ReconcileError, compare};
 use po_unit::Unit;
@@ -33,8 +37,8 @@ pub fn reconcile<U: Unit>(
 /// caller's own call, each once and in the caller's order; these are the answers of the serial object; the history has no other
 /// calls and procedures; and no pass has a call pending.
 ///
-/// If the history was never cut, nothing else is required. Otherwise the volumes have to be those of the object's cuts, and no
-/// pass may have a call pending, which `Closed::none_pending` says.
+/// If the history was never cut, nothing else is required. Otherwise the volumes have to be those of the object's cuts, which
+/// `are_volumes` proves, and no pass may have a call pending, which `Closed::none_pending` says.
 pub fn every_answer<U: Unit>(closed: &Closed<U>, volumes: &[Volume<U::Value>])
     requires agreed { IsAgreed closed.now.core closed.now.passes volumes.now }
     requires cut { (volumes.now ≡ []) ⊎ (AreVolumes U.meaning closed.now.core.object volumes.now × NonePending closed.now.passes) }
@@ -49,4 +53,24 @@ pub fn every_answer<U: Unit>(closed: &Closed<U>, volumes: &[Volume<U::Value>])
 {
     closed.closing_totals();
     po_receipts::every_answer(closed.core(), closed.passes(), volumes);
+}
+
+/// Proves that the volumes that a caller kept are those of the object's cuts, as `every_answer` requires, if `reconcile` returns
+/// `Agreed` for them.
+///
+/// Each volume has to be a part of what the front has seen, and that a beginning of the closed object's history. Both hold if the
+/// caller made all cuts by `Object::cut_after` with this front, and closed the object by `Object::close_after` with it.
+pub fn are_volumes<U: Unit, C: Story<U, U::Value>>(
+    closed: &Closed<U>,
+    front: &Front<U::Value, C>,
+    volumes: &[Volume<U::Value>],
+)
+    requires agreed { IsAgreed closed.now.core closed.now.passes volumes.now }
+    requires setup { C.setup ≡ Some closed.now.core.object.setup }
+    requires seen { IsPrefix front.now closed.now.log }
+    requires parts { AreParts C.setup front.now volumes.now }
+    ensures { AreVolumes U.meaning closed.now.core.object volumes.now }
+{
+    // Only for the prover: the log of a closed object is its whole history.
+    closed.closing_totals();
 }

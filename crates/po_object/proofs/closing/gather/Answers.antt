@@ -46,6 +46,9 @@ returns-clause-totals g c =
     let totals = closing-totals c.take_apart-core.result.0 c.args.calls.now.seats _ _ c.args.passes.items c.collect-spent.result.items some len c.requires.one_each k.placed c.take_apart-core.ensures.totals made ran in
     totals
 
+pub returns-clause-seen : goal.returns-clause-seen
+returns-clause-seen g c = rw (c.into_seen.ensures, c.recall.ensures.same) c.recall.ensures.beginning
+
 pub invariant_of-result : goal.invariant_of-result
 invariant_of-result g c =
     let k = c.collect-spent.ensures in
@@ -61,7 +64,8 @@ invariant_of-result g c =
     let totals = closing-totals c.take_apart-core.result.0 c.args.calls.now.seats _ _ c.args.passes.items c.collect-spent.result.items some len c.requires.one_each k.placed c.take_apart-core.ensures.totals made ran in
     let most : c.args.calls.now.seats ≤ 65_535 = search (rules, common_steps) in
     let t = c.take_apart-core.ensures in
-    let whole = subst (IsWholeLog g.U.Unit.meaning c.take_apart-core.result.0.object) (sym k.same_log) t.log in
-    let asked = subst (AskedBySeats c.args.calls.now.seats) (sym k.same_log) (t.asked c.args.calls.now.seats w) in
-    let told = subst (λ log. All (IsToldOf g.C.CallLedger.end_of log) c.args.passes.items) (sym k.same_log) k.told in
+    let same = c.recall.ensures.same ∙ k.same_log in
+    let whole = subst (IsWholeLog g.U.Unit.meaning c.take_apart-core.result.0.object) (sym same) t.log in
+    let asked = subst (AskedBySeats c.args.calls.now.seats) (sym same) (t.asked c.args.calls.now.seats w) in
+    let told = subst (λ log. All (IsToldOf g.C.CallLedger.end_of log) c.args.passes.items) (sym same) k.told in
     rw c.into_seen.ensures (is-closed g.U.Unit.meaning c.take_apart-core.result.0 c.args.calls.now.seats g.C.CallLedger.end_of _ c.args.passes.items c.collect-spent.result.items most len c.requires.one_each k.placed totals whole asked c.headline.ensures.headline t.ends told)

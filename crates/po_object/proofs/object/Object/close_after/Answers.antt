@@ -1,5 +1,5 @@
 use Rattle.std.proofs.Common.{arith, ◌≡◌, vec_len}
-use Rattle.po_object.proofs.object.Object.close.Goals as goal
+use Rattle.po_object.proofs.object.Object.close_after.Goals as goal
 
 pub gather-closed-requires-clause-one_each : goal.gather-closed-requires-clause-one_each
 gather-closed-requires-clause-one_each g c =
