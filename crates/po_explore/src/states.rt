@@ -95,8 +95,9 @@ fn waiting_in(alloc: Global, keys: &[&[u32]]) -> Result<Vec<u16>, AllocError> {
     let mut waiting = Vec::new(alloc);
     for key in keys {
         for caller in key.iter().skip(1) {
-            let caller = *caller as u16;
-            if !waiting.as_slice().contains(&caller) {
+            if let Ok(caller) = u16::try_from(*caller)
+                && !waiting.as_slice().contains(&caller)
+            {
                 waiting.push(caller)?;
             }
         }
