@@ -19,9 +19,9 @@ use std::sync::ledger::{Blank, Ledger};
 use std::sync::{Arc, Wait};
 use std::thread::{self, JoinHandle, Threads};
 
-/// What a host has to know of its object: its position in the scene, and how it is made.
+/// How an object is made, and its position in its scene.
 #[derive(Clone, Copy)]
-pub(crate) struct Hosting {
+pub(crate) struct Place {
     /// The position of the object.
     pub(crate) object: u16,
     pub(crate) order: Order,
@@ -33,14 +33,14 @@ fn core_of(
     alloc: Global,
     unit: AdaUnit,
     shape: Shape,
-    hosting: Hosting,
+    place: Place,
 ) -> Result<Core<AdaUnit>, AllocError> {
     let start = Start {
         first_number: 1,
         first_place: 0,
-        max_queue: hosting.max_queue,
+        max_queue: place.max_queue,
     };
-    Core::start(alloc, unit, shape, hosting.order, start).map_err(|_| AllocError)
+    Core::start(alloc, unit, shape, place.order, start).map_err(|_| AllocError)
 }
 
 /// Returns the entries of an object.
@@ -203,11 +203,11 @@ fn host_object<W: Threads + Wait + AllocGlobal + Copy + Send + 'static>(
     rt: W,
     unit: AdaUnit,
     shape: Shape,
-    hosting: Hosting,
+    place: Place,
     jobs: Vec<Steps>,
     course: &Course,
 ) -> Result<Report, AllocError> {
-    let core = core_of(rt.alloc(), unit, shape, hosting)?;
+    let core = core_of(rt.alloc(), unit, shape, place)?;
     let Ok(seats) = u16::try_from(jobs.len()) else {
         return Err(AllocError);
     };
@@ -218,7 +218,7 @@ fn host_object<W: Threads + Wait + AllocGlobal + Copy + Send + 'static>(
     host_core::<Brand, Brand, W>(
         rt,
         core,
-        hosting.object,
+        place.object,
         seats,
         jobs,
         course,
@@ -233,11 +233,11 @@ fn host<W: Threads + Wait + AllocGlobal + Copy + Send + 'static>(
     rt: W,
     unit: AdaUnit,
     shape: Shape,
-    hosting: Hosting,
+    place: Place,
     jobs: Vec<Steps>,
     course: Arc<Course>,
 ) {
-    match host_object(rt, unit, shape, hosting, jobs, &*course) {
+    match host_object(rt, unit, shape, place, jobs, &*course) {
         Ok(report) => course.tally.add(report),
         Err(_) => course.give_up(),
     }
@@ -263,10 +263,10 @@ pub(crate) fn start_host<
     rt: W,
     unit: U,
     shape: Shape,
-    hosting: Hosting,
+    place: Place,
     jobs: Vec<Steps>,
     course: Arc<Course>,
 ) -> Result<JoinHandle<()>, AllocError> {
-    let work = move || host(rt, unit.into_unit(), shape, hosting, jobs, course);
+    let work = move || host(rt, unit.into_unit(), shape, place, jobs, course);
     Ok(thread::spawn(&rt, work)?)
 }

@@ -2,7 +2,7 @@
 //! Runs a scene again and again.
 
 use crate::course::Course;
-use crate::host::{Hosting, start_host};
+use crate::host::{Place, start_host};
 use crate::job::Steps;
 use crate::report::{Report, Stuck, report_of};
 use crate::step::{Step, steps_of, turns_at};
@@ -78,7 +78,7 @@ fn start_at<W: Threads + Wait + AllocGlobal + Copy + Send + 'static>(
 ) -> Result<JoinHandle<()>, Stop> {
     let alloc = rt.alloc();
     let shape = shape_of(alloc, named.names.entries.as_slice())?;
-    let hosting = Hosting {
+    let place = Place {
         object,
         order: named.order,
         max_queue: smaller(named.names.max_queue, named.max_queue),
@@ -86,7 +86,7 @@ fn start_at<W: Threads + Wait + AllocGlobal + Copy + Send + 'static>(
     let jobs = jobs_at(alloc, named, object, steps, course)?;
     let unit = named.unit.copy()?;
     let shared = Arc::try_clone(course)?;
-    Ok(start_host(rt, unit, shape, hosting, jobs, shared)?)
+    Ok(start_host(rt, unit, shape, place, jobs, shared)?)
 }
 
 /// Starts the hosts of all objects.
