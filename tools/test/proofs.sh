@@ -2,7 +2,7 @@
 # shellcheck shell=bash
 # The proofs of the crates from scratch: `rt ci` over a copy, and then the wrong bodies over what it kept. Read by `test`.
 
-# What the last full run noted: its commit, and the crates whose wrong bodies it saw refused, each with the sum of its files.
+# The crates whose wrong bodies were all refused, each with the sum of its files at that time.
 tested=tools/test/tested.txt
 
 # The sum of a crate's files and of its wrong bodies.
@@ -10,7 +10,7 @@ sum_of() {
   (cd "crates/$1" && find src specs proofs must-fail -type f 2>/dev/null | LC_ALL=C sort | xargs sha256sum | sha256sum | cut -c1-16)
 }
 
-# Whether the crate is unchanged since the last full run.
+# Whether the crate is unchanged since its wrong bodies were refused.
 is_tested() { grep -qx "$1 $(sum_of "$1")" "$tested" 2>/dev/null; }
 
 # The names of the crates of crates.txt.
@@ -23,7 +23,7 @@ copy_crates() {
   tar -c --exclude='crates/*/out' --exclude='crates/*/must-fail' crates | tar -x -C "$1"
 }
 
-# The crates with wrong bodies that changed since the last full run.
+# The crates with wrong bodies that changed since these were refused.
 changed_crates() {
   local name
   for name in $(crate_names); do
@@ -111,7 +111,7 @@ wrong_bodies() {
   count "$scratch/refused-$1" "wrong bodies of$crates"
 }
 
-# All proofs, with the wrong bodies of the crates that changed since the last full run.
+# All proofs, with the wrong bodies of the crates that changed since these were refused.
 prove_changed() {
   copy_crates "$scratch/copy"
   leave_out_tests "$scratch/copy"
@@ -120,14 +120,15 @@ prove_changed() {
   refuse $(changed_crates)
 }
 
-# All proofs, and all wrong bodies. What passed is noted.
+# All proofs, and all wrong bodies. If all are refused, that is noted.
 prove_all() {
   copy_crates "$scratch/copy"
   leave_out_tests "$scratch/copy"
   check proofs copy
   # shellcheck disable=SC2046
   refuse $(crate_names)
-  if [ "$failed" -eq 0 ]; then note_tested; fi
+  # shellcheck disable=SC2046
+  if [ "$failed" -eq 0 ]; then note_refused $(crate_names); fi
 }
 
 # All proofs, also those of the crates that have only tests.
@@ -136,13 +137,25 @@ prove_tests() {
   check proofs copy
 }
 
-# Notes the crates of a full run in which everything passed.
-note_tested() {
-  local name
-  {
-    echo "# The crates as the last ./test all met them, at commit $(git rev-parse --short HEAD), each with the sum of its files."
-    for name in $(crate_names); do
-      echo "$name $(sum_of "$name")"
-    done
-  } >"$tested"
+# Tries the wrong bodies of these crates, or of all, and notes each crate whose wrong bodies are all refused.
+try_wrong_bodies() {
+  local name before
+  # shellcheck disable=SC2046
+  [ $# -gt 0 ] || set -- $(crate_names)
+  for name; do
+    before=$failed
+    python3 tools/test/wrong_bodies.py "$name" >"$scratch/refused" 2>&1
+    cat "$scratch/refused"
+    count "$scratch/refused" "wrong bodies of $name"
+    [ "$failed" -gt "$before" ] || note_refused "$name"
+  done
+}
+
+# Notes that all wrong bodies of these crates were refused.
+note_refused() {
+  local name kept
+  for name; do
+    kept=$(grep -v "^$name " "$tested")
+    printf '%s\n%s\n' "$kept" "$name $(sum_of "$name")" >"$tested"
+  done
 }
