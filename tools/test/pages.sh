@@ -4,7 +4,7 @@
 # must be believed is counted, paragraphs are short, words are plain, wrong bodies are few. Read by `test`, after count.sh.
 
 # How many wrong bodies the tree may have: each costs a quarter of a minute of a full run (CONTRIBUTING.md).
-most_edits=234
+most_edits=237
 
 # How many words all pages together may have, outside of code.
 most_words=28500

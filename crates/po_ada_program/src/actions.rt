@@ -557,6 +557,11 @@ impl<'a> Making<'a> {
             );
         }
         let (operation, distance) = match self.lowering.denoted(entry, LEVELS)? {
+            Denoted::Operation(operation) if self.lowering.is_family(operation) => return Err(
+                self.lowering
+                    .known
+                    .refuse(entry.place, "an entry family needs an index (9.5.4)"),
+            ),
             Denoted::Operation(operation) => (operation, Expr::Number(0)),
             Denoted::Member(operation, distance) => (operation, distance),
             _ => return Err(

@@ -236,14 +236,9 @@ impl<'a> Making<'a> {
         match &subtype.constraint {
             Constraint::Absent => Ok(sub),
             Constraint::Range(range) => {
-                let found = self.lowering.static_range(range)?;
+                let found = self.lowering.static_range_in(range, sub.kind)?;
                 self.lowering
-                    .known
-                    .unify(subtype.mark.place, sub.kind, found.kind)?;
-                Ok(Sub {
-                    kind: sub.kind,
-                    ..found
-                })
+                    .admit_within(subtype.mark.place, found, Some(sub))
             }
             Constraint::Index(list) => self.index_constraint(
                 subtype.mark.place,
@@ -281,8 +276,7 @@ impl<'a> Making<'a> {
                     .refuse(place, "an open array has one index here (3.6)"),
             );
         }
-        let found = self.lowering.static_range(choice)?;
-        self.lowering.known.unify(place, index, found.kind)?;
+        let found = self.lowering.static_range_in(choice, index)?;
         Ok(Sub {
             kind: sub.kind,
             low: found.low,

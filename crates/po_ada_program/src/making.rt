@@ -30,8 +30,6 @@ pub struct Making<'a> {
     pub has_postcondition: bool,
     /// The slot that gets the result of a function: 0, or another before a postcondition, which may use the parameters.
     pub result_slot: u16,
-    /// How many names of the scope stand before those of the object.
-    pub outside: usize,
     /// The entries that have a precondition, in the order of their functions.
     pub preconditions: Vec<usize>,
     /// What the entries say of the greatest length of their queues, in the order of their declarations.
@@ -58,7 +56,6 @@ impl<'a> Making<'a> {
             handled: None,
             has_postcondition: false,
             result_slot: 0,
-            outside: 0,
             preconditions: Vec::new(alloc),
             limits: Vec::new(alloc),
             max_queue: None,

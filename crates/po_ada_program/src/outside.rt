@@ -44,6 +44,24 @@ impl<'a> Making<'a> {
         self.lowering.known.excuse(before, &[body.profile.name])
     }
 
+    /// Whether the operation stands outside of the protected unit, and has no body so far.
+    fn lacks_body(&self, operation: usize) -> bool {
+        match self.lowering.operations.get(operation) {
+            Some(declared) => declared.outside && declared.body.is_none(),
+            None => false,
+        }
+    }
+
+    /// A body after that of the protected unit, if it is that of an operation that was declared before.
+    pub fn later_body(&mut self, body: &'a Body) -> Result<(), Stop> {
+        match self.lowering.known.look_up(body.profile.name.number) {
+            Some(Meaning::Operation(number)) if self.lacks_body(number) => {
+                self.outer_operation(body)
+            }
+            _ => Ok(()),
+        }
+    }
+
     /// Declares an operation outside of the protected unit, unless that was done, and notes its body.
     fn note_outer(&mut self, body: &'a Body) -> Result<(), Stop> {
         let number = match self.lowering.known.look_up(body.profile.name.number) {

@@ -41,7 +41,7 @@ impl<'a> Making<'a> {
 
     /// The variables and the operations of the object can't be read from here on: their names are faulty.
     fn hide_object(&mut self) -> Result<(), Stop> {
-        for index in self.outside..self.lowering.known.scope.len() {
+        for index in self.lowering.outside..self.lowering.known.scope.len() {
             let found = self.lowering.known.scope.get(index).copied();
             if let Some(symbol) = found {
                 if matches!(symbol.meaning, Meaning::Variable(_) | Meaning::Operation(_)) {

@@ -18,7 +18,7 @@ pub const MOST_PARAMETERS: usize = 8;
 const MOST_ENTRIES: u16 = 4_096;
 
 impl<'a> Making<'a> {
-    /// The meaning of a text's items, up to the body of the protected unit.
+    /// The meaning of a text's items, up to the body of the protected unit, and of the operations in the same package after it.
     pub fn items(
         &mut self,
         items: &'a [Item],
@@ -28,6 +28,9 @@ impl<'a> Making<'a> {
         let mut is_made = false;
         for item in items {
             let done = match item {
+                Item::Package(_) if is_made => return Ok(()),
+                Item::Operation(body) if is_made => self.later_body(body),
+                _ if is_made => Ok(()),
                 Item::ProtectedBody(body) if body.name.number == wanted.number => {
                     is_made = true;
                     self.bodies(body)
@@ -35,9 +38,9 @@ impl<'a> Making<'a> {
                 other => self.item(other, wanted, values),
             };
             self.keep_on(done)?;
-            if is_made {
-                return Ok(());
-            }
+        }
+        if is_made {
+            return Ok(());
         }
         Err(
             self.lowering.known.refuse_name(
@@ -59,10 +62,10 @@ impl<'a> Making<'a> {
 
     /// The meaning of an item before the body of the protected unit. What stands after the unit hides none of its names (8.3).
     pub fn item(&mut self, item: &'a Item, wanted: Name, values: &'a [i128]) -> Result<(), Stop> {
-        let (inner, from) = (self.outside, self.lowering.known.scope.len());
+        let (inner, from) = (self.lowering.outside, self.lowering.known.scope.len());
         let done = self.any_item(item, wanted, values);
         if inner > 0 {
-            self.outside = self.lowering.known.lower(inner, from)?;
+            self.lowering.outside = self.lowering.known.lower(inner, from)?;
         }
         done
     }
@@ -92,8 +95,9 @@ impl<'a> Making<'a> {
 
     /// The declaration of the protected unit (9.4).
     fn unit(&mut self, unit: &'a Protected, values: &'a [i128]) -> Result<(), Stop> {
+        self.lowering.unit = Some(self.lowering.known.scope.len());
         self.lowering.known.define(unit.name, Meaning::Package)?;
-        self.outside = self.lowering.known.scope.len();
+        self.lowering.outside = self.lowering.known.scope.len();
         self.discriminants(unit, values)?;
         self.parts(unit.public.as_slice(), true)?;
         self.parts(unit.private.as_slice(), false)?;
@@ -659,13 +663,11 @@ impl<'a> Making<'a> {
                 break;
             }
         }
-        self.missing_bodies(
-            true,
-            " is called and has no body before that of the object: move it up",
-        )
+        self.missing_bodies(true, " is called and has no body here")
     }
 
-    /// Makes the bodies of the operations outside of the unit that are called so far. Says whether there were more.
+    /// Makes the bodies of the operations outside of the unit that are called so far: they see none of its names. Says whether there
+    /// were more.
     fn more_outer_bodies(
         &mut self,
         bodies: &mut Vec<Option<(Operation, Operation)>>,
@@ -673,7 +675,11 @@ impl<'a> Making<'a> {
         let mut more = false;
         for number in 0..bodies.len() {
             if matches!(bodies.get(number), Some(None)) {
-                let made = self.made_operation(number, true)?;
+                let outside = self.lowering.outside;
+                let inner = self.lowering.hide_names(outside)?;
+                let made = self.made_operation(number, true);
+                self.lowering.show_names(inner)?;
+                let made = made?;
                 more = more || made.is_some();
                 if let Some(found) = bodies.get_mut(number) {
                     *found = made;

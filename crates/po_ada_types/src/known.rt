@@ -186,7 +186,7 @@ impl<'a> Known<'a> {
                 place,
                 "nothing here has the name ",
                 name,
-                "; other files aren't read",
+                ": write its declaration here, as other files aren't read",
             ),
             Err(_) => Stop::OutOfMemory,
         }

@@ -1,6 +1,7 @@
 // SPDX-License-Identifier: MIT
 //! Attributes of parts that were evaluated (4.1.4).
 
+use crate::choices::NO_INDEX;
 use crate::lowering::Lowering;
 use crate::values::{
     Denoted, Lowered, Placed, Value, computed, fixed_value, only_value, range_of, slot_cell,
@@ -23,12 +24,7 @@ impl<'a> Lowering<'a> {
         let operands = self.emitted(values)?;
         match (denoted, attribute) {
             (Denoted::Type(sub), _) => self.type_attribute(place, sub, attribute, operands),
-            (Denoted::Part(part), _) => self.array_attribute(
-                place,
-                part.sub,
-                attribute,
-                operands.is_empty(),
-            ),
+            (Denoted::Part(part), _) => self.array_attribute(place, part.sub, attribute, operands),
             (Denoted::Operation(operation), Attribute::Count) => {
                 self.entry_count(place, operation, None)
             }
@@ -87,14 +83,21 @@ impl<'a> Lowering<'a> {
         Ok(computed(UNIVERSAL, code))
     }
 
-    /// First, Last and Length of an array.
+    /// First, Last and Length of an array, perhaps of the index whose number is in parentheses (3.6.2).
     fn array_attribute(
         &mut self,
         place: usize,
         sub: Sub,
         attribute: Attribute,
-        is_bare: bool,
+        operands: Vec<Placed>,
     ) -> Result<Value, Stop> {
+        let number = match operands.is_empty() {
+            true => Some(1),
+            false => only_value(operands).and_then(|operand| operand.value.fixed),
+        };
+        let Some(sub) = self.with_index(sub, number) else {
+            return Err(self.known.refuse(place, NO_INDEX));
+        };
         let Some((index, _, _)) = self.known.array_parts(sub) else {
             return Err(
                 self.known.refuse(
@@ -103,14 +106,6 @@ impl<'a> Lowering<'a> {
                 ),
             );
         };
-        if !is_bare {
-            return Err(
-                self.known.refuse(
-                    place,
-                    "an attribute of the second index isn't in this subset: name its type (3.6.2)",
-                ),
-            );
-        }
         match attribute {
             Attribute::First => Ok(fixed_value(index, sub.low)),
             Attribute::Last => Ok(fixed_value(index, sub.high)),
@@ -136,7 +131,7 @@ impl<'a> Lowering<'a> {
         operands: Vec<Placed>,
     ) -> Result<Value, Stop> {
         if !self.known.is_discrete(sub.kind) {
-            return self.array_attribute(place, sub, attribute, operands.is_empty());
+            return self.array_attribute(place, sub, attribute, operands);
         }
         match attribute {
             Attribute::First => Ok(fixed_value(sub.kind, sub.low)),

@@ -142,7 +142,10 @@ impl<'a> Lowering<'a> {
                 parameter.sub.kind,
                 first_value(parameter.sub),
             )),
-            _ => Ok(Operand::Written(actual)),
+            _ if list.iter().any(|given| given.value.place == actual.place) => Ok(Operand::Written(
+                actual,
+            )),
+            _ => Ok(Operand::Default(actual, self.before_operation(operation))),
         }
     }
 
@@ -185,6 +188,17 @@ impl<'a> Lowering<'a> {
         Ok(first)
     }
 
+    /// Whether a call of the operation can change its actuals: it has a parameter of mode `out` or `in out` (6.1).
+    fn changes_actuals(&self, operation: usize) -> bool {
+        match self.operations.get(operation) {
+            Some(declared) => declared
+                .parameters
+                .iter()
+                .any(|parameter| parameter.mode != Mode::In),
+            None => false,
+        }
+    }
+
     /// A call of a function: the statements before it, and the slot with its result.
     pub fn call_result(
         &mut self,
@@ -193,6 +207,14 @@ impl<'a> Lowering<'a> {
         values: Vec<Placed>,
     ) -> Result<Value, Stop> {
         let sub = self.result_of(place, operation)?;
+        if self.changes_actuals(operation) {
+            return Err(
+                self.known.refuse(
+                    place,
+                    "a function with parameters of mode 'out' isn't in this subset: write a procedure (6.4.1)",
+                ),
+            );
+        }
         let slot = self.made_call(place, operation, values)?;
         Ok(computed(sub.kind, slot_cell(slot)))
     }

@@ -8,9 +8,15 @@ use crate::values::{
     range_of, slot_cell, two_values,
 };
 use po_ada_tree::Stop;
-use po_ada_tree::tree::{Attribute, Choice, Expression, Form};
+use po_ada_tree::tree::{Association, Attribute, Choice, Expression, Form};
 use po_ada_types::{BOOLEAN, GREATEST, INTEGER, LEAST, Sub, UNIVERSAL};
 use po_program::{Base, Binary, Expr, Range};
+
+/// The fault of an attribute with the number of an index that there isn't.
+pub const NO_INDEX: &str = "the array has no index with this number (3.6.2)";
+
+/// The fault of bounds that have to be static.
+const NOT_STATIC: &str = "expected static bounds: numbers, constants and discriminants (4.9)";
 
 /// What a choice says.
 #[derive(Debug, Drop)]
@@ -28,6 +34,8 @@ pub enum Choosing {
 pub struct Chosen {
     pub place: usize,
     pub form: Choosing,
+    /// The subtype that is named before a range.
+    pub within: Option<Sub>,
 }
 
 /// The bounds of a discrete range, and its type.
@@ -38,14 +46,25 @@ pub struct Bounds {
     pub kind: usize,
 }
 
-/// The array or type before `'Range`, if the choice is this attribute.
-pub fn range_prefix(choice: &Choice) -> Option<&Expression> {
+/// The array or type before `'Range`, if the choice is this attribute, and what is in its parentheses.
+pub fn range_prefix(choice: &Choice) -> Option<(&Expression, &[Association])> {
     match choice {
         Choice::Value(value) => match &value.form {
-            Form::Attribute(prefix, Attribute::Range, _) => Some(prefix),
+            Form::Attribute(prefix, Attribute::Range, list) => Some((prefix, list.as_slice())),
             _ => None,
         },
         _ => None,
+    }
+}
+
+/// The number of an index in parentheses, which is 1 if there are none (3.6.2).
+pub fn index_number(list: &[Association]) -> Option<i128> {
+    match list.first() {
+        None => Some(1),
+        Some(only) => match only.value.form {
+            Form::Number(number) if list.len() == 1 => Some(i128::from(number)),
+            _ => None,
+        },
     }
 }
 
@@ -113,17 +132,43 @@ impl<'a> Lowering<'a> {
         Ok(list)
     }
 
-    /// `A'Range` (3.6.2).
-    pub fn chosen_range(&mut self, place: usize, denoted: Denoted) -> Result<Chosen, Stop> {
+    /// The part of an array whose first index is the one with this number, or a type with none (3.6.2).
+    pub fn with_index(&self, sub: Sub, number: Option<i128>) -> Option<Sub> {
+        let number = usize::try_from(number?).ok()?;
+        if number == 0 || number > self.known.dimensions(sub).max(1) {
+            return None;
+        }
+        let mut part = sub;
+        for _ in 1..number {
+            part = self.known.array_parts(part)?.1;
+        }
+        Some(part)
+    }
+
+    /// `A'Range`, perhaps of the index with this number (3.6.2).
+    pub fn chosen_range(
+        &mut self,
+        place: usize,
+        denoted: Denoted,
+        number: Option<i128>,
+    ) -> Result<Chosen, Stop> {
         let sub = match denoted {
             Denoted::Type(sub) => Some(sub),
             Denoted::Part(part) => Some(part.sub),
             _ => None,
         };
+        let sub = match sub {
+            Some(sub) => match self.with_index(sub, number) {
+                Some(part) => Some(part),
+                None => return Err(self.known.refuse(place, NO_INDEX)),
+            },
+            None => None,
+        };
         match sub.and_then(|sub| self.index_range(sub)) {
             Some(sub) => Ok(Chosen {
                 place,
                 form: Choosing::Type(sub),
+                within: None,
             }),
             None => Err(
                 self.known
@@ -145,6 +190,7 @@ impl<'a> Lowering<'a> {
     pub fn chosen_of(&mut self, choice: &'a Choice, values: Vec<Lowered>) -> Result<Chosen, Stop> {
         let place = choice_place(choice);
         let values = self.emitted(values)?;
+        let mut within = None;
         let form = match choice {
             Choice::Others(_) => Choosing::All,
             Choice::Value(value) => match self.known.named_type(value) {
@@ -154,10 +200,15 @@ impl<'a> Lowering<'a> {
             Choice::Range(_, high) => self.chosen_pair(high.place, None, values)?,
             Choice::Constrained(mark, _, high) => {
                 let sub = self.known.subtype_mark(mark)?;
+                within = Some(sub);
                 self.chosen_pair(high.place, Some(sub.kind), values)?
             }
         };
-        Ok(Chosen { place, form })
+        Ok(Chosen {
+            place,
+            form,
+            within,
+        })
     }
 
     fn chosen_value(&mut self, place: usize, values: Vec<Placed>) -> Result<Choosing, Stop> {
@@ -189,7 +240,7 @@ impl<'a> Lowering<'a> {
 
     /// The bounds of a choice that is a discrete range (3.6.1).
     pub fn bounds(&mut self, chosen: Chosen) -> Result<Bounds, Stop> {
-        let Chosen { place, form } = chosen;
+        let Chosen { place, form, .. } = chosen;
         match form {
             Choosing::Type(sub) if self.known.is_discrete(sub.kind) => Ok(Bounds {
                 low: fixed_value(sub.kind, sub.low),
@@ -210,22 +261,45 @@ impl<'a> Lowering<'a> {
         }
     }
 
+    /// A range that isn't empty is within that of the subtype that is named before it, if there is one (3.2.2).
+    pub fn admit_within(
+        &mut self,
+        place: usize,
+        found: Sub,
+        within: Option<Sub>,
+    ) -> Result<Sub, Stop> {
+        match within {
+            Some(sub)
+                if found.low <= found.high && (found.low < sub.low || found.high > sub.high) => Err(
+                self.known.refuse(place, "the range isn't within that of the subtype (3.2.2)"),
+            ),
+            _ => Ok(found),
+        }
+    }
+
+    /// A range of a type, whose bounds have to be static (4.9.1).
+    pub fn static_bounds_in(&mut self, kind: usize, chosen: Chosen) -> Result<Sub, Stop> {
+        let (place, within) = (chosen.place, chosen.within);
+        match &chosen.form {
+            Choosing::All => return Err(self.known.refuse(place, "'others' is no range")),
+            Choosing::Range(first, last, _) if first.fixed.is_none() || last.fixed.is_none() =>
+                return Err(self.known.refuse(place, NOT_STATIC)),
+            _ => {}
+        }
+        let Range { low, high } = self.static_choice(kind, &chosen)?;
+        self.admit_within(place, Sub { kind, low, high }, within)
+    }
+
     /// A range whose bounds have to be static (4.9.1).
     pub fn static_bounds(&mut self, chosen: Chosen) -> Result<Sub, Stop> {
-        let place = chosen.place;
+        let (place, within) = (chosen.place, chosen.within);
         let bounds = self.bounds(chosen)?;
         match (bounds.low.fixed, bounds.high.fixed) {
-            (Some(low), Some(high)) => Ok(Sub {
-                kind: bounds.kind,
-                low,
-                high,
-            }),
-            _ => Err(
-                self.known.refuse(
-                    place,
-                    "expected static bounds: numbers, constants and discriminants (4.9)",
-                ),
-            ),
+            (Some(low), Some(high)) => {
+                let kind = bounds.kind;
+                self.admit_within(place, Sub { kind, low, high }, within)
+            }
+            _ => Err(self.known.refuse(place, NOT_STATIC)),
         }
     }
 
@@ -303,7 +377,7 @@ impl<'a> Lowering<'a> {
 
     /// Whether the value in the slot is in the choice.
     fn member_test(&mut self, slot: u16, kind: usize, chosen: Chosen) -> Result<Expr, Stop> {
-        let Chosen { place, form } = chosen;
+        let Chosen { place, form, .. } = chosen;
         match form {
             Choosing::All => Err(
                 self.known

@@ -3,7 +3,7 @@
 //!
 //! A call of a function is a statement before its expression.
 
-use crate::choices::{Chosen, range_prefix};
+use crate::choices::{Chosen, index_number, range_prefix};
 use crate::loops::Opened;
 use crate::lowering::{LEVELS, Lowering};
 use crate::values::{Denoted, Lowered, Operand, Value, choice_place, fixed_value, positional};
@@ -49,6 +49,12 @@ impl<'a> Lowering<'a> {
             let before = self.begin_list();
             let made = match *operand {
                 Operand::Written(expression) => self.value(expression, levels),
+                Operand::Default(expression, before) => {
+                    let inner = self.hide_names(before)?;
+                    let made = self.value(expression, levels);
+                    self.show_names(inner)?;
+                    made
+                }
                 Operand::Number(_, kind, number) => Ok(fixed_value(kind, number)),
             };
             let code = self.end_list(before);
@@ -193,9 +199,9 @@ impl<'a> Lowering<'a> {
     #[cycle(values)]
     pub fn chosen(&mut self, choice: &'a Choice, levels: usize) -> Result<Chosen, Stop> {
         match range_prefix(choice) {
-            Some(prefix) => {
+            Some((prefix, list)) => {
                 let denoted = self.denoted(prefix, levels)?;
-                self.chosen_range(choice_place(choice), denoted)
+                self.chosen_range(choice_place(choice), denoted, index_number(list))
             }
             None => {
                 let operands = self.choice_operands(choice)?;
@@ -301,6 +307,13 @@ impl<'a> Lowering<'a> {
         self.admit_range(choice)?;
         let chosen = self.chosen(choice, LEVELS)?;
         self.static_bounds(chosen)
+    }
+
+    /// A range of a type whose bounds are static (4.9.1).
+    pub fn static_range_in(&mut self, choice: &'a Choice, kind: usize) -> Result<Sub, Stop> {
+        self.admit_range(choice)?;
+        let chosen = self.chosen(choice, LEVELS)?;
+        self.static_bounds_in(kind, chosen)
     }
 
     /// The static range of a choice of values of a type.

@@ -569,7 +569,12 @@ impl<'a> Lowering<'a> {
             let default = self.known.field_default(sub, position);
             let start = first.saturating_add(offset);
             match default {
-                Some(expression) => self.aggregate(part, start, expression, list, LEVELS)?,
+                Some(expression) => {
+                    let inner = self.hide_names(self.before_type(sub.kind))?;
+                    let made = self.aggregate(part, start, expression, list, LEVELS);
+                    self.show_names(inner)?;
+                    made?;
+                }
                 None => self.first_values(part, start, list, levels)?,
             }
         }

@@ -3,7 +3,7 @@
 
 use crate::choices::{Bounds, Chosen};
 use crate::lowering::Lowering;
-use crate::values::{Denoted, Lowered, Part, Value, computed, fixed_value, slot_cell};
+use crate::values::{Denoted, Lowered, Part, Value, computed, fixed_value, range_of, slot_cell};
 use po_ada_tree::Stop;
 use po_ada_tree::tree::Name;
 use po_ada_types::{BOOLEAN, Meaning, Sub, Variable};
@@ -27,8 +27,12 @@ impl<'a> Lowering<'a> {
         chosen: Chosen,
         reversed: bool,
     ) -> Result<Opened, Stop> {
+        let within = chosen.within;
         let Bounds { low, high, kind } = self.bounds(chosen)?;
         let opened = self.open_bounds(name, low, high, reversed)?;
+        if let Some(sub) = within {
+            self.check_bounds(opened, sub)?;
+        }
         let variable = Variable {
             area: Area::Frame,
             first: opened.parameter,
@@ -61,6 +65,28 @@ impl<'a> Lowering<'a> {
         })
     }
 
+    /// Checks that the bounds of a loop are in this subtype, unless the range is empty (3.2.2).
+    fn check_bounds(&mut self, opened: Opened, sub: Sub) -> Result<(), Stop> {
+        let (low, high) = if opened.reversed {
+            (opened.last, opened.parameter)
+        } else {
+            (opened.parameter, opened.last)
+        };
+        let has_turns = self.binary(Binary::AtMost, slot_cell(low), slot_cell(high))?;
+        let low = self.check_slot(low, sub)?;
+        let high = self.check_slot(high, sub)?;
+        let both = Stmt::Then(self.boxed_statement(low)?, self.boxed_statement(high)?);
+        let some = self.boxed_statement(both)?;
+        let none = self.boxed_statement(Stmt::Null)?;
+        self.emit(Stmt::If(has_turns, some, none))
+    }
+
+    /// What checks that the value in the slot is in this subtype.
+    fn check_slot(&mut self, slot: u16, sub: Sub) -> Result<Stmt, Stop> {
+        let checked = Expr::Check(range_of(sub), self.boxed(slot_cell(slot))?);
+        Ok(Stmt::Assign(Area::Frame, slot, checked))
+    }
+
     /// Begins a loop over the components of an array: the name stands for each of them (5.5.2).
     pub fn open_components(
         &mut self,
@@ -80,6 +106,14 @@ impl<'a> Lowering<'a> {
                     .refuse(name.place, "'of' comes before an array (5.5.2)"),
             );
         };
+        if self.known.dimensions(part.sub) > 1 {
+            return Err(
+                self.known.refuse(
+                    name.place,
+                    "'of' comes before an array with one index here: write a loop over each index (5.5.2)",
+                ),
+            );
+        }
         let Part {
             area,
             first,

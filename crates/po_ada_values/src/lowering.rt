@@ -56,6 +56,10 @@ pub struct Lowering<'a> {
     /// Whether a postcondition is read, and the statements that keep values for its 'Old.
     pub in_postcondition: bool,
     pub olds: Vec<Stmt>,
+    /// The place of the protected unit's name in the scope, once it is declared.
+    pub unit: Option<usize>,
+    /// How many names of the scope stand before those that the unit declares.
+    pub outside: usize,
 }
 
 /// One statement of two.
@@ -108,6 +112,8 @@ impl<'a> Lowering<'a> {
             most_slots: slots,
             in_postcondition: false,
             olds: Vec::new(alloc),
+            unit: None,
+            outside: 0,
         }
     }
 

@@ -10,7 +10,7 @@ use crate::values::{
 };
 use po_ada_tree::Stop;
 use po_ada_tree::tree::{Association, Name};
-use po_ada_types::{Meaning, Structure, Sub, Variable};
+use po_ada_types::{Meaning, Structure, Sub, Symbol, Variable};
 use po_program::{Expr, Range};
 
 impl<'a> Lowering<'a> {
@@ -37,7 +37,7 @@ impl<'a> Lowering<'a> {
                 self.known
                     .refuse(place, "expected a value, and here is an entry (9.5.2)"),
             ),
-            Denoted::Package => Err(
+            Denoted::Package(_) => Err(
                 self.known.refuse(
                     place,
                     "expected a value, and here is a package or a protected unit",
@@ -72,13 +72,24 @@ impl<'a> Lowering<'a> {
 
     /// What a name of the text stands for by itself.
     pub fn named(&mut self, place: usize, name: u32) -> Result<Denoted, Stop> {
-        match self.known.look_up(name) {
+        let meaning = self.known.look_up(name);
+        self.meant(place, name, meaning)
+    }
+
+    /// What a name with this meaning stands for.
+    fn meant(
+        &mut self,
+        place: usize,
+        name: u32,
+        meaning: Option<Meaning>,
+    ) -> Result<Denoted, Stop> {
+        match meaning {
             Some(Meaning::Type(sub)) => Ok(Denoted::Type(sub)),
             Some(Meaning::Number(number, kind)) => Ok(Denoted::Value(fixed_value(kind, number))),
             Some(Meaning::Variable(variable)) => Ok(Denoted::Part(self.part(variable))),
             Some(Meaning::Exception(exception)) => Ok(Denoted::Exception(exception)),
             Some(Meaning::Operation(operation)) => Ok(Denoted::Operation(operation)),
-            Some(Meaning::Package) => Ok(Denoted::Package),
+            Some(Meaning::Package) => Ok(Denoted::Package(self.place_of(name))),
             Some(Meaning::Unread(reason)) => Err(
                 self.known.refuse_unread(
                     reason,
@@ -110,10 +121,98 @@ impl<'a> Lowering<'a> {
         }
     }
 
+    /// Takes the names off the scope that don't stand before this place, and returns them.
+    pub fn hide_names(&mut self, place: usize) -> Result<Vec<Symbol>, Stop> {
+        let mut inner = Vec::new(self.known.alloc);
+        for symbol in self.known.scope.iter().skip(place) {
+            inner.push(*symbol)?;
+        }
+        self.known.scope.truncate(place);
+        Ok(inner)
+    }
+
+    /// Puts these names back.
+    pub fn show_names(&mut self, inner: Vec<Symbol>) -> Result<(), Stop> {
+        self.known.scope.extend_from_slice(inner.as_slice())?;
+        Ok(())
+    }
+
+    /// How many names of the scope stand before the declaration of this type.
+    pub fn before_type(&self, kind: usize) -> usize {
+        for (place, symbol) in (0usize..).zip(self.known.scope.iter()) {
+            if matches!(symbol.meaning, Meaning::Type(sub) if sub.kind == kind) {
+                return place;
+            }
+        }
+        self.known.scope.len()
+    }
+
+    /// How many names of the scope stand before the declaration of this operation.
+    pub fn before_operation(&self, operation: usize) -> usize {
+        for (place, symbol) in (0usize..).zip(self.known.scope.iter()) {
+            if matches!(symbol.meaning, Meaning::Operation(number) if number == operation) {
+                return place;
+            }
+        }
+        self.known.scope.len()
+    }
+
+    /// The place of the innermost declaration of this name in the scope.
+    fn place_of(&self, name: u32) -> usize {
+        let mut found = 0;
+        for (place, symbol) in (0usize..).zip(self.known.scope.iter()) {
+            if symbol.name == name {
+                found = place;
+            }
+        }
+        found
+    }
+
+    /// The meaning of a name that the protected unit declares: inner declarations don't hide it (4.1.3, 8.3). It is faulty if the
+    /// object's variables can't be used here.
+    fn declared_in_unit(&self, name: u32) -> Option<Meaning> {
+        let mut found = None;
+        for symbol in self.known.scope.iter().skip(self.outside) {
+            if symbol.name == name
+                && (found.is_none() || matches!(symbol.meaning, Meaning::Faulty))
+            {
+                found = Some(symbol.meaning);
+            }
+        }
+        found
+    }
+
+    /// The meaning of a name that a package declares whose own name has this place: the first one after it, or else any other
+    /// outside of the protected unit.
+    fn declared_in_package(&self, package: usize, name: u32) -> Option<Meaning> {
+        let scope = self.known.scope.as_slice();
+        let outer = match self.unit {
+            Some(_) => scope.get(..self.outside).unwrap_or(scope),
+            None => scope,
+        };
+        let mut found = None;
+        for (place, symbol) in (0usize..).zip(outer.iter()) {
+            if symbol.name == name {
+                found = Some(symbol.meaning);
+                if place > package {
+                    break;
+                }
+            }
+        }
+        found
+    }
+
     /// `A.B`
     pub fn selected(&mut self, denoted: Denoted, component: Name) -> Result<Denoted, Stop> {
         match denoted {
-            Denoted::Package => self.named(component.place, component.number),
+            Denoted::Package(package) => {
+                let meaning = if self.unit == Some(package) {
+                    self.declared_in_unit(component.number)
+                } else {
+                    self.declared_in_package(package, component.number)
+                };
+                self.meant(component.place, component.number, meaning)
+            }
             Denoted::Part(part) => Ok(Denoted::Part(self.component(part, component)?)),
             _ => Err(
                 self.known.refuse(

@@ -39,7 +39,8 @@ pub enum Denoted {
     Operation(usize),
     /// An entry of a family: the operation, and the distance from the first entry.
     Member(usize, Expr),
-    Package,
+    /// A package or the protected unit, by the place of its name in the scope.
+    Package(usize),
 }
 
 /// A static value.
@@ -66,6 +67,8 @@ pub fn computed(kind: usize, code: Expr) -> Value {
 #[derive(Clone, Copy, Debug)]
 pub enum Operand<'a> {
     Written(&'a Expression),
+    /// A default, with how many names of the scope stand before its declaration: it uses no others.
+    Default(&'a Expression, usize),
     Number(usize, usize, i128),
 }
 
@@ -88,7 +91,7 @@ impl<'a> Operand<'a> {
     /// Its place in the text.
     pub fn place(self) -> usize {
         match self {
-            Operand::Written(expression) => expression.place,
+            Operand::Written(expression) | Operand::Default(expression, _) => expression.place,
             Operand::Number(place, _, _) => place,
         }
     }
