@@ -1,6 +1,12 @@
 --  Two protected units in a package that has much besides which scripts don't read.
 with Ada.Finalization; use Ada.Finalization;
+limited private with Ada.Text_IO;
 package Around is
+   package IO renames Ada.Text_IO;
+   type Lock is limited interface;
+   type Shared is protected interface and Lock;
+   procedure Take (Item : in out Shared) is abstract;
+   Lost : exception renames IO.End_Error;
    type Handle is access protected procedure (A : Integer; B : Integer);
    type Node;
    type Link is access Node;
@@ -23,6 +29,7 @@ package Around is
    function Start return Link is abstract;
    procedure Copy is new Links.Copy_All (Link => Link, Deep => True);
    procedure Again renames Finalize;
+   procedure Put_Line;
    protected Latch is
       entry Wait;
       procedure Open;
@@ -37,6 +44,17 @@ package Around is
    end Counter;
 end Around;
 package body Around is
+   procedure Put_Line is
+      package Numbers is new IO.Integer_IO (Integer);
+      package Inner renames Numbers;
+      type Handle is access protected procedure;
+   begin
+      Inner.Put (Limit);
+   exception
+      when E : others =>
+         IO.Put_Line (Ada.Exceptions.Exception_Message (E));
+   end Put_Line;
+   Limit : constant := 2;
    overriding procedure Finalize (Item : in out Leaf; By : access Node) is
       Half : Float := 0.5;
    begin
@@ -46,7 +64,12 @@ package body Around is
    protected body Latch is
       entry Wait when Is_Open is
       begin
-         null;
+         Is_Open := Limit = 2;
+      exception
+         when Failure : Constraint_Error | Program_Error =>
+            raise;
+         when Others_Too : others =>
+            null;
       end Wait;
       procedure Open is
       begin

@@ -34,6 +34,9 @@ fn no_type(word: Reserved) -> Option<&'static str> {
         Reserved::Tagged | Reserved::Abstract | Reserved::Interface => Some(
             "tagged types aren't in this subset: take a record (3.9)",
         ),
+        Reserved::Limited | Reserved::Synchronized | Reserved::Task | Reserved::Protected => Some(
+            "limited types and interfaces aren't in this subset (3.9.4, 7.5)",
+        ),
         _ => None,
     }
 }
@@ -146,6 +149,7 @@ impl<'a> Reader<'a> {
             return Err(self.no_colon(names.as_slice()));
         }
         if self.takes(Reserved::Exception) {
+            let names = before(names, self.no_renaming())?;
             return before(Declaration::Exceptions(names), self.semicolon());
         }
         self.takes(Reserved::Aliased);
@@ -180,14 +184,20 @@ impl<'a> Reader<'a> {
 
     /// Reads the initial value of variables, if they have one.
     fn value_of_variables(&mut self) -> Result<Option<Expression>, Stop> {
-        if self.sees(Reserved::Renames) {
-            let place = self.place();
-            return Err(self.refuse(
-                place,
-                "renaming isn't in this subset: use the first name (8.5)",
-            ));
-        }
+        self.no_renaming()?;
         self.initial_value()
+    }
+
+    /// Refuses a renaming.
+    fn no_renaming(&mut self) -> Result<(), Stop> {
+        if !self.sees(Reserved::Renames) {
+            return Ok(());
+        }
+        let place = self.place();
+        Err(self.refuse(
+            place,
+            "renaming isn't in this subset: use the first name (8.5)",
+        ))
     }
 
     fn subtype_declaration(&mut self) -> Result<Declaration, Stop> {

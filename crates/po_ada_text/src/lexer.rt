@@ -131,6 +131,15 @@ fn with_digit(number: u64, base: u64, digit: u8) -> Option<u64> {
     number.checked_mul(base)?.checked_add(u64::from(digit))
 }
 
+/// How many bytes the mark takes with which editors begin a text in UTF-8.
+fn mark_length(text: &[u8]) -> usize {
+    if text.starts_with(&[0xEF, 0xBB, 0xBF]) {
+        3
+    } else {
+        0
+    }
+}
+
 /// What a lexer returns: the elements and the names of a text.
 #[derive(Drop)]
 pub struct Lexed {
@@ -402,7 +411,7 @@ pub fn cut(alloc: Global, text: &[u8], faults: &mut Faults) -> Result<Lexed, Sto
     let mut lexer = Lexer {
         alloc,
         text,
-        next: 0,
+        next: mark_length(text),
         elements: Vec::new(alloc),
         names,
         faults,

@@ -282,11 +282,28 @@ impl<'a> Reader<'a> {
         }
     }
 
+    /// Whether a protected unit comes this far ahead. `protected` can also be a word of an access type or of an interface (3.9.4, 3.10).
+    pub fn is_protected_at(&self, distance: usize) -> bool {
+        self.ahead(distance) == Element::Reserved(Reserved::Protected)
+            && !matches!(
+                self.ahead(distance.saturating_add(1)),
+                Element::Reserved(Reserved::Interface)
+                    | Element::Reserved(Reserved::Procedure)
+                    | Element::Reserved(Reserved::Function)
+            )
+    }
+
+    /// Whether a package with items of its own comes next: no instance of a generic one (12.3), and no renaming (8.5.3).
+    fn sees_package(&self) -> bool {
+        let is_instance = self.ahead(2) == Element::Reserved(Reserved::Is)
+            && self.ahead(3) == Element::Reserved(Reserved::New);
+        let is_renaming = self.ahead(2) == Element::Reserved(Reserved::Renames);
+        self.sees(Reserved::Package) && !is_instance && !is_renaming
+    }
+
     /// Whether a protected unit or a package comes next, or the end of the text: no subprogram goes on past it.
     pub fn sees_unit(&self) -> bool {
-        self.sees(Reserved::Protected)
-            || self.sees(Reserved::Package)
-            || self.peek() == Element::End
+        self.is_protected_at(0) || self.sees_package() || self.peek() == Element::End
     }
 
     /// Whether what comes next is no part of a declaration that has begun, however faulty that is.

@@ -16,6 +16,13 @@ use std::alloc::{AllocError, Global};
 /// A text has at most this many bytes.
 pub const MOST_BYTES: usize = 16_777_216;
 
+/// Why the names of an instance of a generic package aren't read.
+const INSTANCE: &str = "an instance of a generic package isn't in this subset (12.3)";
+
+/// Why the names of a renamed package aren't read.
+const RENAMING: &str =
+    "renaming a package isn't in this subset: write the package's own name (8.5.3)";
+
 /// The search for protected units in main programs looks at no more than this many elements for each element of the text.
 const MOST_LOOKS: usize = 16;
 
@@ -98,8 +105,13 @@ impl<'a> Reader<'a> {
                 self.step();
                 Ok(None)
             }
-            Element::Reserved(Reserved::Private) => {
+            Element::Reserved(Reserved::Private) | Element::Reserved(Reserved::Limited) => {
                 self.step();
+                Ok(None)
+            }
+            // A body that stands apart from its unit: `separate (PARENT)` comes before it (10.1.3).
+            Element::Reserved(Reserved::Separate) => {
+                self.skip_parenthesis();
                 Ok(None)
             }
             Element::Reserved(Reserved::End) => {
@@ -179,26 +191,36 @@ impl<'a> Reader<'a> {
         self.step();
         self.takes(Reserved::Body);
         let name = self.unit_name()?;
+        if self.sees(Reserved::Renames) {
+            return Ok(Some(self.brief_package(name, RENAMING)?));
+        }
         self.ignored_aspects()?;
         self.needs(Reserved::Is)?;
         if self.sees(Reserved::New) {
-            return Ok(Some(self.instance(name)?));
+            return Ok(Some(self.brief_package(name, INSTANCE)?));
         }
         Ok(Some(Item::Package(name)))
     }
 
-    /// Passes over an instance of a generic package.
-    fn instance(&mut self, name: Name) -> Result<Item, AllocError> {
-        let message = String::from_str(
-            self.alloc,
-            "an instance of a generic package isn't in this subset (12.3)",
-        )?;
+    /// Passes over a package without items of its own, which is told if an operation uses it.
+    fn brief_package(&mut self, name: Name, message: &str) -> Result<Item, AllocError> {
+        let message = String::from_str(self.alloc, message)?;
         self.skip_declaration();
         let fault = Some(Fault {
             place: name.place,
             message,
         });
         Ok(Item::Unread(Unread { name, fault }))
+    }
+
+    /// Goes on past the next closing parenthesis.
+    fn skip_parenthesis(&mut self) {
+        for _ in 0..self.turns() {
+            if self.takes_sign(Sign::RightParenthesis) || self.peek() == Element::End {
+                break;
+            }
+            self.step();
+        }
     }
 
     /// Whether a main program comes next, with a protected unit before its end.
@@ -285,13 +307,8 @@ impl<'a> Reader<'a> {
             self.takes(Reserved::TypeWord);
         }
         let name = self.name("a task's name")?;
-        if self.takes_sign(Sign::LeftParenthesis) {
-            for _ in 0..self.turns() {
-                if self.takes_sign(Sign::RightParenthesis) || self.peek() == Element::End {
-                    break;
-                }
-                self.step();
-            }
+        if self.sees_sign(Sign::LeftParenthesis) {
+            self.skip_parenthesis();
         }
         if self.skip_to(Reserved::Is) {
             self.skip_unit(name);
@@ -320,11 +337,10 @@ impl<'a> Reader<'a> {
                 return false;
             }
             self.looks -= 1;
-            let element = self.ahead(distance);
-            let is_type = last == Element::Reserved(Reserved::Access);
-            if element == Element::Reserved(Reserved::Protected) && !is_type {
+            if self.is_protected_at(distance) {
                 return true;
             }
+            let element = self.ahead(distance);
             let ends = last == Element::Reserved(Reserved::End) && element == name;
             if ends || element == Element::End {
                 return false;

@@ -194,8 +194,8 @@ impl<'a> Reader<'a> {
         Ok(Statement { place, action })
     }
 
-    /// Reads the name of a loop or a block and its colon, if they come next.
-    fn statement_name(&mut self) -> Result<Option<Name>, Stop> {
+    /// Reads a name and its colon, if they come next: that of a loop, of a block or of an exception occurrence.
+    fn name_before_colon(&mut self) -> Result<Option<Name>, Stop> {
         if self.ahead(1) != Element::Sign(Sign::Colon) {
             return Ok(None);
         }
@@ -210,7 +210,7 @@ impl<'a> Reader<'a> {
     /// Reads what a statement does.
     #[cycle(blocks)]
     fn action(&mut self, levels: usize) -> Result<Action, Stop> {
-        let name = self.statement_name()?;
+        let name = self.name_before_colon()?;
         match self.peek() {
             Element::Reserved(Reserved::Loop)
             | Element::Reserved(Reserved::While)
@@ -504,8 +504,11 @@ impl<'a> Reader<'a> {
         for _ in 0..self.turns() {
             let place = self.place();
             self.needs(Reserved::When)?;
+            let occurrence = self.name_before_colon()?;
             let exceptions = self.handled()?;
+            let start = self.next;
             let statements = self.statements(levels)?;
+            self.needs_unused(occurrence, start)?;
             self.needs_last(exceptions.is_empty())?;
             handlers.push(Handler {
                 place,
@@ -522,18 +525,33 @@ impl<'a> Reader<'a> {
         })
     }
 
+    /// Tells a fault if the exception occurrence of this name is used in the handler, whose statements begin with this element: what can
+    /// be done with it isn't read.
+    fn needs_unused(&mut self, occurrence: Option<Name>, start: usize) -> Result<(), Stop> {
+        let Some(place) = occurrence.and_then(|name| self.use_of(name, start)) else {
+            return Ok(());
+        };
+        go_on(self.refuse(
+            place,
+            "exception occurrences aren't in this subset: leave out what uses it (11.4.1)",
+        ))
+    }
+
+    /// The place of this name between the element with this number and the next one to be read.
+    fn use_of(&self, name: Name, start: usize) -> Option<usize> {
+        for number in start..self.next {
+            if let Some(placed) = self.elements.get(number) {
+                if placed.element == Element::Name(name.number) {
+                    return Some(placed.place);
+                }
+            }
+        }
+        None
+    }
+
     /// Reads the exceptions of a handler, up to `=>`; none for `others`.
     fn handled(&mut self) -> Result<Vec<Expression>, Stop> {
         let mut list = Vec::new(self.alloc);
-        if matches!(self.peek(), Element::Name(_)) && self.ahead(1) == Element::Sign(Sign::Colon) {
-            let place = self.place();
-            go_on(self.refuse(
-                place,
-                "a name for the exception occurrence isn't in this subset: write 'when E =>' (11.2)",
-            ))?;
-            self.step();
-            self.step();
-        }
         if !self.takes(Reserved::Others) {
             for _ in 0..self.turns() {
                 list.push(self.name_expression(MOST_LEVELS)?)?;

@@ -329,6 +329,13 @@ impl<'a> Reader<'a> {
         let name = self.name("the name of the protected unit")?;
         self.ignored_aspects()?;
         self.needs(Reserved::Is)?;
+        if self.sees(Reserved::Separate) {
+            let place = self.place();
+            return Err(self.refuse(
+                place,
+                "the body is in another file, which isn't read (10.1.3): write it here",
+            ));
+        }
         let mut bodies = Vec::new(self.alloc);
         for _ in 0..self.turns() {
             if self.takes(Reserved::Pragma) {
