@@ -31,8 +31,8 @@ changed_crates() {
   done
 }
 
-# Whether a crate has only tests: in form it is a library, but nothing depends on it.
-is_tests_alone() { [[ $1 == test_* && -f crates/$1/src/lib.rt ]]; }
+# Whether a crate has only tests that `./test` runs, and nothing depends on it: in form a library, or a program of tests.sh.
+is_tests_alone() { [[ " ${text_tests[*]} " == *" $1 "* || $1 == test_* && -f crates/$1/src/lib.rt ]]; }
 
 # Removes from the copy the crates that have only tests: `./test` has run them, with a check at each operation.
 leave_out_tests() {

@@ -1,6 +1,10 @@
 # SPDX-License-Identifier: MIT
 # shellcheck shell=bash
-# The #[test] functions of the crates, run with a check at each operation and no proof. Read by `test`.
+# The #[test] functions of the crates, and programs that are tests alone, run with a check at each operation and no proof. Read by
+# `test`.
+
+# The programs that are tests alone: each reads Ada texts from its file stdin.
+text_tests=(test_texts test_hints test_syntax)
 
 # The crates that have tests, those with the most tests first.
 crates_with_tests() {
@@ -24,6 +28,18 @@ tests() {
   sed -nE 's/^test result: .* ([0-9]+ passed); ([0-9]+ failed);.*/\1, \2/p' "$scratch/tests-$1" >"$scratch/counts-$1"
   count "$scratch/counts-$1" "rt try --test in $1"
   [ "$status" -eq 0 ] || fail "rt try --test in $1 ended with status $status: $(cat "$scratch/tests-$1")"
+}
+
+# Runs such a program. It has to write what its file stdout has.
+program() {
+  local words=()
+  [ ! -f "crates/$1/args" ] || mapfile -t words <"crates/$1/args"
+  (cd "crates/$1" && rt try --seconds 600 -- "${words[@]}" <stdin) >"$scratch/program-$1" 2>"$scratch/said-$1"
+  if cmp -s "crates/$1/stdout" "$scratch/program-$1"; then
+    pass
+  else
+    fail "crates/$1 doesn't write what its file stdout has: $(diff "crates/$1/stdout" "$scratch/program-$1" | head -n 20) $(tail -n 3 "$scratch/said-$1")"
+  fi
 }
 
 # Whether the files of a crate are laid out as by `rt fmt`.
