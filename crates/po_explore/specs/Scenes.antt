@@ -1,6 +1,6 @@
 -- SPDX-License-Identifier: MIT
 -- What an order of the callers' commands does to the objects of a scene.
-use Rattle.std.specs.Prelude.{ℕ, zero, suc, ◌≡◌, ◌≢◌, ◌⊎◌, ◌<◌, List, [], ◌∷◌, map, length, replicate, All, Option, Some, None, Bool, true, false, ◌||◌, is_some, option_map, string_bytes, vec_len, find, slice_get, slice_index, slice_set, if◌then◌else◌}
+use Rattle.std.specs.Prelude.{ℕ, zero, suc, ◌≡◌, ◌≢◌, ◌⊎◌, ◌<◌, List, [], ◌∷◌, map, length, replicate, Option, Some, None, Bool, true, false, ◌||◌, is_some, option_map, string_bytes, vec_len, find, slice_get, slice_index, slice_set, if◌then◌else◌}
 use Rattle.po_engine.specs.Finding.{IsFound}
 use Rattle.po_engine.specs.WaitingCalls.{is_of}
 use Rattle.po_core.specs.View.{View, opening_view}
@@ -18,12 +18,7 @@ use Rattle.po_scene.specs.declared.scene.Caller.{Caller}
 use Rattle.po_scene.specs.declared.scene.Command.{Command}
 use Rattle.po_scene.specs.declared.scene.Action.{Action}
 use Rattle.po_scene.specs.declared.scene.Action.TheVariants.{Operate, Abort, Tick}
-use Rattle.po_explore.specs.declared.finding.Found.{Found}
-use Rattle.po_explore.specs.declared.finding.Kind.{Kind}
-use Rattle.po_explore.specs.declared.finding.Kind.TheVariants.{Stuck, Raised, ProgramError, Refused, Invariant, Completed, Cancelled}
 use Rattle.po_explore.specs.declared.invariants.TheConstants.{INVARIANT}
-use Rattle.po_explore.specs.declared.report.Verdict.{Verdict}
-use Rattle.po_explore.specs.declared.report.Verdict.TheVariants.{Found as FoundVerdict, Clean, CutOff}
 use Rattle.po_explore.specs.declared.stage.Stage.{Stage}
 use Rattle.po_explore.specs.Commands.{value_cells, no_values, after_operation, after_asking, after_abort, function_holds}
 
@@ -180,27 +175,3 @@ IsBrokenAt None view function = ⊥
 abbrev pub IsBroken : Scene → List ObjectView → ℕ → ℕ → Type 0
 IsBroken scene views object function =
     IsBrokenAt (slice_get scene.objects.items object) (slice_get views object) function
-
--- What is found is so. Of exceptions, of Program_Error, of refusals and of answers nothing is said here.
-abbrev pub Shows : Scene → StageView → Kind → Type 0
-Shows scene stage Stuck = IsStuck scene stage
-Shows scene stage (Raised exception) = Unit
-Shows scene stage ProgramError = Unit
-Shows scene stage (Refused refusal) = Unit
-Shows scene stage (Completed number values) = Unit
-Shows scene stage (Cancelled number) = Unit
-Shows scene stage (Invariant object function) = IsBroken scene stage.views object function
-
--- Each thing found is so.
-abbrev pub AllShown : Scene → StageView → List Found → Type 0
-AllShown scene stage list = All (λ f. Shows scene stage f.kind) list
-
--- From the scene's beginning the callers' commands in this order lead to what is found.
-abbrev pub LeadsTo : Scene → List ℕ → Kind → Type 0
-LeadsTo scene order kind = (first : StageView) × IsBeginning scene first × Shows scene (after_order scene first order) kind
-
--- how a search ended: whether something was found, and else whether it says that it is complete
-abbrev pub verdict_by : Bool → Bool → Verdict
-verdict_by true is_complete = FoundVerdict
-verdict_by false true = Clean
-verdict_by false false = CutOff

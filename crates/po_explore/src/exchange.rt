@@ -50,14 +50,39 @@ fn named_callers(alloc: Global, scene: &Scene) -> Result<Vec<bool>, AllocError> 
     Ok(named)
 }
 
-/// Returns whether these callers have the same commands.
+/// Returns whether a repetition begins with the command that has this position: its line isn't after that of the one before.
+fn is_again(caller: &Caller, position: usize) -> bool {
+    let Some(before) = position.checked_sub(1) else {
+        return false;
+    };
+    match (caller.commands.get(before), caller.commands.get(position)) {
+        (Some(last), Some(next)) => next.line <= last.line,
+        _ => false,
+    }
+}
+
+/// Returns whether these callers have the same command with this position, and a repetition begins there for both or for neither.
+fn have_same_command(scene: &Scene, one: &Caller, other: &Caller, position: usize) -> bool {
+    match (one.commands.get(position), other.commands.get(position)) {
+        (Some(own), Some(same)) => {
+            scene.words_at(own.line) == scene.words_at(same.line)
+                && is_again(one, position) == is_again(other, position)
+        }
+        _ => false,
+    }
+}
+
+/// Returns whether these callers have the same commands, and repeat the same: so each line of one stands for one line of the other.
 fn have_same_commands(scene: &Scene, one: &Caller, other: &Caller) -> bool {
-    one.commands.len() == other.commands.len()
-        && one
-            .commands
-            .iter()
-            .zip(other.commands.iter())
-            .all(|(a, b)| scene.words_at(a.line) == scene.words_at(b.line))
+    if one.commands.len() != other.commands.len() {
+        return false;
+    }
+    for position in 0..one.commands.len() {
+        if !have_same_command(scene, one, other, position) {
+            return false;
+        }
+    }
+    true
 }
 
 /// Returns the first caller with the same commands as this one; the caller itself if a command names one of them.

@@ -1,8 +1,10 @@
 // SPDX-License-Identifier: MIT
 //! The functions that say what has to hold.
 
-ghost use Rattle.std.specs.Prelude.{IsTrue, Some, slice_get, IfSome, OnOk};
-ghost use Rattle.po_explore.specs.Scenes.{views_of, stage_of, IsInvariant, IsBrokenAt, IsBroken, AllShown};
+ghost use Rattle.std.specs.Prelude.{IsTrue, List, Some, slice_get, IfSome, OnOk};
+ghost use Rattle.po_explore.specs.Scenes.{views_of, stage_of, IsInvariant, IsBrokenAt, IsBroken};
+ghost use Rattle.po_explore.specs.Findings.{AllShown};
+ghost use Rattle.po_explore.specs.declared.news.News.{News};
 
 use crate::finding::{Found, Kind};
 use crate::object::Object;
@@ -83,8 +85,8 @@ fn push_broken(
     object: u16,
     list: &mut Vec<Found>,
 ) -> Result<(), AllocError>
-    requires { AllShown scene.now (stage_of stage.now) list.old.items }
-    ensures { OnOk result (AllShown scene.now (stage_of stage.now) list.new.items) }
+    ensures { (told : List News) → AllShown scene.now (stage_of stage.now) told list.old.items
+        → OnOk result (AllShown scene.now (stage_of stage.now) told list.new.items) }
 {
     match broken(scene, stage, object) {
         Some(function) => {
@@ -102,8 +104,8 @@ pub(crate) fn broken_invariants(
     stage: &Stage,
     list: &mut Vec<Found>,
 ) -> Result<(), AllocError>
-    requires { AllShown scene.now (stage_of stage.now) list.old.items }
-    ensures { OnOk result (AllShown scene.now (stage_of stage.now) list.new.items) }
+    ensures { (told : List News) → AllShown scene.now (stage_of stage.now) told list.old.items
+        → OnOk result (AllShown scene.now (stage_of stage.now) told list.new.items) }
 {
     for object in 0..object_count(scene) {
         push_broken(scene, stage, object, list)?;

@@ -1,9 +1,11 @@
 // SPDX-License-Identifier: MIT
 //! What a command brings about.
 
-ghost use Rattle.std.specs.Prelude.{IfSome, OnOk};
-ghost use Rattle.po_explore.specs.Scenes.{stage_of, Shows, AllShown, StageView};
-ghost use Rattle.po_scene.specs.declared.scene.Scene.{Scene};
+ghost use Rattle.std.specs.Prelude.{◌≡◌, ◌<◌, IfSome, List, OnOk, length};
+ghost use Rattle.po_explore.specs.Scenes.{stage_of};
+ghost use Rattle.po_explore.specs.News.{kind_of, answer_of};
+ghost use Rattle.po_explore.specs.Findings.{line_of, Shows, AllShown};
+ghost use Rattle.po_explore.specs.declared.finding.Found.{Found};
 
 use crate::finding::{Found, Kind};
 use crate::stage::Stage;
@@ -34,9 +36,9 @@ pub(crate) enum Event {
 }
 
 impl Event {
-    /// Returns what this is, if it is to be told.
+    /// Returns what is found if this happens, if something is wrong with it.
     pub(crate) fn kind(&self) -> Option<Kind>
-        ensures { (scene : Scene) (stage : StageView) → IfSome result (λ kind. Shows scene stage kind) }
+        ensures { result ≡ kind_of self.now }
     {
         match self {
             Event::Ended(End::Raised(exception))
@@ -52,7 +54,7 @@ impl Event {
 
     /// Returns the answer that this is to the caller's command with this number, if it is one with which nothing is wrong.
     pub(crate) fn answer(&self, number: u32) -> Option<Kind>
-        ensures { (scene : Scene) (stage : StageView) → IfSome result (λ kind. Shows scene stage kind) }
+        ensures { result ≡ answer_of self.now number }
     {
         match self {
             Event::Ended(End::Completed(values)) | Event::Replied(Ok(values)) => {
@@ -74,7 +76,7 @@ impl Event {
     }
 }
 
-/// Adds what a command of the caller is found to bring about, if something is.
+/// Adds what is found of the caller's latest command, if something is.
 fn push_kind(
     scene: &Scene,
     stage: &Stage,
@@ -82,9 +84,9 @@ fn push_kind(
     kind: Option<Kind>,
     list: &mut Vec<Found>,
 ) -> Result<(), AllocError>
-    requires shown { IfSome kind (λ k. Shows scene.now (stage_of stage.now) k) }
-    requires all { AllShown scene.now (stage_of stage.now) list.old.items }
-    ensures { OnOk result (AllShown scene.now (stage_of stage.now) list.new.items) }
+    ensures { OnOk result ((told : List News) → AllShown scene.now (stage_of stage.now) told list.old.items
+        → IfSome kind (λ k. Shows scene.now (stage_of stage.now) told (record { kind = k; line = line_of scene.now (stage_of stage.now) caller }))
+        → AllShown scene.now (stage_of stage.now) told list.new.items) }
 {
     match kind {
         Some(kind) => {
@@ -96,6 +98,39 @@ fn push_kind(
     }
 }
 
+/// Adds what the news with this position tells, if it is wrong.
+fn push_wrong(
+    scene: &Scene,
+    stage: &Stage,
+    news: &[News],
+    position: usize,
+    list: &mut Vec<Found>,
+) -> Result<(), AllocError>
+    requires position { position < length news.now }
+    requires shown { AllShown scene.now (stage_of stage.now) news.now list.old.items }
+    ensures { OnOk result (AllShown scene.now (stage_of stage.now) news.now list.new.items) }
+{
+    let told = news[position];
+    push_kind(scene, stage, told.caller, told.event.kind(), list)
+}
+
+/// Adds the answer that the news with this position tells, if nothing is wrong with it.
+fn push_answer(
+    scene: &Scene,
+    stage: &Stage,
+    news: &[News],
+    position: usize,
+    list: &mut Vec<Found>,
+) -> Result<(), AllocError>
+    requires position { position < length news.now }
+    requires shown { AllShown scene.now (stage_of stage.now) news.now list.old.items }
+    ensures { OnOk result (AllShown scene.now (stage_of stage.now) news.now list.new.items) }
+{
+    let told = news[position];
+    let answer = told.event.answer(stage.made(told.caller));
+    push_kind(scene, stage, told.caller, answer, list)
+}
+
 /// Adds what the news tells that is wrong, after the command that brought it about.
 pub(crate) fn found_in(
     scene: &Scene,
@@ -103,11 +138,11 @@ pub(crate) fn found_in(
     news: &[News],
     list: &mut Vec<Found>,
 ) -> Result<(), AllocError>
-    requires { AllShown scene.now (stage_of stage.now) list.old.items }
-    ensures { OnOk result (AllShown scene.now (stage_of stage.now) list.new.items) }
+    requires { AllShown scene.now (stage_of stage.now) news.now list.old.items }
+    ensures { OnOk result (AllShown scene.now (stage_of stage.now) news.now list.new.items) }
 {
-    for told in news {
-        push_kind(scene, stage, told.caller, told.event.kind(), list)?;
+    for position in 0..news.len() {
+        push_wrong(scene, stage, news, position, list)?;
     }
     Ok(())
 }
@@ -119,12 +154,11 @@ pub(crate) fn answers_in(
     news: &[News],
     list: &mut Vec<Found>,
 ) -> Result<(), AllocError>
-    requires { AllShown scene.now (stage_of stage.now) list.old.items }
-    ensures { OnOk result (AllShown scene.now (stage_of stage.now) list.new.items) }
+    requires { AllShown scene.now (stage_of stage.now) news.now list.old.items }
+    ensures { OnOk result (AllShown scene.now (stage_of stage.now) news.now list.new.items) }
 {
-    for told in news {
-        let answer = told.event.answer(stage.made(told.caller));
-        push_kind(scene, stage, told.caller, answer, list)?;
+    for position in 0..news.len() {
+        push_answer(scene, stage, news, position, list)?;
     }
     Ok(())
 }

@@ -1,9 +1,12 @@
 // SPDX-License-Identifier: MIT
 //! An object of a scene between two commands.
 
-ghost use Rattle.std.specs.Prelude.{◌≡◌, ◌⊎◌, ℕ, List, Some, false, is_some, find, replicate, option_map, IfOk, IfErr, OnOk};
+ghost use Rattle.std.specs.Prelude.{◌≡◌, ◌⊎◌, ◌∷◌, ◌++◌, [], ℕ, List, Some, false, is_some, find, replicate, option_map, map, IfOk, IfErr, OnOk};
 ghost use Rattle.po_engine.specs.WaitingCalls.{is_of};
+ghost use Rattle.po_core.specs.View.{ended_now};
+ghost use Rattle.po_core.specs.Refusals.{finalized_refusal};
 ghost use Rattle.po_ada_unit.specs.Object.{ada_meaning};
+ghost use Rattle.po_explore.specs.News.{news as the_news, end_news, operation_news, asking_news, abort_news, tick_news};
 ghost use Rattle.po_explore.specs.Scenes.{IsOpening, CantBeMade};
 ghost use Rattle.po_explore.specs.Commands.{is_want, value_cells, no_values, after_operation, after_asking, after_abort, function_holds};
 
@@ -13,7 +16,7 @@ use po_ada_language::{Operation, Stop, no_object};
 use po_ada_names::ObjectNames;
 use po_ada_script::{failed_precondition, shape_of, smaller};
 use po_ada_unit::{AdaUnit, Values};
-use po_core::{BoundedCore, Core, Deadline, End, MakeError, Refusal, Start, Ticket};
+use po_core::{BoundedCore, Core, Deadline, Ended, MakeError, Refusal, Start, Ticket};
 use po_scene::SceneObject;
 use po_unit::{EntryRef, Unit};
 use std::alloc::{AllocError, Global};
@@ -54,14 +57,41 @@ fn core_of(
     }
 }
 
-/// Returns what is told of a refusal. Running out of room for calls or of numbers is an error instead.
-fn refused(refusal: Refusal) -> Result<Event, AllocError>
-    ensures { OnOk result (is_want refusal ≡ false) }
+/// Returns a refusal that is told. Running out of memory, of room for calls or of numbers is an error instead.
+fn told(refusal: Refusal) -> Result<Refusal, AllocError>
+    ensures told { OnOk result (is_want refusal ≡ false) }
+    ensures same { IfOk result (λ same. same ≡ refusal) }
 {
     match refusal {
         Refusal::OutOfMemory | Refusal::TooManyCalls | Refusal::NumbersSpent => Err(AllocError),
-        _ => Ok(Event::Refused(refusal)),
+        _ => Ok(refusal),
     }
+}
+
+/// Adds what a caller is told.
+fn push_event(caller: u16, event: Event, news: &mut Vec<News>) -> Result<(), AllocError>
+    ensures { OnOk result (news.new.items ≡ news.old.items ++ the_news caller event ∷ []) }
+{
+    news.push(News { caller, event })?;
+    Ok(())
+}
+
+/// Adds how these calls have ended.
+fn push_ends(all: &[Ended<Values>], news: &mut Vec<News>) -> Result<(), AllocError>
+    ensures { OnOk result (news.new.items ≡ news.old.items ++ map end_news all.now) }
+{
+    for ended in all {
+        push_event(ended.owner, Event::Ended(ended.end), news)?;
+    }
+    Ok(())
+}
+
+/// Adds a refusal of a caller's operation, if it is told.
+fn push_refused(caller: u16, refusal: Refusal, news: &mut Vec<News>) -> Result<(), AllocError>
+    ensures told { OnOk result (is_want refusal ≡ false) }
+    ensures added { OnOk result (news.new.items ≡ news.old.items ++ the_news caller (Event.Refused refusal) ∷ []) }
+{
+    push_event(caller, Event::Refused(told(refusal)?), news)
 }
 
 impl Object {
@@ -107,32 +137,38 @@ impl Object {
         self.core.waiting_number_of(caller)
     }
 
-    /// Collects the call of the caller, if it has ended. Returns how.
-    fn ended(&mut self, caller: u16) -> Option<End<Values>>
+    /// Collects the call of the caller, if it has ended.
+    fn collect_of(&mut self, caller: u16)
         ensures { self.new.core.object ≡ self.old.core.object }
     {
-        let ticket = (*self.tickets.get(usize::from(caller))?)?;
-        let end = self.core.collect(ticket)?;
-        if let Some(kept) = self.tickets.get_mut(usize::from(caller)) {
+        if let Some(kept) = self.tickets.get_mut(usize::from(caller))
+            && let Some(ticket) = *kept
+            && self.core.collect(ticket).is_some()
+        {
             *kept = None;
         }
-        Some(end)
     }
 
-    /// Collects all calls that have ended, and adds how.
-    fn collect(&mut self, news: &mut Vec<News>) -> Result<(), AllocError>
+    /// Collects all calls that have ended, so that there is room for others.
+    fn collect(&mut self)
         ensures { self.new.core.object ≡ self.old.core.object }
     {
         for caller in 0..self.callers {
-            if let Some(end) = self.ended(caller) {
-                let event = Event::Ended(end);
-                news.push(News { caller, event })?;
-            }
+            self.collect_of(caller);
         }
+    }
+
+    /// Adds how the calls ended that the last command ended, and collects them.
+    fn end(&mut self, news: &mut Vec<News>) -> Result<(), AllocError>
+        ensures object { OnOk result (self.new.core.object ≡ self.old.core.object) }
+        ensures told { OnOk result (news.new.items ≡ news.old.items ++ map end_news (ended_now self.old.core.object)) }
+    {
+        push_ends(self.core.ended_now(), news)?;
+        self.collect();
         Ok(())
     }
 
-    /// Issues a call. Returns its refusal, if it is refused.
+    /// Issues a call, and adds what that brings about.
     #[tactic(auto, using(crate::proofs::Refused::call_refused_or, crate::proofs::Refused::let_pass))]
     fn call(
         &mut self,
@@ -140,100 +176,123 @@ impl Object {
         entry: EntryRef,
         value: Values,
         deadline: Deadline,
-    ) -> Result<Option<Event>, AllocError>
-        ensures { OnOk result (self.new.core.object ≡ after_operation ada_meaning self.old.core.object caller (Operation.Call entry value deadline)) }
+        news: &mut Vec<News>,
+    ) -> Result<(), AllocError>
+        ensures object { OnOk result (self.new.core.object ≡ after_operation ada_meaning self.old.core.object caller (Operation.Call entry value deadline)) }
+        ensures told { OnOk result (news.new.items ≡ news.old.items ++ operation_news self.old.core.object caller (Operation.Call entry value deadline)) }
     {
         match self.core.issue(caller, entry, value, deadline) {
             Ok(ticket) => {
                 if let Some(kept) = self.tickets.get_mut(usize::from(caller)) {
                     *kept = Some(ticket);
                 }
-                Ok(None)
+                self.end(news)
             }
-            Err(refusal) => Ok(Some(refused(refusal)?)),
+            Err(refusal) => push_refused(caller, refusal, news),
         }
     }
 
-    /// Runs a procedure.
+    /// Runs a procedure, and adds what that brings about.
     #[tactic(auto, using(crate::proofs::Refused::refused_or))]
     fn procedure(
         &mut self,
         caller: u16,
         op: u16,
         value: Values,
-    ) -> Result<Option<Event>, AllocError>
-        ensures { OnOk result (self.new.core.object ≡ after_operation ada_meaning self.old.core.object caller (Operation.Procedure op value)) }
+        news: &mut Vec<News>,
+    ) -> Result<(), AllocError>
+        ensures object { OnOk result (self.new.core.object ≡ after_operation ada_meaning self.old.core.object caller (Operation.Procedure op value)) }
+        ensures told { OnOk result (news.new.items ≡ news.old.items ++ operation_news self.old.core.object caller (Operation.Procedure op value)) }
     {
         match self.core.procedure(caller, op, value) {
-            Ok(reply) => Ok(Some(Event::Replied(reply))),
-            Err(refusal) => Ok(Some(refused(refusal)?)),
+            Ok(reply) => {
+                push_event(caller, Event::Replied(reply), news)?;
+                self.end(news)
+            }
+            Err(refusal) => push_refused(caller, refusal, news),
         }
     }
 
-    /// Calls a function. Nothing changes.
-    fn function(&self, op: u16, value: Values) -> Result<Option<Event>, AllocError> {
+    /// Calls a function, and adds its reply. Nothing changes.
+    fn function(
+        &self,
+        caller: u16,
+        op: u16,
+        value: Values,
+        news: &mut Vec<News>,
+    ) -> Result<(), AllocError>
+        ensures { OnOk result (news.new.items ≡ news.old.items ++ operation_news self.now.core.object caller (Operation.Function op value)) }
+    {
         match self.core.function(op, value) {
-            Ok(reply) => Ok(Some(Event::Replied(reply))),
-            Err(refusal) => Ok(Some(refused(refusal)?)),
+            Ok(reply) => push_event(caller, Event::Replied(reply), news),
+            Err(refusal) => push_refused(caller, refusal, news),
         }
     }
 
-    /// Raises the clock, and says if that is refused.
+    /// Raises the clock, and adds what that brings about. Returns the refusal, if there is one.
     #[tactic(auto, using(crate::proofs::Refused::tick_refused_or, crate::proofs::Refused::let_pass))]
-    fn raise_clock(&mut self, time: u64) -> Result<Option<Event>, AllocError>
+    fn raise_clock(
+        &mut self,
+        time: u64,
+        news: &mut Vec<News>,
+    ) -> Result<Option<Refusal>, AllocError>
         // Whose tick it is changes nothing.
-        ensures { OnOk result (self.new.core.object ≡ after_operation ada_meaning self.old.core.object 0 (Operation.Tick time)) }
+        ensures object { OnOk result (self.new.core.object ≡ after_operation ada_meaning self.old.core.object 0 (Operation.Tick time)) }
+        ensures told { OnOk result (news.new.items ≡ news.old.items ++ tick_news time self.old.core.object) }
+        ensures refused { IfOk result (λ refusal. refusal ≡ finalized_refusal self.old.core.object) }
     {
         match self.core.tick(time) {
-            Ok(_clock) => Ok(None),
-            Err(refusal) => Ok(Some(refused(refusal)?)),
+            Ok(_clock) => {
+                self.end(news)?;
+                Ok(None)
+            }
+            Err(refusal) => Ok(Some(told(refusal)?)),
         }
     }
 
-    /// Finalizes the object.
-    fn finalize(&mut self) -> Result<Option<Event>, AllocError>
-        ensures { OnOk result (self.new.core.object ≡ after_operation ada_meaning self.old.core.object 0 Operation.Finalize) }
+    /// Raises the clock for a caller, and adds what that brings about.
+    fn tick_of(&mut self, caller: u16, time: u64, news: &mut Vec<News>) -> Result<(), AllocError>
+        ensures object { OnOk result (self.new.core.object ≡ after_operation ada_meaning self.old.core.object caller (Operation.Tick time)) }
+        ensures told { OnOk result (news.new.items ≡ news.old.items ++ operation_news self.old.core.object caller (Operation.Tick time)) }
+    {
+        match self.raise_clock(time, news)? {
+            Some(refusal) => push_event(caller, Event::Refused(refusal), news),
+            None => Ok(()),
+        }
+    }
+
+    /// Finalizes the object, and adds what that brings about.
+    fn finalize(&mut self, caller: u16, news: &mut Vec<News>) -> Result<(), AllocError>
+        ensures object { OnOk result (self.new.core.object ≡ after_operation ada_meaning self.old.core.object caller Operation.Finalize) }
+        ensures told { OnOk result (news.new.items ≡ news.old.items ++ operation_news self.old.core.object caller Operation.Finalize) }
     {
         match self.core.finalize() {
-            Ok(()) => Ok(None),
-            Err(refusal) => Ok(Some(refused(refusal)?)),
+            Ok(()) => self.end(news),
+            Err(refusal) => push_event(caller, Event::Refused(refusal), news),
         }
     }
 
-    /// Carries out the operation. Returns what is told of it at once.
+    /// Carries out the operation of a caller, and adds what it brings about.
     fn carry_out(
         &mut self,
         caller: u16,
         operation: Operation<Values>,
-    ) -> Result<Option<Event>, AllocError>
-        ensures { OnOk result (self.new.core.object ≡ after_operation ada_meaning self.old.core.object caller operation) }
+        news: &mut Vec<News>,
+    ) -> Result<(), AllocError>
+        ensures object { OnOk result (self.new.core.object ≡ after_operation ada_meaning self.old.core.object caller operation) }
+        ensures told { OnOk result (news.new.items ≡ news.old.items ++ operation_news self.old.core.object caller operation) }
     {
         match operation {
             Operation::Call {
                 entry,
                 value,
                 deadline,
-            } => self.call(caller, entry, value, deadline),
-            Operation::Procedure { op, value } => self.procedure(caller, op, value),
-            Operation::Function { op, value } => self.function(op, value),
-            Operation::Tick(time) => self.raise_clock(time),
-            Operation::Finalize => self.finalize(),
-            Operation::Cancel(_) | Operation::Show => Ok(None),
-        }
-    }
-
-    /// Carries out the operation, unless a precondition fails. Returns what is told of it at once.
-    fn answer(
-        &mut self,
-        names: &ObjectNames,
-        caller: u16,
-        operation: Operation<Values>,
-    ) -> Result<Option<Event>, AllocError>
-        ensures { OnOk result (self.new.core.object ≡ after_asking ada_meaning value_cells names.now.entries.items self.old.core.object caller operation) }
-    {
-        match failed_precondition(&self.core, names, &operation) {
-            Some(exception) => Ok(Some(Event::Failed(exception))),
-            None => self.carry_out(caller, operation),
+            } => self.call(caller, entry, value, deadline, news),
+            Operation::Procedure { op, value } => self.procedure(caller, op, value, news),
+            Operation::Function { op, value } => self.function(caller, op, value, news),
+            Operation::Tick(time) => self.tick_of(caller, time, news),
+            Operation::Finalize => self.finalize(caller, news),
+            Operation::Cancel(_) | Operation::Show => Ok(()),
         }
     }
 
@@ -245,32 +304,35 @@ impl Object {
         operation: Operation<Values>,
         news: &mut Vec<News>,
     ) -> Result<(), AllocError>
-        ensures { OnOk result (self.new.core.object ≡ after_asking ada_meaning value_cells names.now.entries.items self.old.core.object caller operation) }
+        ensures object { OnOk result (self.new.core.object ≡ after_asking ada_meaning value_cells names.now.entries.items self.old.core.object caller operation) }
+        ensures told { OnOk result (news.new.items ≡ news.old.items ++ asking_news names.now.entries.items self.old.core.object caller operation) }
     {
-        if let Some(event) = self.answer(names, caller, operation)? {
-            news.push(News { caller, event })?;
+        match failed_precondition(&self.core, names, &operation) {
+            Some(exception) => push_event(caller, Event::Failed(exception), news),
+            None => self.carry_out(caller, operation, news),
         }
-        self.collect(news)
     }
 
     /// Raises the clock, unless the object is finalized, and adds what that brings about.
     pub(crate) fn tick(&mut self, time: u64, news: &mut Vec<News>) -> Result<(), AllocError>
         // Whose tick it is changes nothing.
-        ensures { OnOk result (self.new.core.object ≡ after_operation ada_meaning self.old.core.object 0 (Operation.Tick time)) }
+        ensures object { OnOk result (self.new.core.object ≡ after_operation ada_meaning self.old.core.object 0 (Operation.Tick time)) }
+        ensures told { OnOk result (news.new.items ≡ news.old.items ++ tick_news time self.old.core.object) }
     {
-        self.raise_clock(time)?;
-        self.collect(news)
+        self.raise_clock(time, news)?;
+        Ok(())
     }
 
     /// Tries to cancel the call of the caller, if it waits here (9.5.3), and adds what that brings about.
     pub(crate) fn abort(&mut self, caller: u16, news: &mut Vec<News>) -> Result<(), AllocError>
-        ensures { OnOk result (self.new.core.object ≡ after_abort ada_meaning self.old.core.object caller) }
+        ensures object { OnOk result (self.new.core.object ≡ after_abort ada_meaning self.old.core.object caller) }
+        ensures told { OnOk result (news.new.items ≡ news.old.items ++ abort_news caller self.old.core.object) }
     {
         let Some(ticket) = self.core.waiting_ticket_of(caller) else {
             return Ok(());
         };
         match self.core.cancel(ticket) {
-            Ok(_attempt) => self.collect(news),
+            Ok(_attempt) => self.end(news),
             Err(_refusal) => Err(AllocError),
         }
     }

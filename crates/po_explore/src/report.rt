@@ -2,7 +2,7 @@
 //! Writes what was found.
 
 ghost use Rattle.std.specs.Prelude.{◌≡◌, IfOk, true};
-ghost use Rattle.po_explore.specs.Scenes.{verdict_by};
+ghost use Rattle.po_explore.specs.Findings.{verdict_by};
 
 use crate::answer::push_answer_to;
 use crate::ending::{push_ending, push_name};
@@ -133,8 +133,8 @@ fn push_finding(
 ) -> Result<bool, Stop> {
     let order = explored.order_of(alloc, finding)?;
     match confirmed(alloc, scene, order.as_slice(), finding.found)? {
-        Some(walk) => {
-            push_found(alloc, text, scene, finding.found, order.as_slice(), &walk)?;
+        Some((walk, found)) => {
+            push_found(alloc, text, scene, found, order.as_slice(), &walk)?;
             Ok(true)
         }
         None => Ok(false),

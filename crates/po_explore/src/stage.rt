@@ -1,9 +1,10 @@
 // SPDX-License-Identifier: MIT
 //! How far a scene is: its objects, and how many commands each caller has made.
 
-ghost use Rattle.std.specs.Prelude.{◌≡◌, ◌↔◌, ◌⊎◌, ◌+◌, IsTrue, length, map, slice_index, slice_set, slice_get, option_map, IfOk, IfErr, OnOk};
+ghost use Rattle.std.specs.Prelude.{◌≡◌, ◌↔◌, ◌⊎◌, ◌+◌, ◌++◌, IsTrue, length, map, flat_map, slice_index, slice_set, slice_get, option_map, IfOk, IfErr, OnOk};
 ghost use Rattle.po_ada_unit.specs.Object.{ada_meaning};
 ghost use Rattle.po_explore.specs.Commands.{value_cells, after_operation, after_asking, after_abort};
+ghost use Rattle.po_explore.specs.News.{told_at, asking_news, abort_news, tick_news, action_news, step_news};
 ghost use Rattle.po_explore.specs.Scenes.{views_of, stage_of, changed, after_command, acted, next_of as next_command, latest_at, number_in, IsBeginning, CantBegin, IsOver, IsStuck, command_at as the_command, waits as is_waiting};
 
 use crate::news::News;
@@ -175,6 +176,8 @@ impl Stage {
         news: &mut Vec<News>,
     ) -> Result<(), AllocError>
         ensures views { OnOk result (views_of self.new ≡ changed (λ view. after_asking ada_meaning value_cells named.now.names.entries.items view caller operation) position (views_of self.old)) }
+        ensures told { OnOk result (news.new.items ≡ news.old.items
+            ++ told_at (λ view. asking_news named.now.names.entries.items view caller operation) (slice_get (views_of self.old) position)) }
         ensures made { self.new.made ≡ self.old.made }
     {
         match self.objects.get_mut(position) {
@@ -193,6 +196,7 @@ impl Stage {
         news: &mut Vec<News>,
     ) -> Result<(), AllocError>
         ensures views { OnOk result (views_of self.new ≡ acted scene.now.objects.items (views_of self.old) caller (Action.Operate object operation)) }
+        ensures told { OnOk result (news.new.items ≡ news.old.items ++ action_news scene.now.objects.items (views_of self.old) caller (Action.Operate object operation)) }
         ensures made { self.new.made ≡ self.old.made }
     {
         let position = usize::from(object);
@@ -210,6 +214,7 @@ impl Stage {
         news: &mut Vec<News>,
     ) -> Result<(), AllocError>
         ensures views { OnOk result (views_of self.new ≡ changed (λ view. after_abort ada_meaning view caller) position (views_of self.old)) }
+        ensures told { OnOk result (news.new.items ≡ news.old.items ++ told_at (abort_news caller) (slice_get (views_of self.old) position)) }
         ensures made { self.new.made ≡ self.old.made }
     {
         match self.objects.get_mut(position) {
@@ -226,6 +231,7 @@ impl Stage {
         news: &mut Vec<News>,
     ) -> Result<(), AllocError>
         ensures views { OnOk result (views_of self.new ≡ changed (λ view. after_operation ada_meaning view 0 (Operation.Tick time)) position (views_of self.old)) }
+        ensures told { OnOk result (news.new.items ≡ news.old.items ++ told_at (tick_news time) (slice_get (views_of self.old) position)) }
         ensures made { self.new.made ≡ self.old.made }
     {
         match self.objects.get_mut(position) {
@@ -237,6 +243,7 @@ impl Stage {
     /// Tries to cancel the call of a caller, and adds what that brings about.
     fn abort(&mut self, caller: u16, news: &mut Vec<News>) -> Result<(), AllocError>
         ensures views { OnOk result (views_of self.new ≡ map (λ view. after_abort ada_meaning view caller) (views_of self.old)) }
+        ensures told { OnOk result (news.new.items ≡ news.old.items ++ flat_map (abort_news caller) (views_of self.old)) }
         ensures made { self.new.made ≡ self.old.made }
     {
         for position in 0..self.objects.len() {
@@ -249,6 +256,7 @@ impl Stage {
     fn tick(&mut self, time: u64, news: &mut Vec<News>) -> Result<(), AllocError>
         // Whose tick it is changes nothing.
         ensures views { OnOk result (views_of self.new ≡ map (λ view. after_operation ada_meaning view 0 (Operation.Tick time)) (views_of self.old)) }
+        ensures told { OnOk result (news.new.items ≡ news.old.items ++ flat_map (tick_news time) (views_of self.old)) }
         ensures made { self.new.made ≡ self.old.made }
     {
         for position in 0..self.objects.len() {
@@ -266,6 +274,7 @@ impl Stage {
         news: &mut Vec<News>,
     ) -> Result<(), AllocError>
         ensures views { OnOk result (views_of self.new ≡ acted scene.now.objects.items (views_of self.old) caller action) }
+        ensures told { OnOk result (news.new.items ≡ news.old.items ++ action_news scene.now.objects.items (views_of self.old) caller action) }
         ensures made { self.new.made ≡ self.old.made }
     {
         match action {
@@ -284,7 +293,8 @@ impl Stage {
         caller: u16,
         news: &mut Vec<News>,
     ) -> Result<(), AllocError>
-        ensures { OnOk result (stage_of self.new ≡ after_command scene.now (stage_of self.old) caller) }
+        ensures stage { OnOk result (stage_of self.new ≡ after_command scene.now (stage_of self.old) caller) }
+        ensures told { OnOk result (news.new.items ≡ news.old.items ++ step_news scene.now (stage_of self.old) caller) }
     {
         match self.next_of(scene, caller) {
             Some(command) => {

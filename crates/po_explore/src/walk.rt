@@ -1,8 +1,10 @@
 // SPDX-License-Identifier: MIT
 //! A walk through a scene: one order of its callers' commands.
 
-ghost use Rattle.std.specs.Prelude.{◌≡◌, ◌↔◌, ◌⊎◌, IsTrue, IsSome, IfOk, IfErr, IfSome, OnOk};
-ghost use Rattle.po_explore.specs.Scenes.{StageView, stage_of, next_of, after_command, after_order, IsBeginning, CantBegin, Shows, AllShown, LeadsTo};
+ghost use Rattle.std.specs.Prelude.{◌≡◌, ◌↔◌, ◌⊎◌, [], Contains, IsTrue, IsSome, IfOk, IfErr, IfSome, OnOk};
+ghost use Rattle.po_explore.specs.Scenes.{StageView, stage_of, next_of, after_command, after_order, IsBeginning, CantBegin};
+ghost use Rattle.po_explore.specs.News.{step_news, order_news};
+ghost use Rattle.po_explore.specs.Findings.{Shows, AllShown, LeadsTo};
 ghost use Rattle.po_scene.specs.declared.scene.Scene.{Scene};
 
 use crate::finding::{Found, Kind};
@@ -26,6 +28,7 @@ impl Walk {
     /// Fails only if an object can't be made or memory runs out.
     pub fn new(alloc: Global, scene: &Scene) -> Result<Walk, Stop>
         ensures begins { IfOk result (λ walk. IsBeginning scene.now (stage_of walk.stage)) }
+        ensures told { IfOk result (λ walk. walk.news.items ≡ []) }
         ensures fails { IfErr result (λ stop. (stop ≡ Stop.OutOfMemory) ⊎ CantBegin scene.now) }
     {
         Ok(Walk {
@@ -45,7 +48,8 @@ impl Walk {
     ///
     /// Fails only if memory runs out. Nothing is said of the walk then: begin a new one.
     pub fn step(&mut self, scene: &Scene, caller: u16) -> Result<(), AllocError>
-        ensures { OnOk result (stage_of self.new.stage ≡ after_command scene.now (stage_of self.old.stage) caller) }
+        ensures stage { OnOk result (stage_of self.new.stage ≡ after_command scene.now (stage_of self.old.stage) caller) }
+        ensures told { OnOk result (self.new.news.items ≡ step_news scene.now (stage_of self.old.stage) caller) }
     {
         self.news.clear();
         self.stage.step(scene, caller, &mut self.news)
@@ -58,8 +62,8 @@ impl Walk {
 
     /// Adds that callers wait for ever, if they do.
     fn push_stuck(&self, scene: &Scene, list: &mut Vec<Found>) -> Result<(), AllocError>
-        requires { AllShown scene.now (stage_of self.now.stage) list.old.items }
-        ensures { OnOk result (AllShown scene.now (stage_of self.now.stage) list.new.items) }
+        requires { AllShown scene.now (stage_of self.now.stage) self.now.news.items list.old.items }
+        ensures { OnOk result (AllShown scene.now (stage_of self.now.stage) self.now.news.items list.new.items) }
     {
         if self.stage.is_stuck(scene) {
             let kind = Kind::Stuck;
@@ -70,7 +74,7 @@ impl Walk {
 
     /// Returns what is wrong after the last command.
     pub fn found(&self, alloc: Global, scene: &Scene) -> Result<Vec<Found>, AllocError>
-        ensures { IfOk result (λ list. AllShown scene.now (stage_of self.now.stage) list.items) }
+        ensures { IfOk result (λ list. AllShown scene.now (stage_of self.now.stage) self.now.news.items list.items) }
     {
         let mut list = Vec::new(alloc);
         self.push_stuck(scene, &mut list)?;
@@ -81,58 +85,60 @@ impl Walk {
 
     /// Returns the answers to the last command and to those that it ended, with which nothing is wrong.
     pub fn answers(&self, alloc: Global, scene: &Scene) -> Result<Vec<Found>, AllocError>
-        ensures { IfOk result (λ list. AllShown scene.now (stage_of self.now.stage) list.items) }
+        ensures { IfOk result (λ list. AllShown scene.now (stage_of self.now.stage) self.now.news.items list.items) }
     {
         let mut list = Vec::new(alloc);
         answers_in(scene, &self.stage, self.news.as_slice(), &mut list)?;
         Ok(list)
     }
 
-    /// Returns whether this is found after the last command.
-    fn shows(&self, alloc: Global, scene: &Scene, found: Found) -> Result<bool, AllocError>
-        ensures { IfOk result (λ shows. IsTrue shows → Shows scene.now (stage_of self.now.stage) found.kind) }
+    /// Returns what equals this of what is found after the last command.
+    #[tactic(auto, using(crate::proofs::Told::shown_among))]
+    fn shown(&self, alloc: Global, scene: &Scene, found: Found) -> Result<Option<Found>, AllocError>
+        ensures { IfOk result (λ shown. IfSome shown (Shows scene.now (stage_of self.now.stage) self.now.news.items)) }
     {
         let list = if found.kind.answered().is_some() {
             self.answers(alloc, scene)?
         } else {
             self.found(alloc, scene)?
         };
-        Ok(is_among(list.as_slice(), found))
+        Ok(equal_among(list.as_slice(), found))
     }
 }
 
-/// Returns whether this is among what was found.
-fn is_among(list: &[Found], found: Found) -> bool
-    ensures { (scene : Scene) (stage : StageView) → AllShown scene stage list.now → IsTrue result → Shows scene stage found.kind }
+/// Returns what equals this among what was found.
+#[tactic(auto, using(crate::proofs::Told::among))]
+fn equal_among(list: &[Found], found: Found) -> Option<Found>
+    ensures { IfSome result (Contains list.now) }
 {
-    for other in list {
-        if *other == found {
-            return true;
+    for position in 0..list.len() {
+        if list[position] == found {
+            return Some(list[position]);
         }
     }
-    false
+    None
 }
 
-/// Carries out this order anew, on new objects, and returns the walk if what was found is so at its end.
+/// Carries out this order anew, on new objects. Returns the walk, and what was found, if that is so at its end.
 pub(crate) fn confirmed(
     alloc: Global,
     scene: &Scene,
     order: &[u16],
     found: Found,
-) -> Result<Option<Walk>, Stop>
-    ensures { IfOk result (λ walk. IfSome walk (λ w. LeadsTo scene.now order.now found.kind)) }
+) -> Result<Option<(Walk, Found)>, Stop>
+    ensures { IfOk result (λ confirmed. IfSome confirmed (λ c. LeadsTo scene.now order.now c.1)) }
 {
     let walk = replay(alloc, scene, order)?;
-    if walk.shows(alloc, scene, found)? {
-        Ok(Some(walk))
-    } else {
-        Ok(None)
+    match walk.shown(alloc, scene, found)? {
+        Some(found) => Ok(Some((walk, found))),
+        None => Ok(None),
     }
 }
 
 /// Has the callers make their next commands in this order, on new objects.
 fn replay(alloc: Global, scene: &Scene, order: &[u16]) -> Result<Walk, Stop>
-    ensures { IfOk result (λ walk. (first : StageView) × IsBeginning scene.now first × (stage_of walk.stage ≡ after_order scene.now first order.now)) }
+    ensures { IfOk result (λ walk. (first : StageView) × IsBeginning scene.now first × (stage_of walk.stage ≡ after_order scene.now first order.now)
+        × (walk.news.items ≡ order_news scene.now first [] order.now)) }
 {
     let mut walk = Walk::new(alloc, scene)?;
     for caller in order {

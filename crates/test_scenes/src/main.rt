@@ -1,8 +1,9 @@
 // SPDX-License-Identifier: MIT
 //! A program for the gate: it explores scenes that are drawn by lot, and tries all orders of each of them too, one by one. Each is
-//! explored twice: callers with the same commands are told apart, or not. It reads
-//! Ada texts from standard input, each after a line `-- text NAME`; the comments `-- does COMMAND` in a text say what its callers
-//! can do. Its arguments say how many scenes, and what number the lot begins with.
+//! explored twice: callers with the same commands are told apart, or not.
+//!
+//! It reads Ada texts from standard input, each after a line `-- text NAME`; the comments `-- does COMMAND` in a text say what its
+//! callers can do. Its arguments say how many scenes, and what number the lot begins with.
 #![tactic(auto)]
 
 mod drawing;

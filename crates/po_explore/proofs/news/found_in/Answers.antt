@@ -1,5 +1,0 @@
-use Rattle.po_explore.specs.Scenes.{stage_of}
-use Rattle.po_explore.proofs.news.found_in.Goals as goal
-
-pub push_kind-requires-clause-shown : goal.push_kind-requires-clause-shown
-push_kind-requires-clause-shown c = c.kind.ensures c.args.scene.now (stage_of c.args.stage.now)
